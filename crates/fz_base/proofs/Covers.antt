@@ -5,7 +5,7 @@ use Rattle.std.proofs.lemmas.Bool.{true≢false}
 use Rattle.std.proofs.lemmas.Int.{ints}
 use Rattle.std.proofs.lemmas.List.{take_more}
 use Rattle.fz_base.specs.declared.ranges.Range.{Range}
-use Rattle.fz_base.specs.Ranges.{lowest, highest, AreInOrder, CoversOnly, EndUpTo, ReachesTo, is_between, covers}
+use Rattle.fz_base.specs.Ranges.{lowest, highest, AreInOrder, CoversOnly, EndUpTo, is_between, covers}
 
 pub or_assoc : (a b c : Bool) → (a || (b || c)) ≡ ((a || b) || c)
 or_assoc true b c = refl
@@ -151,10 +151,6 @@ module _ (f lo hi : ℤ) (old front new : List Range) (last : Range) (was : old 
   pub apart_covers : new ≡ (front ++ last ∷ []) ++ record { lo = lo; hi = hi } ∷ [] → (x : ℤ) → covers new x ≡ (covers old x || is_between lo hi x)
   apart_covers is x = rw (is, was, covers-append (front ++ last ∷ []) (record { lo = lo; hi = hi } ∷ []) x) (ap (λ b. covers (front ++ last ∷ []) x || b) (or-false (is_between lo hi x)))
 
-pub reaches_less : (x y : ℤ) (rs : List Range) → x ≤ℤ y → ReachesTo y rs → ReachesTo x rs
-reaches_less x y [] h r = tt
-reaches_less x y (q ∷ rs) h r = omega (arith, ints)
-
 -- one range among those in order
 pub in_order_at : (f : ℤ) (rs : List Range) (k : ℕ) (d : Range) → AreInOrder f rs → k < length rs
     → ((get_or rs k d).lo ≤ℤ (get_or rs k d).hi) × (f ≤ℤ (get_or rs k d).lo)
@@ -206,12 +202,11 @@ pub ends_at_last : (f : ℤ) (rs : List Range) (k : ℕ) (d : Range) → AreInOr
     → length rs ≡ k + 1 → EndUpTo (get_or rs k d).hi rs
 ends_at_last f [] k d o e = tt
 ends_at_last f (r ∷ []) zero d o e = (omega (arith, ints), tt)
-ends_at_last f (r ∷ []) (suc k) d o e = absurd (omega arith)
-ends_at_last f (r ∷ (q ∷ rs)) zero d o e = absurd (omega arith)
 ends_at_last f (r ∷ (q ∷ rs)) (suc k) d o e =
     let place : k < length (q ∷ rs) = omega arith in
     let at = in_order_at (r.hi +ℤ pos 2) (q ∷ rs) k d o.3 place in
     (omega (arith, ints), ends_at_last (r.hi +ℤ pos 2) (q ∷ rs) k d o.3 (omega arith))
+ends_at_last f _ _ d o e = absurd (omega arith)
 
 -- both ends of each range are covered
 pub covers_end : (f : ℤ) (rs : List Range) (k : ℕ) (d : Range) → AreInOrder f rs → k < length rs
@@ -263,9 +258,8 @@ only_not_apart f (r ∷ rs) d o few apart n h =
 -- two ranges cover two
 pub only_not_two : (f : ℤ) (rs : List Range) → AreInOrder f rs → 2 ≤ length rs → (n : ℤ)
     → CoversOnly n rs → ⊥
-only_not_two f [] o many n h = absurd (omega arith)
-only_not_two f (r ∷ []) o many n h = absurd (omega arith)
 only_not_two f (r ∷ q ∷ rs) o many n h =
     let low : r.lo ≡ n = (h r.lo).0 (in_first r (q ∷ rs) r.lo (omega (arith, ints)) o.1) in
     let high : q.lo ≡ n = (h q.lo).0 (in_later r (q ∷ rs) q.lo (in_first q rs q.lo (omega (arith, ints)) o.3.1)) in
     absurd (omega (arith, ints))
+only_not_two f _ o many n h = absurd (omega arith)

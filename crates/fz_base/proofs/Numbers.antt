@@ -3,8 +3,8 @@
 use Rattle.std.proofs.Common.{◌≡◌, ℕ, zero, suc, ℤ, pos, negsuc, ◌+ℤ◌, ◌-ℤ◌, ◌≤ℤ◌, ◌<ℤ◌, Bool, true, false, cond, filter, not, ◌&&◌, ◌||◌, List, [], ◌∷◌, ◌++◌, length, refl, sym, ap, ◌∙◌, arith, length-append}
 use Rattle.std.specs.List.{list_any, flat_map, sum_by}
 use Rattle.std.specs.Ordering.{int_cmp, int_eq, is_lt}
-use Rattle.std.specs.Cmp.{int_cmp_total, both_ways}
-use Rattle.std.specs.FinSet.{from_list, contains, difference, is_subset, len, contains-from_list, contains-union, contains-difference, is_subset-contains, len-insert, len-empty, same_set, int_cmp-IsAntisymmetric}
+use Rattle.std.specs.Cmp.{int_cmp_total}
+use Rattle.std.specs.FinSet.{from_list, contains, difference, len, contains-from_list, contains-union, contains-difference, len-insert, len-empty, same_set, int_cmp-IsAntisymmetric}
 use Rattle.std.proofs.lemmas.Int.{ints}
 use Rattle.std.proofs.lemmas.List.{append-nil}
 use Rattle.std.proofs.lemmas.List.Folds.{list_any-append}
@@ -16,9 +16,7 @@ use Rattle.fz_base.proofs.Covers.{in_order_from}
 
 -- the length of a range, as it is computed
 pub size_is : (lo hi : ℤ) (n : ℕ) → pos n ≡ (hi -ℤ lo) +ℤ pos 1 → n ≡ count_between lo hi
-size_is lo hi n e =
-    let same : pos n ≡ (hi +ℤ pos 1) -ℤ lo = omega (arith, ints) in
-    ap at_least_none same
+size_is lo hi n e = grind (arith, ints)
 
 -- from lo to lo is lo alone
 pub between_one : (lo x : ℤ) → is_between lo lo x ≡ int_eq x lo
@@ -77,10 +75,6 @@ contains-numbers_between lo hi x = contains-from_list int_cmp_total _ x ∙ list
 pub same_numbers : (s t : NumberSet) → ((x : ℤ) → contains s x ≡ contains t x) → s ≡ t
 same_numbers s t = same_set int_cmp_total int_cmp-IsAntisymmetric s t
 
--- and two that are subsets of each other
-pub same_by_subsets : (s t : NumberSet) → is_subset s t ≡ true → is_subset t s ≡ true → s ≡ t
-same_by_subsets s t there back = same_numbers s t (λ x. both_ways (contains s x) (contains t x) (is_subset-contains int_cmp_total s t there x) (is_subset-contains int_cmp_total t s back x))
-
 pub contains-symmetric_difference : (s t : NumberSet) (x : ℤ)
     → contains (symmetric_difference s t) x
     ≡ ((contains s x && not (contains t x)) || (contains t x && not (contains s x)))
@@ -132,11 +126,7 @@ Rise-filter p f (k ∷ ks) r =
 
 -- the number after the last of a range
 count_between_end : (lo hi : ℤ) → lo ≤ℤ hi → lo +ℤ pos (count_between lo hi) ≡ hi +ℤ pos 1
-count_between_end lo hi h = at (hi +ℤ pos 1 -ℤ lo) refl
-  where
-    at : (z : ℤ) → hi +ℤ pos 1 -ℤ lo ≡ z → lo +ℤ pos (at_least_none z) ≡ hi +ℤ pos 1
-    at (pos n) e = omega (arith, ints)
-    at (negsuc n) e = absurd (omega (arith, ints))
+count_between_end lo hi h = grind (arith, ints)
 
 Rise-flat_map : (f : ℤ) (rs : List Range) → AreInOrder f rs
     → Rise f (flat_map (λ r. counting_from r.lo (count_between r.lo r.hi)) rs)

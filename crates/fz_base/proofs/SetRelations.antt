@@ -14,7 +14,6 @@ use Rattle.fz_base.specs.declared.kept.Numbers.{Numbers}
 use Rattle.fz_base.specs.declared.kept.Numbers.TheVariants.{Low, Ranges}
 use Rattle.fz_base.specs.Keeping.{has, set_of, AreKept}
 use Rattle.fz_base.specs.Ranges.{lowest, AreInOrder, covers, is_between, keeps}
-use Rattle.fz_base.specs.Storage.{stored}
 use Rattle.fz_base.proofs.Numbers.{contains-numbers_of, contains-numbers_between, contains-symmetric_difference, same_numbers}
 use Rattle.fz_base.proofs.Covers.{covered_fits}
 use Rattle.fz_base.proofs.Unique.{same_ranges}
@@ -22,7 +21,7 @@ use Rattle.fz_base.proofs.Words.{contains-numbers_of_bits, low_fits}
 
 contains-set_of : (n : Numbers) (x : ℤ) → contains (set_of n) x ≡ has n x
 contains-set_of (Low bits) x = contains-numbers_of_bits bits x
-contains-set_of (Ranges storage) x = contains-numbers_of (stored storage.value) x
+contains-set_of (Ranges ranges) x = contains-numbers_of ranges.value.items x
 
 -- numbers that are stored for a set
 pub seen : (n : Numbers) (s : NumberSet) → set_of n ≡ s → (x : ℤ) → has n x ≡ contains s x
@@ -128,4 +127,4 @@ module _ (s : NumberSet) (rs : Numbers) (is : (x : ℤ) → has rs x ≡ contain
 -- numbers that are stored have 64 bits
 pub has_fits : (x : ℤ) (n : Numbers) → AreKept n → has n x ≡ true → FitsSigned w64 x
 has_fits x (Low bits) kept in_it = low_fits bits x in_it
-has_fits x (Ranges storage) kept in_it = covered_fits x (stored storage.value) kept.1 in_it
+has_fits x (Ranges ranges) kept in_it = covered_fits x ranges.value.items kept in_it

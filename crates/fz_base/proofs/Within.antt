@@ -1,22 +1,15 @@
 -- Whether what ranges cover is covered by others, one range after another.
-use Rattle.std.proofs.Common.{◌≡◌, ℤ, pos, ◌+ℤ◌, ◌≤ℤ◌, ◌<ℤ◌, true, false, ◌||◌, List, [], ◌∷◌, length, get_or, drop, ◌<◌, FitsSigned, w64, refl, sym, ap, ◌∙◌, inl, inr, arith}
+use Rattle.std.proofs.Common.{◌≡◌, ℤ, pos, ◌+ℤ◌, ◌≤ℤ◌, true, false, ◌||◌, List, [], ◌∷◌, length, get_or, drop, ◌<◌, FitsSigned, w64, sym, ap, ◌∙◌, inl, inr, arith}
 use Rattle.std.specs.Prelude.{◌↔◌}
 use Rattle.std.proofs.lemmas.Bool.{true≢false}
 use Rattle.std.proofs.lemmas.Int.{ints}
 use Rattle.fz_base.specs.declared.ranges.Range.{Range}
 use Rattle.fz_base.specs.Ranges.{lowest, AreInOrder, LiesIn, ReachesTo, is_between, covers}
-use Rattle.fz_base.proofs.Covers.{apart, between_yes, between_above, covers_below, in_order_at, in_order_from, or-true}
+use Rattle.fz_base.proofs.Covers.{in_first, apart, between_above, covers_below, in_order_at, in_order_from, or-true}
 
 -- ---- the ranges that reach to a number
 
 module _ (at : ℤ) (rs : List Range) (d : Range) (some : 0 < length rs) (order : AreInOrder lowest rs) where
-  pub reaches_first : at ≤ℤ (get_or rs 0 d).hi → ReachesTo at rs
-  reaches_first h = first rs some h
-    where
-      first : (qs : List Range) → 0 < length qs → at ≤ℤ (get_or qs 0 d).hi → ReachesTo at qs
-      first [] s h = tt
-      first (q ∷ qs) s h = h
-
   pub order_past : AreInOrder lowest (drop 1 rs)
   order_past = past rs some order
     where
@@ -25,21 +18,7 @@ module _ (at : ℤ) (rs : List Range) (d : Range) (some : 0 < length rs) (order 
       past [] s o = tt
       past (q ∷ qs) s o = in_order_from (q.hi +ℤ pos 2) lowest qs (omega (arith, ints)) o.3
 
-  pub covers_past : (x : ℤ) → (get_or rs 0 d).hi <ℤ x → covers (drop 1 rs) x ≡ covers rs x
-  covers_past x h = past rs some h
-    where
-      past : (qs : List Range) → 0 < length qs → (get_or qs 0 d).hi <ℤ x
-          → covers (drop 1 qs) x ≡ covers qs x
-      past [] s h = refl
-      past (q ∷ qs) s h = sym (ap (λ b. b || covers qs x) (between_above q.lo q.hi x h))
-
 -- ---- one range in others
-
-pub all_in_first : (rs : List Range) (d : Range) (lo hi : ℤ) → 0 < length rs
-    → (get_or rs 0 d).lo ≤ℤ lo → hi ≤ℤ (get_or rs 0 d).hi → (x : ℤ) → lo ≤ℤ x → x ≤ℤ hi
-    → covers rs x ≡ true
-all_in_first [] d lo hi some low high x h k = absurd (omega arith)
-all_in_first (r ∷ rs) d lo hi some low high x h k = ap (λ b. b || covers rs x) (between_yes r.lo r.hi x (omega (arith, ints)) (omega (arith, ints)))
 
 -- a number before the first range is in none, and so is the one behind it
 pub not_all : (rs : List Range) (d : Range) (lo hi : ℤ) → 0 < length rs → AreInOrder lowest rs
@@ -58,17 +37,7 @@ not_all (r ∷ rs) d lo hi some order ahead le not_both all =
       ]
     ]
 
-pub none_not_all : (rs : List Range) (lo hi : ℤ) → length rs < 1 → lo ≤ℤ hi
-    → ((x : ℤ) → lo ≤ℤ x → x ≤ℤ hi → covers rs x ≡ true) → ⊥
-none_not_all [] lo hi few le all = true≢false (sym (all lo (omega (arith, ints)) le))
-none_not_all (r ∷ rs) lo hi few le all = absurd (omega arith)
-
 -- ---- one range after another
-
-pub some_numbers : (rs : List Range) (d : Range) → 0 < length rs → AreInOrder lowest rs
-    → (get_or rs 0 d).lo ≤ℤ (get_or rs 0 d).hi
-some_numbers [] d some order = absurd (omega arith)
-some_numbers (r ∷ rs) d some order = order.1
 
 pub first_low_fits : (rs : List Range) (d : Range) → 0 < length rs → AreInOrder lowest rs
     → FitsSigned w64 (get_or rs 0 d).lo
@@ -82,15 +51,7 @@ first_high_fits rs d some order =
     let (le, low, high) = in_order_at lowest rs 0 d order some in
     omega (arith, ints)
 
-pub none_lies_in : (rs ss : List Range) → length rs < 1 → LiesIn rs ss
-none_lies_in [] ss few x h = absurd (true≢false (sym h))
-none_lies_in (r ∷ rs) ss few x h = absurd (omega arith)
-
 module _ (ss left : List Range) where
-  first_covered : (r : Range) (rs : List Range) (x : ℤ) → r.lo ≤ℤ x → x ≤ℤ r.hi
-      → covers (r ∷ rs) x ≡ true
-  first_covered r rs x h k = ap (λ b. b || covers rs x) (between_yes r.lo r.hi x h k)
-
   -- what is covered begins at the first range
   begins : (r : Range) (rs : List Range) (x : ℤ) → AreInOrder lowest (r ∷ rs)
       → covers (r ∷ rs) x ≡ true → r.lo ≤ℤ x
@@ -117,4 +78,4 @@ module _ (ss left : List Range) where
       → ((x : ℤ) → (get_or rs 0 d).lo ≤ℤ x → covers left x ≡ covers ss x)
       → (((x : ℤ) → (get_or rs 0 d).lo ≤ℤ x → x ≤ℤ (get_or rs 0 d).hi → covers left x ≡ true) → ⊥) → LiesIn rs ss → ⊥
   lies_not_in [] d some alike missing whole = absurd (omega arith)
-  lies_not_in (r ∷ rs) d some alike missing whole = missing (λ x h k. alike x h ∙ whole x (first_covered r rs x h k))
+  lies_not_in (r ∷ rs) d some alike missing whole = missing (λ x h k. alike x h ∙ whole x (in_first r rs x h k))

@@ -1,11 +1,11 @@
 -- The bits of a word as a set of numbers.
-use Rattle.std.proofs.Common.{◌≡◌, ◌<◌, ◌^◌, ◌+◌, ◌-◌, ◌*◌, ◌/◌, ◌%◌, ℕ, zero, suc, min, max, ℤ, pos, negsuc, ◌≤ℤ◌, ◌<ℤ◌, ◌-ℤ◌, nat_abs, Bool, true, false, not, ◌&&◌, ◌||◌, ◌==◌, ◌↔◌, ltb, List, ◌∷◌, cond, filter, length, refl, sym, ap, ◌∙◌, inl, inr, arith, bit_and, bit_or, bit_xor, count_ones, FitsSigned, w64, pow-suc}
+use Rattle.std.proofs.Common.{◌≡◌, ◌<◌, ◌^◌, ◌+◌, ◌-◌, ◌*◌, ◌/◌, ◌%◌, ℕ, zero, suc, min, max, ℤ, pos, negsuc, ◌≤ℤ◌, ◌-ℤ◌, nat_abs, Bool, true, false, not, ◌&&◌, ◌||◌, ◌==◌, ◌↔◌, ltb, List, ◌∷◌, cond, filter, length, refl, sym, ap, ◌∙◌, inl, inr, arith, bit_and, bit_or, bit_xor, count_ones, FitsSigned, w64, pow-suc}
 use Rattle.std.specs.Int.{bit_at}
 use Rattle.std.specs.Ordering.{int_eq}
 use Rattle.std.specs.Cmp.{int_cmp_total, both_ways}
 use Rattle.std.specs.FinSet.{contains, contains-from_list, len}
-use Rattle.std.proofs.lemmas.Bool.{true≢false, ltb-true, lt-ltb, cases_lt, cases_eq}
-use Rattle.std.proofs.lemmas.Bool.Decides.{Decides-int_eq}
+use Rattle.std.proofs.lemmas.Bool.{true≢false, ltb-true, lt-ltb, cases_lt, cases_eq, and_parts}
+use Rattle.std.proofs.lemmas.Bool.Decides.{Decides-int_eq, nat_tests}
 use Rattle.std.proofs.lemmas.Int.{ints}
 use Rattle.std.specs.Int.{int_max, int_min}
 use Rattle.std.proofs.lemmas.Nat.{one_shl, shr-shr, and_le_l, pow_below}
@@ -21,67 +21,39 @@ use Rattle.fz_base.proofs.Numbers.{list_any-counting_from, len-from_list, Rise-f
 -- ---- one bit of what is made of two words
 
 or_bit : (p q : ℕ) → p < 2 → q < 2 → (max p q == 1) ≡ ((p == 1) || (q == 1))
-or_bit zero zero h k = refl
-or_bit zero (suc zero) h k = refl
-or_bit (suc zero) zero h k = refl
-or_bit (suc zero) (suc zero) h k = refl
-or_bit (suc (suc p)) q h k = absurd (omega arith)
-or_bit p (suc (suc q)) h k = absurd (omega arith)
+or_bit p q h k = grind (arith, nat_tests)
 
 and_bit : (p q : ℕ) → p < 2 → q < 2 → (min p q == 1) ≡ ((p == 1) && (q == 1))
-and_bit zero zero h k = refl
-and_bit zero (suc zero) h k = refl
-and_bit (suc zero) zero h k = refl
-and_bit (suc zero) (suc zero) h k = refl
-and_bit (suc (suc p)) q h k = absurd (omega arith)
-and_bit p (suc (suc q)) h k = absurd (omega arith)
+and_bit p q h k = grind (arith, nat_tests)
 
 minus_bit : (p q : ℕ) → p < 2 → q < 2 → (min p (1 - q) == 1) ≡ ((p == 1) && not (q == 1))
-minus_bit zero zero h k = refl
-minus_bit zero (suc zero) h k = refl
-minus_bit (suc zero) zero h k = refl
-minus_bit (suc zero) (suc zero) h k = refl
-minus_bit (suc (suc p)) q h k = absurd (omega arith)
-minus_bit p (suc (suc q)) h k = absurd (omega arith)
+minus_bit p q h k = grind (arith, nat_tests)
 
 xor_bit : (p q : ℕ) → p < 2 → q < 2
     → ((p + q) % 2 == 1) ≡ (((p == 1) && not (q == 1)) || ((q == 1) && not (p == 1)))
-xor_bit zero zero h k = refl
-xor_bit zero (suc zero) h k = refl
-xor_bit (suc zero) zero h k = refl
-xor_bit (suc zero) (suc zero) h k = refl
-xor_bit (suc (suc p)) q h k = absurd (omega arith)
-xor_bit p (suc (suc q)) h k = absurd (omega arith)
+xor_bit p q h k = grind (arith, nat_tests)
 
 same_bit : (p q : ℕ) → p < 2 → q < 2 → (p == 1) ≡ (q == 1) → p ≡ q
-same_bit zero zero h k e = refl
-same_bit zero (suc zero) h k e = absurd (true≢false (sym e))
-same_bit (suc zero) zero h k e = absurd (true≢false e)
-same_bit (suc zero) (suc zero) h k e = refl
-same_bit (suc (suc p)) q h k e = absurd (omega arith)
-same_bit p (suc (suc q)) h k e = absurd (omega arith)
+same_bit p q h k e = grind (arith, nat_tests)
 
 -- ---- the result of an operation on two words
 
 under : (b p q r : Bool) → (b ≡ true → r ≡ (p || q)) → (b && r) ≡ ((b && p) || (b && q))
-under true p q r h = h refl
-under false p q r h = refl
+under b p q r h = grind (arith, nat_tests)
 
 pub has_or : (a b : ℕ) (x : ℤ) → has_bit (bit_or a b) x ≡ (has_bit a x || has_bit b x)
 has_or a b (pos n) = under (ltb n 64) (bit_at a n == 1) (bit_at b n == 1) (bit_at (bit_or a b) n == 1) (λ _. ap (λ d. d == 1) (bit_at_or a b n) ∙ or_bit (bit_at a n) (bit_at b n) (bit_at-lt a n) (bit_at-lt b n))
 has_or a b (negsuc n) = refl
 
 both : (b p q r : Bool) → (b ≡ true → r ≡ (p && q)) → (b && r) ≡ ((b && p) && (b && q))
-both true p q r h = h refl
-both false p q r h = refl
+both b p q r h = grind (arith, nat_tests)
 
 pub has_and : (a b : ℕ) (x : ℤ) → has_bit (bit_and a b) x ≡ (has_bit a x && has_bit b x)
 has_and a b (pos n) = both (ltb n 64) (bit_at a n == 1) (bit_at b n == 1) (bit_at (bit_and a b) n == 1) (λ _. ap (λ d. d == 1) (bit_at_and a b n) ∙ and_bit (bit_at a n) (bit_at b n) (bit_at-lt a n) (bit_at-lt b n))
 has_and a b (negsuc n) = refl
 
 without : (b p q r : Bool) → (b ≡ true → r ≡ (p && not q)) → (b && r) ≡ ((b && p) && not (b && q))
-without true p q r h = h refl
-without false p q r h = refl
+without b p q r h = grind (arith, nat_tests)
 
 pub has_minus : (a b : ℕ) (x : ℤ) → b < 2 ^ 64
     → has_bit (bit_and a (18446744073709551615 - b)) x ≡ (has_bit a x && not (has_bit b x))
@@ -93,13 +65,14 @@ has_minus a b (negsuc n) h = refl
 
 either : (b p q r : Bool) → (b ≡ true → r ≡ ((p && not q) || (q && not p)))
     → (b && r) ≡ (((b && p) && not (b && q)) || ((b && q) && not (b && p)))
-either true p q r h = h refl
-either false p q r h = refl
+either b p q r h = grind (arith, nat_tests)
 
 pub has_xor : (a b : ℕ) (x : ℤ) → has_bit (bit_xor a b) x
     ≡ ((has_bit a x && not (has_bit b x)) || (has_bit b x && not (has_bit a x)))
 has_xor a b (pos n) = either (ltb n 64) (bit_at a n == 1) (bit_at b n == 1) (bit_at (bit_xor a b) n == 1) (λ _. ap (λ d. d == 1) (bit_at_xor a b n) ∙ xor_bit (bit_at a n) (bit_at b n) (bit_at-lt a n) (bit_at-lt b n))
 has_xor a b (negsuc n) = refl
+
+pub ruleset operations = (has_or, has_and, has_minus, has_xor)
 
 -- ---- words with the same numbers
 
@@ -117,14 +90,10 @@ has_none (negsuc n) = refl
 
 -- what is in the one and not in the other is nothing
 nothing_over : (p q : Bool) → (p && not q) ≡ false → p ≡ true → q ≡ true
-nothing_over true true e t = refl
-nothing_over true false e t = absurd (true≢false e)
-nothing_over false q e t = absurd (true≢false (sym t))
+nothing_over p q e t = grind (arith, nat_tests)
 
 all_under : (p q : Bool) → (p ≡ true → q ≡ true) → (p && not q) ≡ false
-all_under true true h = refl
-all_under true false h = absurd (true≢false (sym (h refl)))
-all_under false q h = refl
+all_under p q h = grind (arith, nat_tests)
 
 pub covered_words : (a b : ℕ) → b < 2 ^ 64 → bit_and a (18446744073709551615 - b) ≡ 0 → (x : ℤ)
     → has_bit a x ≡ true → has_bit b x ≡ true
@@ -190,14 +159,7 @@ has_from k (negsuc n) h = let outside : is_between (pos k) (pos 63) (negsuc n) �
 -- ---- the set of a word
 
 has_low : (bits : ℕ) (x : ℤ) → (is_between (pos 0) (pos 63) x && has_bit bits x) ≡ has_bit bits x
-has_low bits (pos n) =
-    elim (cases_lt n 64) [
-      | inl low ↦ let within : is_between (pos 0) (pos 63) (pos n) ≡ true = grind (arith, ints) in ap (λ b. b && has_bit bits (pos n)) within
-      | inr high ↦
-          let none : has_bit bits (pos n) ≡ false = (elim (ltb n 64) as (λ b. ltb n 64 ≡ b → (b && (bit_at bits n == 1)) ≡ false) [ true ↦ λ t. let bad : n < 64 = ltb-true n 64 t in absurd (omega arith) | false ↦ λ _. refl ]) refl in
-          ap (λ b. is_between (pos 0) (pos 63) (pos n) && b) none ∙ and-false (is_between (pos 0) (pos 63) (pos n)) ∙ sym none
-    ]
-has_low bits (negsuc n) = and-false (is_between (pos 0) (pos 63) (negsuc n))
+has_low bits x = grind (arith, ints)
 
 pub contains-numbers_of_bits : (bits : ℕ) (x : ℤ)
     → contains (numbers_of_bits bits) x ≡ has_bit bits x
@@ -235,12 +197,7 @@ len-numbers_of_bits bits h =
     sym (len-from_list (pos 0) _ (Rise-filter (has_bit bits) (pos 0) (counting_from (pos 0) 64) (Rise-counting_from (pos 0) 64)) ∙ counted_bits bits 0 64 (omega arith) refl ∙ ap count_ones whole)
 
 pub low_fits : (bits : ℕ) (x : ℤ) → has_bit bits x ≡ true → FitsSigned w64 x
-low_fits bits (pos n) h = let low : n < 64 = ltb-true n 64 (first (ltb n 64) (bit_at bits n == 1) h) in omega (arith, ints)
-  where
-    first : (a b : Bool) → (a && b) ≡ true → a ≡ true
-    first true b e = refl
-    first false b e = absurd (true≢false (sym e))
-low_fits bits (negsuc n) h = absurd (true≢false (sym h))
+low_fits bits x h = grind (arith, ints)
 
 -- ---- the numbers between two, as they are made
 
@@ -249,8 +206,6 @@ abs_of z n e = ap nat_abs e
 
 pub has_cut : (first last x : ℤ) → pos 0 ≤ℤ first → last ≤ℤ pos 63 → first ≤ℤ last
     → has_bit (bit_and (18446744073709551615 / 2 ^ nat_abs (pos 63 -ℤ last)) (18446744073709551615 * 2 ^ nat_abs first % 18446744073709551616)) x ≡ is_between first last x
-has_cut (negsuc f) last x low high some = absurd (omega (arith, ints))
-has_cut (pos f) (negsuc l) x low high some = absurd (omega (arith, ints))
 has_cut (pos f) (pos l) x low high some =
     let rest : nat_abs (pos 63 -ℤ pos l) ≡ 63 - l = abs_of (pos 63 -ℤ pos l) (63 - l) (omega (arith, ints)) in
     let width : 64 - (63 - l) ≡ l + 1 = omega (arith, ints) in
@@ -261,14 +216,11 @@ has_cut (pos f) (pos l) x low high some =
     ∙ has_and (2 ^ (l + 1) - 1) (2 ^ 64 - 2 ^ f) x
     ∙ (λ i. has_up_to l x (omega (arith, ints)) i && has_from f x (omega (arith, ints)) i)
     ∙ both_ends
+has_cut _ last x low high some = absurd (omega (arith, ints))
 
 pub between_cut : (lo hi x : ℤ) → is_between (int_max lo (pos 0)) (int_min hi (pos 63)) x
     ≡ (is_between (pos 0) (pos 63) x && is_between lo hi x)
 between_cut lo hi x = grind (arith, ints)
-
-pub cut_empty : (lo hi x : ℤ) → int_min hi (pos 63) <ℤ int_max lo (pos 0)
-    → false ≡ (is_between (pos 0) (pos 63) x && is_between lo hi x)
-cut_empty lo hi x h = grind (arith, ints)
 
 pub has_with_number : (bits : ℕ) (z x : ℤ) → pos 0 ≤ℤ z → z ≤ℤ pos 63
     → has_bit (bit_or bits (1 * 2 ^ nat_abs z % 18446744073709551616)) x
@@ -303,14 +255,10 @@ pub within_cut : (bits cut : ℕ) (lo hi : ℤ)
     → ((x : ℤ) → has_bit cut x ≡ (is_between (pos 0) (pos 63) x && is_between lo hi x)) → (r : Bool)
     → (r ≡ true ↔ ((x : ℤ) → has_bit bits x ≡ true → has_bit cut x ≡ true)) → (r ≡ true ↔ ((x : ℤ) → has_bit bits x ≡ true → (lo ≤ℤ x) × (x ≤ℤ hi)))
 within_cut bits cut lo hi is r h = (
-  λ e x in_it. ends x (second (is_between (pos 0) (pos 63) x) (is_between lo hi x) (sym (is x) ∙ h.0 e x in_it)),
+  λ e x in_it. ends x (and_parts (is_between (pos 0) (pos 63) x) (is_between lo hi x) (sym (is x) ∙ h.0 e x in_it)).1,
   λ all. h.1 (λ x in_it. is x ∙ (λ i. low x in_it i && between_yes lo hi x (all x in_it).0 (all x in_it).1 i)),
 )
   where
-    second : (a b : Bool) → (a && b) ≡ true → b ≡ true
-    second true b e = e
-    second false b e = absurd (true≢false (sym e))
-
     ends : (x : ℤ) → is_between lo hi x ≡ true → (lo ≤ℤ x) × (x ≤ℤ hi)
     ends x e = (grind (arith, ints), grind (arith, ints))
 
@@ -328,23 +276,8 @@ has_less rest t x h =
     ∙ has_minus rest (2 ^ t) x (pow_below t 64 h)
     ∙ ap (λ b. has_bit rest x && not b) (has_one t x h)
 
-no_rest : (b : Bool) → false ≡ (b && not b)
-no_rest true = refl
-no_rest false = refl
-
-pub nothing_spread : (bits : ℕ) (x : ℤ) → false ≡ (has_bit bits x && not (has_bit bits x))
-nothing_spread bits x = no_rest (has_bit bits x)
-
-pub all_spread : (bits : ℕ) (x : ℤ) → (has_bit bits x && not (has_bit 0 x)) ≡ has_bit bits x
-all_spread bits x = ap (λ b. has_bit bits x && not b) (has_none x) ∙ and-true (has_bit bits x)
-
 one_moved : (b r e : Bool) → (e ≡ true → b ≡ true) → ((b && not r) || e) ≡ (b && not (r && not e))
-one_moved true true true h = refl
-one_moved true true false h = refl
-one_moved true false true h = refl
-one_moved true false false h = refl
-one_moved false r true h = absurd (true≢false (sym (h refl)))
-one_moved false r false h = refl
+one_moved b r e h = grind (arith, nat_tests)
 
 module _ (bits rest t : ℕ) (small : t < 64) (set : bit_at rest t ≡ 1) (first : (i : ℕ) → i < t → bit_at rest i ≡ 0) (part : (x : ℤ) → has_bit rest x ≡ true → has_bit bits x ≡ true) where
   pub in_rest : has_bit rest (pos t) ≡ true
@@ -357,21 +290,17 @@ module _ (bits rest t : ℕ) (small : t < 64) (set : bit_at rest t ≡ 1) (first
       one_moved (has_bit bits x) (has_bit rest x) (int_eq x (pos t)) (λ e. let same : x ≡ pos t = (Decides-int_eq x (pos t)).0 e in ap (has_bit bits) same ∙ part (pos t) in_rest)
       ∙ ap (λ b. has_bit bits x && not b) (sym (has_less rest t x small))
 
-  both_hold : (p q : Bool) → (p && q) ≡ true → (p ≡ true) × (q ≡ true)
-  both_hold true q e = (refl, e)
-  both_hold false q e = absurd (true≢false (sym e))
-
   pub part_less : (x : ℤ) → has_bit (bit_and rest
       (18446744073709551615 - 1 * 2 ^ t % 18446744073709551616)) x ≡ true → has_bit bits x ≡ true
-  part_less x e = part x (both_hold (has_bit rest x) (not (int_eq x (pos t))) (sym (has_less rest t x small) ∙ e)).0
+  part_less x e = part x (and_parts (has_bit rest x) (not (int_eq x (pos t))) (sym (has_less rest t x small) ∙ e)).0
 
   -- what is left lies above
   pub above_lowest : (k : ℕ) → has_bit (bit_and rest
       (18446744073709551615 - 1 * 2 ^ t % 18446744073709551616)) (pos k) ≡ true → t < k
   above_lowest k e =
-      let parts = both_hold (has_bit rest (pos k)) (not (int_eq (pos k) (pos t))) (sym (has_less rest t (pos k) small) ∙ e) in
+      let parts = and_parts (has_bit rest (pos k)) (not (int_eq (pos k) (pos t))) (sym (has_less rest t (pos k) small) ∙ e) in
       elim (cases_lt k t) [
-        | inl low ↦ absurd (true≢false (sym (both_hold (ltb k 64) (bit_at rest k == 1) parts.0).1 ∙ ap (λ d. d == 1) (first k low)))
+        | inl low ↦ absurd (true≢false (sym (and_parts (ltb k 64) (bit_at rest k == 1) parts.0).1 ∙ ap (λ d. d == 1) (first k low)))
         | inr from ↦ elim (cases_lt t k) [
           | inl above ↦ above
           | inr up ↦ let same : k ≡ t = omega arith in absurd (true≢false (sym parts.1 ∙ ap not (ap (λ (n : ℕ). int_eq (pos n) (pos t)) same ∙ same_number t)))

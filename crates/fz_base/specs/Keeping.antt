@@ -9,23 +9,21 @@ use Rattle.fz_base.specs.declared.kept.Held.TheVariants as held
 use Rattle.fz_base.specs.Bits.{has_bit, numbers_of_bits}
 use Rattle.fz_base.specs.Ranges.{lowest, numbers_of, AreInOrder, covers}
 use Rattle.fz_base.specs.Sets.{NumberSet}
-use Rattle.fz_base.specs.Storage.{stored, HasPlaces}
 
 -- the number is one of those stored
 abbrev pub has : Numbers → ℤ → Bool
 has (numbers.Low bits) x = has_bit bits x
-has (numbers.Ranges storage) x = covers (stored storage.value) x
+has (numbers.Ranges ranges) x = covers ranges.value.items x
 
 -- the set of all the numbers stored
 abbrev pub set_of : Numbers → NumberSet
 set_of (numbers.Low bits) = numbers_of_bits bits
-set_of (numbers.Ranges storage) = numbers_of (stored storage.value)
+set_of (numbers.Ranges ranges) = numbers_of ranges.value.items
 
 -- ranges are stored in order
 abbrev pub AreKept : Numbers → Type 0
 AreKept (numbers.Low bits) = Unit {0}
-AreKept (numbers.Ranges storage) =
-    HasPlaces storage.value × AreInOrder lowest (stored storage.value)
+AreKept (numbers.Ranges ranges) = AreInOrder lowest ranges.value.items
 
 -- the ranges of numbers
 abbrev pub held_ranges : Held → List Range

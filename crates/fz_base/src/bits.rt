@@ -75,6 +75,7 @@ pub fn between(lo: i64, hi: i64) -> Option<u64>
 }
 
 /// The numbers that ranges cover, or none where one of them is not from 0 to 63.
+#[tactic(auto, using(crate::proofs::Covers::covers_more))]
 pub fn of_ranges(ranges: &[Range]) -> Option<u64>
     ensures { IfSome result (λ b. (x : ℤ) → has_bit b x ≡ covers ranges.now x) }
 {
@@ -111,6 +112,7 @@ pub fn only(bits: u64) -> Option<i64>
 
 /// Whether each number of the first set is in the second.
 #[inline(always)]
+#[tactic(auto, using(crate::proofs::Words::covered_words, crate::proofs::Words::words_covered))]
 pub fn are_covered(a: u64, b: u64) -> bool
     ensures { IsTrue result ↔ ((x : ℤ) → has_bit a x ≡ true → has_bit b x ≡ true) }
 {
@@ -119,6 +121,7 @@ pub fn are_covered(a: u64, b: u64) -> bool
 
 /// Whether both have the same numbers.
 #[inline(always)]
+#[tactic(auto, using(crate::proofs::Words::same_words))]
 pub fn are_same(a: u64, b: u64) -> bool
     ensures { IsTrue result ↔ ((x : ℤ) → has_bit a x ≡ has_bit b x) }
 {
@@ -127,6 +130,7 @@ pub fn are_same(a: u64, b: u64) -> bool
 
 /// Whether all the numbers are from `lo` to `hi`.
 #[inline(always)]
+#[tactic(auto, using(crate::proofs::Words::within_cut))]
 pub fn lie_within(bits: u64, lo: i64, hi: i64) -> bool
     ensures { IsTrue result ↔ ((x : ℤ) → has_bit bits x ≡ true → (lo ≤ℤ x) × (x ≤ℤ hi)) }
 {
@@ -135,6 +139,7 @@ pub fn lie_within(bits: u64, lo: i64, hi: i64) -> bool
 
 /// The result of the set operation on two sets.
 #[inline(always)]
+#[tactic(auto, using(crate::proofs::Words::operations))]
 pub fn combine(a: u64, b: u64, rule: Rule) -> u64
     ensures { (x : ℤ) → has_bit result x ≡ keeps rule (has_bit a x) (has_bit b x) }
 {

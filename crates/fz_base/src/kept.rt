@@ -10,7 +10,6 @@ ghost use Rattle.fz_base.specs.Ranges.{lowest, AreInOrder, covers, is_between, k
 
 use crate::bits::{self, PLACES};
 use crate::ranges::{self, Range, Rule};
-use crate::storage::{self, Storage};
 use arrayvec::ArrayVec;
 use std::alloc::{AllocError, Global};
 
@@ -18,7 +17,7 @@ use std::alloc::{AllocError, Global};
 #[derive(Debug, Drop)]
 pub enum Numbers {
     Low(u64),
-    Ranges(Box<Storage>),
+    Ranges(Box<Vec<Range>>),
 }
 
 /// The ranges of numbers: those of a word, listed in an array, or those that are stored.
@@ -45,7 +44,7 @@ fn boxed(alloc: Global, ranges: Vec<Range>) -> Result<Numbers, AllocError>
     ensures kept { IfOk result AreKept }
     ensures same { IfOk result (λ n. (x : ℤ) → has n x ≡ covers ranges.items x) }
 {
-    Ok(Numbers::Ranges(Box::new(alloc, storage::store(ranges))?))
+    Ok(Numbers::Ranges(Box::new(alloc, ranges)?))
 }
 
 /// The numbers that ranges in order cover, as a word where all are from 0 to 63.
@@ -83,6 +82,7 @@ pub fn listed(alloc: Global, numbers: &[i64]) -> Result<Numbers, AllocError>
 }
 
 /// The listed numbers, which are sorted once.
+#[tactic(auto, using(crate::proofs::SetRelations::sorted_listed))]
 fn sorted(alloc: Global, numbers: &[i64]) -> Result<Numbers, AllocError>
     ensures kept { IfOk result AreKept }
     ensures same { IfOk result (λ n. (x : ℤ) → has n x ≡ list_any (int_eq x) numbers.now) }
@@ -102,7 +102,7 @@ impl Numbers {
     {
         match self {
             Numbers::Low(bits) => Held::Spread(bits::spread(*bits)),
-            Numbers::Ranges(storage) => Held::Kept(storage.ranges()),
+            Numbers::Ranges(ranges) => Held::Kept(ranges),
         }
     }
 
@@ -124,7 +124,7 @@ impl Numbers {
     {
         match self {
             Numbers::Low(bits) => bits::has(*bits, number),
-            Numbers::Ranges(storage) => ranges::is_covered(storage.ranges(), number),
+            Numbers::Ranges(own) => ranges::is_covered(own, number),
         }
     }
 
@@ -137,7 +137,7 @@ impl Numbers {
     {
         match self {
             Numbers::Low(bits) => u128::from(bits::count(*bits)),
-            Numbers::Ranges(storage) => ranges::count(storage.ranges()),
+            Numbers::Ranges(own) => ranges::count(own),
         }
     }
 
@@ -150,7 +150,7 @@ impl Numbers {
     {
         match self {
             Numbers::Low(bits) => bits::only(*bits),
-            Numbers::Ranges(storage) => ranges::only(storage.ranges()),
+            Numbers::Ranges(own) => ranges::only(own),
         }
     }
 
@@ -208,7 +208,7 @@ impl Numbers {
     {
         match self {
             Numbers::Low(bits) => bits::lie_within(*bits, lo, hi),
-            Numbers::Ranges(storage) => ranges::lie_within(storage.ranges(), lo, hi),
+            Numbers::Ranges(own) => ranges::lie_within(own, lo, hi),
         }
     }
 
@@ -287,8 +287,9 @@ impl Numbers {
     {
         match self {
             Numbers::Low(bits) => Ok(Numbers::Low(*bits)),
-            Numbers::Ranges(storage) => {
-                Ok(Numbers::Ranges(Box::new(alloc, storage.copy(alloc)?)?))
+            Numbers::Ranges(ranges) => {
+                let copy = Vec::from_slice(alloc, ranges)?;
+                Ok(Numbers::Ranges(Box::new(alloc, copy)?))
             }
         }
     }

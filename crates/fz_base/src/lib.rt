@@ -13,7 +13,6 @@ mod kept;
 mod ranges;
 mod sets;
 mod span;
-mod storage;
 mod value;
 
 pub use ranges::Range;

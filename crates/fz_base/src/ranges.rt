@@ -150,6 +150,7 @@ pub fn between(alloc: Global, lo: i64, hi: i64) -> Result<Vec<Range>, AllocError
 }
 
 /// Adds the numbers from `lo` to `hi` at the end of the ranges, if they are wanted.
+#[tactic(auto, using(crate::proofs::Covers::ends_further, std::proofs::lemmas::Int::ints))]
 fn push_if(ranges: &mut Vec<Range>, lo: i64, hi: i64, wanted: bool) -> Result<(), AllocError>
     requires in_order { AreInOrder lowest ranges.old.items }
     requires below { EndUpTo (lo -ℤ pos 1) ranges.old.items }
@@ -375,6 +376,7 @@ pub fn is_covered(ranges: &[Range], number: i64) -> bool
 }
 
 /// How many numbers a range has.
+#[tactic(auto, using(crate::proofs::Numbers::size_is, std::proofs::lemmas::Int::ints))]
 fn size(range: Range) -> u128
     requires { range.lo ≤ℤ range.hi }
     ensures exact { result ≡ count_between range.lo range.hi }

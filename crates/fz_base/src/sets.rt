@@ -78,6 +78,7 @@ impl IntSet {
 
     /// The listed numbers, which come in any order and may repeat. Unless all are from 0 to 63 they
     /// are sorted, once.
+    #[tactic(auto, using(crate::proofs::SetRelations::listed_made))]
     pub fn list(alloc: Global, numbers: &[i64]) -> Result<IntSet, SetError>
         ensures { IfOk result (λ s. s ≡ set.from_list numbers.now) }
     {
@@ -91,6 +92,7 @@ impl IntSet {
 impl IntSet {
     /// Whether the number is in the set.
     #[inline]
+    #[tactic(auto, using(crate::proofs::SetRelations::seen))]
     pub fn contains(&self, number: i64) -> bool
         ensures { result ≡ set.contains self.now number }
     {

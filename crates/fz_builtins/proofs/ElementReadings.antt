@@ -1,9 +1,9 @@
 -- What the elements of an argument are read as.
 use Rattle.std.proofs.Common.{◌≡◌, ℕ, List}
-use Rattle.fz_meaning.specs.Meaning.{Argument, Partial}
-use Rattle.fz_globals.specs.of_view.Given.{ints_of, bools_of, sets_of, ints_at, bools_at, sets_at, slots_at}
-use Rattle.fz_globals.specs.of_view.Views.{ints, bools, sets, slots_of, under}
-use Rattle.fz_globals.specs.of_view.declared.elements.Elements.{Elements}
+use Rattle.fz_globals.specs.of_meaning.Meaning.{Argument, Partial}
+use Rattle.fz_globals.specs.of_kernel.Given.{ints_of, bools_of, sets_of, ints_at, bools_at, sets_at, slots_at}
+use Rattle.fz_globals.specs.of_kernel.Views.{ints, bools, sets, slots_of, under}
+use Rattle.fz_globals.specs.of_kernel.declared.elements.Elements.{Elements}
 
 module _ (e : Elements) (K : Partial) (xs : List Argument) (j : ℕ) (slots : slots_of e ≡ slots_at xs j) (is : under e ≡ K) where
   pub ints_are : ints e ≡ ints_at K xs j

@@ -1,4 +1,6 @@
 pub mod Readings
 pub mod Outcomes
-pub use Rattle.fz_globals.specs.of_view
+pub mod Said
+pub use Rattle.fz_globals.specs.of_kernel
 pub use Rattle.fz_globals.specs.of_data
+pub use Rattle.fz_globals.specs.of_meaning

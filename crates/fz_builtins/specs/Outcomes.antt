@@ -1,15 +1,15 @@
 -- The outcome of a row at the values that are given.
 use Rattle.std.specs.Prelude.{ℕ, suc, Bool, cond, not, ◌||◌, List, [], ◌∷◌}
 use Rattle.std.specs.List.{list_any}
-use Rattle.fz_meaning.specs.declared.kind.Kind.TheVariants.{Int as IntKind, Bool as BoolKind, Set as SetKind}
-use Rattle.fz_meaning.specs.declared.state.State.{State}
-use Rattle.fz_meaning.specs.declared.state.State.TheVariants.{TooLarge as TooLargeState}
-use Rattle.fz_meaning.specs.Relations.{◌=ᴮ◌}
-use Rattle.fz_meaning.specs.Builtins.{Of, Row, Shape, Test}
-use Rattle.fz_meaning.specs.Builtins.Shape.{ScalarOf, ArrayOf}
-use Rattle.fz_meaning.specs.Meaning.{Argument, Partial}
-use Rattle.fz_meaning.specs.States.{judged}
-use Rattle.fz_globals.specs.of_view.Given.{int_at, bool_at, set_at, ints_at, bools_at, sets_at, read_leave}
+use Rattle.fz_globals.specs.of_meaning.declared.kind.Kind.TheVariants.{Int as IntKind, Bool as BoolKind, Set as SetKind}
+use Rattle.fz_globals.specs.of_meaning.declared.state.State.{State}
+use Rattle.fz_globals.specs.of_meaning.declared.state.State.TheVariants.{TooLarge as TooLargeState}
+use Rattle.fz_globals.specs.of_meaning.Relations.{◌=ᴮ◌}
+use Rattle.fz_globals.specs.of_meaning.Builtins.{Of, Row, Shape, Test}
+use Rattle.fz_globals.specs.of_meaning.Builtins.Shape.{ScalarOf, ArrayOf}
+use Rattle.fz_globals.specs.of_meaning.Meaning.{Argument, Partial}
+use Rattle.fz_globals.specs.of_meaning.States.{judged}
+use Rattle.fz_globals.specs.of_kernel.Given.{int_at, bool_at, set_at, ints_at, bools_at, sets_at, read_leave}
 use Rattle.fz_builtins.specs.declared.outcome.Outcome.{Outcome}
 use Rattle.fz_builtins.specs.declared.outcome.Outcome.TheVariants.{Truth, TooLarge}
 

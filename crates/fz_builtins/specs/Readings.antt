@@ -1,9 +1,9 @@
 -- The arguments that a view reads, by their indices, counted from 0.
 use Rattle.std.specs.Prelude.{ℕ, ℤ, Bool, List}
 use Rattle.fz_base.specs.Sets.{NumberSet}
-use Rattle.fz_globals.specs.of_view.declared.view.ArgumentView.{ArgumentView}
-use Rattle.fz_globals.specs.of_view.Views.{arguments_of, assigned}
-use Rattle.fz_globals.specs.of_view.Given.{int_at, bool_at, set_at, ints_at, bools_at, sets_at}
+use Rattle.fz_globals.specs.of_kernel.declared.view.ArgumentView.{ArgumentView}
+use Rattle.fz_globals.specs.of_kernel.Views.{arguments_of, assigned}
+use Rattle.fz_globals.specs.of_kernel.Given.{int_at, bool_at, set_at, ints_at, bools_at, sets_at}
 
 abbrev pub int : ArgumentView → ℕ → ℤ
 int s i = int_at (assigned s) (arguments_of s) i

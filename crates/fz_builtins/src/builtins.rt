@@ -1,20 +1,27 @@
 //! The rows of the table.
 
 ghost use Rattle.std.specs.Prelude.{◌≡◌, IfOk};
-ghost use Rattle.fz_meaning.specs.Builtins.{row_at};
-ghost use Rattle.fz_globals.specs.of_view.Views.{arguments_of, assigned};
+ghost use Rattle.fz_globals.specs.of_meaning.Builtins.{row_at};
+ghost use Rattle.fz_globals.specs.of_kernel.Views.{arguments_of, assigned};
 ghost use Rattle.fz_builtins.specs.Outcomes.{row_outcome};
+ghost use Rattle.fz_builtins.specs.Said.{IsSaid};
 
+use crate::arrays::wide;
+use crate::counting::count;
 use crate::outcome::Outcome;
-use crate::{
-    arrays, counting, covers, flags, numbers, ordering, places, scheduling, sets, sums, truths,
-};
-use fz_globals::fz_kernel::fz_arguments::ArgumentView;
-use fz_meaning::Builtin;
+use crate::outcome::Outcome::Truth;
+use crate::said::Said::{Boolean, Given, Number, Set, Whether};
+use crate::said::{Said, outcome_of};
+use crate::{arrays, counting, covers, flags, ordering, places, scalars, scheduling, sums};
+use fz_base::SetError;
+use fz_globals::fz_kernel::ArgumentView;
+use fz_globals::fz_kernel::numbers::{absolute, product, quotient, remainder, sum};
+use fz_globals::fz_kernel::sets::same_set;
+use fz_globals::fz_meaning::Builtin;
 use std::alloc::{AllocError, Global};
 
 /// The outcome of a builtin's row at the values that the argument view gives. It refuses only where
-/// memory runs out.
+/// memory runs out. The rows that most constraints of real models have come first, and are inlined.
 #[inline(always)]
 pub fn of_builtin(
     alloc: Global,
@@ -25,117 +32,158 @@ pub fn of_builtin(
         (arguments_of view.now)) }
 {
     match builtin {
-        Builtin::IntEq => Ok(Outcome::Truth(numbers::int_eq(view))),
-        Builtin::IntNe => Ok(Outcome::Truth(numbers::int_ne(view))),
-        Builtin::IntLe => Ok(Outcome::Truth(numbers::int_le(view))),
-        Builtin::IntLt => Ok(Outcome::Truth(numbers::int_lt(view))),
+        Builtin::BoolClause => Ok(Truth(arrays::bool_clause(view))),
         Builtin::IntLinEq => Ok(sums::int_lin_eq(view)),
         Builtin::IntLinNe => Ok(sums::int_lin_ne(view)),
         Builtin::IntLinLe => Ok(sums::int_lin_le(view)),
-        Builtin::IntPlus => Ok(Outcome::Truth(numbers::int_plus(view))),
-        Builtin::IntTimes => Ok(Outcome::Truth(numbers::int_times(view))),
-        Builtin::IntMin => Ok(Outcome::Truth(numbers::int_min(view))),
-        Builtin::IntMax => Ok(Outcome::Truth(numbers::int_max(view))),
-        Builtin::IntAbs => Ok(Outcome::Truth(numbers::int_abs(view))),
-        Builtin::IntDiv => Ok(Outcome::Truth(numbers::int_div(view))),
-        Builtin::IntMod => Ok(Outcome::Truth(numbers::int_mod(view))),
-        Builtin::ArrayIntElement => Ok(Outcome::Truth(arrays::int_element(view))),
-        Builtin::ArrayIntMaximum => Ok(Outcome::Truth(arrays::int_maximum(view))),
-        Builtin::ArrayIntMinimum => Ok(Outcome::Truth(arrays::int_minimum(view))),
-        Builtin::FznAllDifferentInt => Ok(Outcome::Truth(arrays::int_all_different(alloc, view)?)),
-        Builtin::BoolEq => Ok(Outcome::Truth(truths::bool_eq(view))),
-        Builtin::BoolLe => Ok(Outcome::Truth(truths::bool_le(view))),
-        Builtin::BoolLt => Ok(Outcome::Truth(truths::bool_lt(view))),
-        Builtin::BoolNot => Ok(Outcome::Truth(truths::bool_not(view))),
-        Builtin::BoolAnd => Ok(Outcome::Truth(truths::bool_and(view))),
-        Builtin::BoolOr => Ok(Outcome::Truth(truths::bool_or(view))),
-        Builtin::BoolXor => Ok(Outcome::Truth(truths::bool_xor(view))),
-        Builtin::ArrayBoolAnd => Ok(Outcome::Truth(arrays::bool_all(view))),
-        Builtin::ArrayBoolOr => Ok(Outcome::Truth(arrays::bool_any(view))),
-        Builtin::ArrayBoolXor => Ok(Outcome::Truth(arrays::bool_odd(view))),
-        Builtin::ArrayBoolElement => Ok(Outcome::Truth(arrays::bool_element(view))),
-        Builtin::BoolClause => Ok(Outcome::Truth(arrays::bool_clause(view))),
-        Builtin::Bool2Int => Ok(Outcome::Truth(truths::bool2int(view))),
-        Builtin::BoolLinEq => Ok(Outcome::Truth(arrays::bool_lin_eq(view))),
-        Builtin::BoolLinLe => Ok(Outcome::Truth(arrays::bool_lin_le(view))),
-        Builtin::SetIn => Ok(Outcome::Truth(sets::set_in(view))),
-        Builtin::SetEq => Ok(Outcome::Truth(sets::set_eq(view))),
-        Builtin::SetNe => Ok(Outcome::Truth(sets::set_ne(view))),
-        Builtin::SetSubset => Ok(Outcome::Truth(sets::set_subset(view))),
-        Builtin::SetSuperset => Ok(Outcome::Truth(sets::set_superset(view))),
-        Builtin::SetUnion => Ok(Outcome::Truth(sets::set_union(view))),
-        Builtin::SetIntersect => Ok(Outcome::Truth(sets::set_intersect(view))),
-        Builtin::SetDiff => Ok(Outcome::Truth(sets::set_diff(view))),
-        Builtin::SetSymdiff => Ok(Outcome::Truth(sets::set_symdiff(view))),
-        Builtin::SetCard => Ok(Outcome::Truth(sets::set_card(view))),
-        Builtin::ArraySetElement => Ok(Outcome::Truth(arrays::set_element(view))),
-        Builtin::FznAlldifferentExcept0 => Ok(Outcome::Truth(counting::different_but_zeros(
+        Builtin::IntNe => Ok(Truth(view.int(0) != view.int(1))),
+        Builtin::IntLe => Ok(Truth(view.int(0) <= view.int(1))),
+        Builtin::IntLt => Ok(Truth(view.int(0) < view.int(1))),
+        _ => by_said(alloc, builtin, view),
+    }
+}
+
+// The outcome of a row by what it says.
+#[inline(never)]
+fn by_said(
+    alloc: Global,
+    builtin: Builtin,
+    view: &ArgumentView<'_, '_>,
+) -> Result<Outcome, AllocError>
+    ensures { IfOk result (λ o. o ≡ row_outcome (row_at builtin) (assigned view.now)
+        (arguments_of view.now)) }
+{
+    match said_of(alloc, builtin, false, view) {
+        Ok(said) => Ok(outcome_of(said, view)),
+        Err(SetError::Memory) => Err(AllocError),
+    }
+}
+
+/// What a builtin's row says by the values that the argument view gives; of a row whose result may
+/// be either of two arguments, what it says of the first or of the second. It refuses only where
+/// memory runs out.
+#[inline(always)]
+pub fn said_of<'s>(
+    alloc: Global,
+    builtin: Builtin,
+    first: bool,
+    view: &ArgumentView<'s, '_>,
+) -> Result<Said<'s>, SetError>
+    ensures { IfOk result (IsSaid (row_at builtin) first (assigned view.now)
+        (arguments_of view.now)) }
+{
+    match builtin {
+        Builtin::IntEq => Ok(scalars::int_eq(view, first)),
+        Builtin::IntNe => Ok(Whether(Truth(view.int(0) != view.int(1)))),
+        Builtin::IntLe => Ok(Whether(Truth(view.int(0) <= view.int(1)))),
+        Builtin::IntLt => Ok(Whether(Truth(view.int(0) < view.int(1)))),
+        Builtin::IntLinEq => Ok(Whether(sums::int_lin_eq(view))),
+        Builtin::IntLinNe => Ok(Whether(sums::int_lin_ne(view))),
+        Builtin::IntLinLe => Ok(Whether(sums::int_lin_le(view))),
+        Builtin::IntPlus => Ok(Number(2, Some(sum(view.int(0), view.int(1))))),
+        Builtin::IntTimes => Ok(Number(2, Some(product(view.int(0), view.int(1))))),
+        Builtin::IntMin => Ok(Number(2, Some(scalars::int_min(view)))),
+        Builtin::IntMax => Ok(Number(2, Some(scalars::int_max(view)))),
+        Builtin::IntAbs => Ok(Number(1, Some(absolute(view.int(0))))),
+        Builtin::IntDiv => Ok(Number(2, quotient(view.int(0), view.int(1)))),
+        Builtin::IntMod => Ok(Number(2, remainder(view.int(0), view.int(1)))),
+        Builtin::ArrayIntElement => Ok(Number(2, wide(arrays::int_element(view)))),
+        Builtin::ArrayIntMaximum => Ok(Number(0, wide(arrays::int_maximum(view)))),
+        Builtin::ArrayIntMinimum => Ok(Number(0, wide(arrays::int_minimum(view)))),
+        Builtin::FznAllDifferentInt => Ok(Whether(Truth(arrays::int_all_different(alloc, view)?))),
+        Builtin::BoolEq => Ok(scalars::bool_eq(view, first)),
+        Builtin::BoolLe => Ok(Whether(Truth(scalars::bool_le(view)))),
+        Builtin::BoolLt => Ok(Whether(Truth(scalars::bool_lt(view)))),
+        Builtin::BoolNot => Ok(scalars::bool_not(view, first)),
+        Builtin::BoolAnd => Ok(Boolean(2, Some(scalars::bool_and(view)))),
+        Builtin::BoolOr => Ok(Boolean(2, Some(scalars::bool_or(view)))),
+        Builtin::BoolXor => Ok(Boolean(2, Some(view.truth(0) != view.truth(1)))),
+        Builtin::ArrayBoolAnd => Ok(Boolean(1, Some(arrays::bool_all(view)))),
+        Builtin::ArrayBoolOr => Ok(Boolean(1, Some(arrays::bool_any(view)))),
+        Builtin::ArrayBoolXor => Ok(Whether(Truth(arrays::bool_odd(view)))),
+        Builtin::ArrayBoolElement => Ok(Boolean(2, arrays::bool_element(view))),
+        Builtin::BoolClause => Ok(Whether(Truth(arrays::bool_clause(view)))),
+        Builtin::Bool2Int => Ok(scalars::bool2int(view, first)),
+        Builtin::BoolLinEq => Ok(Number(2, Some(arrays::bool_lin_eq(view)))),
+        Builtin::BoolLinLe => Ok(Whether(Truth(arrays::bool_lin_le(view)))),
+        Builtin::SetIn => Ok(Whether(Truth(view.set(1).contains(view.int(0))))),
+        Builtin::SetEq => Ok(scalars::set_eq(view, first)),
+        Builtin::SetNe => Ok(Whether(Truth(!same_set(view.set(0), view.set(1))))),
+        Builtin::SetSubset => Ok(Whether(Truth(view.set(0).is_subset(view.set(1))))),
+        Builtin::SetSuperset => Ok(Whether(Truth(view.set(1).is_subset(view.set(0))))),
+        Builtin::SetUnion => Ok(Set(2, view.set(0).union(alloc, view.set(1))?)),
+        Builtin::SetIntersect => Ok(Set(2, view.set(0).intersect(alloc, view.set(1))?)),
+        Builtin::SetDiff => Ok(Set(2, view.set(0).minus(alloc, view.set(1))?)),
+        Builtin::SetSymdiff => Ok(Set(2, view.set(0).symdiff(alloc, view.set(1))?)),
+        Builtin::SetCard => Ok(Number(1, Some(scalars::set_card(view)))),
+        Builtin::ArraySetElement => Ok(Given(2, arrays::set_element(view))),
+        Builtin::FznAlldifferentExcept0 => Ok(Whether(Truth(counting::different_but_zeros(
             alloc, view,
-        )?)),
-        Builtin::FznAllEqualInt => Ok(Outcome::Truth(ordering::all_equal_int(view))),
-        Builtin::FznCountEq => Ok(Outcome::Truth(counting::count_eq(view))),
-        Builtin::FznCountNeq => Ok(Outcome::Truth(counting::count_neq(view))),
-        Builtin::FznCountGeq => Ok(Outcome::Truth(counting::count_geq(view))),
-        Builtin::FznCountGt => Ok(Outcome::Truth(counting::count_gt(view))),
-        Builtin::FznCountLeq => Ok(Outcome::Truth(counting::count_leq(view))),
-        Builtin::FznCountLt => Ok(Outcome::Truth(counting::count_lt(view))),
-        Builtin::FznAmong => Ok(Outcome::Truth(counting::among(view))),
-        Builtin::FznNvalue => Ok(Outcome::Truth(counting::number_of_values(alloc, view)?)),
-        Builtin::FznAtLeastInt => Ok(Outcome::Truth(counting::at_least(view))),
-        Builtin::FznAtMostInt => Ok(Outcome::Truth(counting::at_most(view))),
-        Builtin::FznExactlyInt => Ok(Outcome::Truth(counting::exactly(view))),
-        Builtin::FznGlobalCardinality => Ok(Outcome::Truth(covers::cardinality(alloc, view)?)),
-        Builtin::FznGlobalCardinalityClosed => Ok(Outcome::Truth(covers::cardinality_closed(
+        )?))),
+        Builtin::FznAllEqualInt => Ok(Whether(Truth(ordering::all_equal_int(view)))),
+        Builtin::FznCountEq => Ok(Number(2, Some(count(view, 0, 1)))),
+        Builtin::FznCountNeq => Ok(Whether(Truth(i128::from(view.int(2)) != count(view, 0, 1)))),
+        Builtin::FznCountGeq => Ok(Whether(Truth(i128::from(view.int(2)) >= count(view, 0, 1)))),
+        Builtin::FznCountGt => Ok(Whether(Truth(i128::from(view.int(2)) > count(view, 0, 1)))),
+        Builtin::FznCountLeq => Ok(Whether(Truth(i128::from(view.int(2)) <= count(view, 0, 1)))),
+        Builtin::FznCountLt => Ok(Whether(Truth(i128::from(view.int(2)) < count(view, 0, 1)))),
+        Builtin::FznAmong => Ok(Number(0, Some(counting::among(view)))),
+        Builtin::FznNvalue => Ok(Number(0, Some(counting::number_of_values(alloc, view)?))),
+        Builtin::FznAtLeastInt => Ok(Whether(Truth(i128::from(view.int(0)) <= count(view, 1, 2)))),
+        Builtin::FznAtMostInt => Ok(Whether(Truth(i128::from(view.int(0)) >= count(view, 1, 2)))),
+        Builtin::FznExactlyInt => Ok(Whether(Truth(i128::from(view.int(0)) == count(view, 1, 2)))),
+        Builtin::FznGlobalCardinality => Ok(Whether(Truth(covers::cardinality(alloc, view)?))),
+        Builtin::FznGlobalCardinalityClosed => Ok(Whether(Truth(covers::cardinality_closed(
             alloc, view,
-        )?)),
-        Builtin::FznGlobalCardinalityLowUp => Ok(Outcome::Truth(covers::cardinality_between(
+        )?))),
+        Builtin::FznGlobalCardinalityLowUp => Ok(Whether(Truth(covers::cardinality_between(
             alloc, view,
-        )?)),
-        Builtin::FznGlobalCardinalityLowUpClosed => Ok(Outcome::Truth(
+        )?))),
+        Builtin::FznGlobalCardinalityLowUpClosed => Ok(Whether(Truth(
             covers::cardinality_between_closed(alloc, view)?,
-        )),
-        Builtin::FznDistribute => Ok(Outcome::Truth(covers::distribute(alloc, view)?)),
-        Builtin::FznCumulative => Ok(Outcome::Truth(scheduling::cumulative(view))),
-        Builtin::FznDisjunctive => Ok(Outcome::Truth(scheduling::disjunctive(view))),
-        Builtin::FznDisjunctiveStrict => Ok(Outcome::Truth(scheduling::disjunctive_strict(view))),
-        Builtin::FznDiffn => Ok(Outcome::Truth(scheduling::diffn(view))),
-        Builtin::FznDiffnNonstrict => Ok(Outcome::Truth(scheduling::diffn_nonstrict(view))),
-        Builtin::GecodeNooverlap => Ok(Outcome::Truth(scheduling::nooverlap(view))),
-        Builtin::GecodeCircuit => Ok(Outcome::Truth(places::circuit(view))),
-        Builtin::FzcheckSubcircuit => Ok(Outcome::Truth(places::subcircuit(alloc, view)?)),
-        Builtin::InverseOffsets => Ok(Outcome::Truth(places::inverse(view))),
-        Builtin::FznTableInt => Ok(Outcome::Truth(places::table_int(view))),
-        Builtin::FznTableBool => Ok(Outcome::Truth(places::table_bool(view))),
-        Builtin::FznRegular => Ok(Outcome::Truth(places::regular(view))),
-        Builtin::FznBinPacking => Ok(Outcome::Truth(scheduling::bin_packing(view))),
-        Builtin::GecodeBinPackingLoad => Ok(Outcome::Truth(scheduling::bin_packing_load(view))),
-        Builtin::FznLexLessInt => Ok(Outcome::Truth(ordering::lex_less_int(view))),
-        Builtin::FznLexLesseqInt => Ok(Outcome::Truth(ordering::lex_lesseq_int(view))),
-        Builtin::FznLexLessBool => Ok(Outcome::Truth(ordering::lex_less_bool(view))),
-        Builtin::FznLexLesseqBool => Ok(Outcome::Truth(ordering::lex_lesseq_bool(view))),
-        Builtin::FznIncreasingInt => Ok(Outcome::Truth(ordering::increasing_int(view))),
-        Builtin::FznIncreasingBool => Ok(Outcome::Truth(ordering::increasing_bool(view))),
-        Builtin::FznDecreasingInt => Ok(Outcome::Truth(ordering::decreasing_int(view))),
-        Builtin::FznDecreasingBool => Ok(Outcome::Truth(ordering::decreasing_bool(view))),
-        Builtin::FznStrictlyIncreasingInt => Ok(Outcome::Truth(ordering::strictly_increasing_int(
-            view,
         ))),
-        Builtin::FznValuePrecedeInt => Ok(Outcome::Truth(ordering::value_precede(view))),
-        Builtin::GecodePrecede => Ok(Outcome::Truth(ordering::precede(view))),
-        Builtin::FznValuePrecedeChainInt => Ok(Outcome::Truth(ordering::value_precede_chain(
+        Builtin::FznDistribute => Ok(Whether(Truth(covers::distribute(alloc, view)?))),
+        Builtin::FznCumulative => Ok(Whether(Truth(scheduling::cumulative(view)))),
+        Builtin::FznDisjunctive => Ok(Whether(Truth(scheduling::disjunctive(view)))),
+        Builtin::FznDisjunctiveStrict => Ok(Whether(Truth(scheduling::disjunctive_strict(view)))),
+        Builtin::FznDiffn => Ok(Whether(Truth(scheduling::diffn(view)))),
+        Builtin::FznDiffnNonstrict => Ok(Whether(Truth(scheduling::diffn_nonstrict(view)))),
+        Builtin::GecodeNooverlap => Ok(Whether(Truth(scheduling::nooverlap(view)))),
+        Builtin::GecodeCircuit => Ok(Whether(Truth(places::circuit(view)))),
+        Builtin::FzcheckSubcircuit => Ok(Whether(Truth(places::subcircuit(alloc, view)?))),
+        Builtin::InverseOffsets => Ok(Whether(Truth(places::inverse(view)))),
+        Builtin::FznTableInt => Ok(Whether(Truth(places::table_int(view)))),
+        Builtin::FznTableBool => Ok(Whether(Truth(places::table_bool(view)))),
+        Builtin::FznRegular => Ok(Whether(Truth(places::regular(view)))),
+        Builtin::FznBinPacking => Ok(Whether(Truth(scheduling::bin_packing(view)))),
+        Builtin::GecodeBinPackingLoad => Ok(Whether(Truth(scheduling::bin_packing_load(view)))),
+        Builtin::FznLexLessInt => Ok(Whether(Truth(ordering::lex_less_int(view)))),
+        Builtin::FznLexLesseqInt => Ok(Whether(Truth(ordering::lex_lesseq_int(view)))),
+        Builtin::FznLexLessBool => Ok(Whether(Truth(ordering::lex_less_bool(view)))),
+        Builtin::FznLexLesseqBool => Ok(Whether(Truth(ordering::lex_lesseq_bool(view)))),
+        Builtin::FznIncreasingInt => Ok(Whether(Truth(ordering::increasing_int(view)))),
+        Builtin::FznIncreasingBool => Ok(Whether(Truth(ordering::increasing_bool(view)))),
+        Builtin::FznDecreasingInt => Ok(Whether(Truth(ordering::decreasing_int(view)))),
+        Builtin::FznDecreasingBool => Ok(Whether(Truth(ordering::decreasing_bool(view)))),
+        Builtin::FznStrictlyIncreasingInt => Ok(Whether(Truth(ordering::strictly_increasing_int(
+            view,
+        )))),
+        Builtin::FznValuePrecedeInt => Ok(Whether(Truth(ordering::value_precede(view)))),
+        Builtin::GecodePrecede => Ok(Whether(Truth(ordering::precede(view)))),
+        Builtin::FznValuePrecedeChainInt => Ok(Whether(Truth(ordering::value_precede_chain(
             alloc, view,
-        )?)),
-        Builtin::FznSeqPrecedeChainInt => Ok(Outcome::Truth(ordering::seq_precede_chain(view))),
-        Builtin::FznSort => Ok(Outcome::Truth(ordering::sorted(alloc, view)?)),
-        Builtin::FznMemberInt => Ok(Outcome::Truth(counting::member_int(view))),
-        Builtin::FznMemberBool => Ok(Outcome::Truth(counting::member_bool(view))),
-        Builtin::GecodeMaximumArgIntOffset => Ok(Outcome::Truth(places::argument_of_maximum(view))),
-        Builtin::GecodeMinimumArgIntOffset => Ok(Outcome::Truth(places::argument_of_minimum(view))),
-        Builtin::FznKnapsack => Ok(sums::knapsack(view)),
-        Builtin::FznSlidingSum => Ok(Outcome::Truth(scheduling::sliding_sum(view))),
-        Builtin::GecodeLinkSetToBooleans => Ok(Outcome::Truth(flags::link_set_to_booleans(view))),
-        Builtin::GecodeIntSetChannel => Ok(Outcome::Truth(flags::int_set_channel(view))),
-        Builtin::FznDisjoint => Ok(Outcome::Truth(flags::disjoint(view))),
-        Builtin::FznPartitionSet => Ok(Outcome::Truth(flags::partition_set(alloc, view)?)),
+        )?))),
+        Builtin::FznSeqPrecedeChainInt => Ok(Whether(Truth(ordering::seq_precede_chain(view)))),
+        Builtin::FznSort => Ok(Whether(Truth(ordering::sorted(alloc, view)?))),
+        Builtin::FznMemberInt => Ok(Whether(Truth(counting::member_int(view)))),
+        Builtin::FznMemberBool => Ok(Whether(Truth(counting::member_bool(view)))),
+        Builtin::GecodeMaximumArgIntOffset => Ok(Number(2, places::argument_of_maximum(view))),
+        Builtin::GecodeMinimumArgIntOffset => Ok(Number(2, places::argument_of_minimum(view))),
+        Builtin::FznKnapsack => Ok(Whether(sums::knapsack(view))),
+        Builtin::FznSlidingSum => Ok(Whether(Truth(scheduling::sliding_sum(view)))),
+        Builtin::GecodeLinkSetToBooleans => Ok(Whether(Truth(flags::link_set_to_booleans(view)))),
+        Builtin::GecodeIntSetChannel => Ok(Whether(Truth(flags::int_set_channel(view)))),
+        Builtin::FznDisjoint => Ok(Whether(Truth(flags::disjoint(view)))),
+        Builtin::FznPartitionSet => Ok(Whether(Truth(flags::partition_set(alloc, view)?))),
     }
 }

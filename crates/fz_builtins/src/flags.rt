@@ -1,12 +1,12 @@
 //! The rows of sets and arrays.
 
 ghost use Rattle.std.specs.Prelude.{◌≡◌, IfOk};
-ghost use Rattle.fz_meaning.specs.Relations.{is_flagged, are_disjoint, is_partition, are_channelled};
+ghost use Rattle.fz_globals.specs.of_meaning.Relations.{is_flagged, are_disjoint, is_partition, are_channelled};
 ghost use Rattle.fz_builtins.specs.Readings.{int, ints, numbers, sets_of, truths};
 
 use fz_globals::channels::are_channelled;
 use fz_globals::flags::is_flagged;
-use fz_globals::fz_kernel::fz_arguments::ArgumentView;
+use fz_globals::fz_kernel::ArgumentView;
 use fz_globals::partition::{are_disjoint, is_partition};
 use std::alloc::{AllocError, Global};
 

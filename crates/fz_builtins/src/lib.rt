@@ -1,7 +1,8 @@
 //! The builtins of THE TABLE: whether a builtin's row holds of the values that an argument view
-//! gives, or that a sum of it leaves 128 bits (`of_builtin`). A row has a function that reads its
-//! arguments, and asks `fz_kernel`, `fz_globals` or `fz_scheduling` for the relation. An internal
-//! crate of `fz_model`.
+//! gives, or that a sum of it leaves 128 bits (`of_builtin`); and which value its result has, by
+//! the other arguments (`said_of`). A row over arrays has a function that reads its arguments, and
+//! asks `fz_kernel`, `fz_globals` or `fz_scheduling` for the relation. An internal crate of
+//! `fz_model`.
 //!
 //! Its worked cases are in `tests/cases` (`builtins.txt`).
 #![tactic(auto)]
@@ -11,18 +12,18 @@ mod builtins;
 mod counting;
 mod covers;
 mod flags;
-mod numbers;
 mod ordering;
 mod outcome;
 mod places;
+mod said;
+mod scalars;
 mod scheduling;
-mod sets;
 mod sums;
-mod truths;
 
-pub use builtins::of_builtin;
+pub use builtins::{of_builtin, said_of};
 pub use fz_globals;
-pub use fz_globals::fz_kernel;
-pub use fz_globals::fz_kernel::{fz_arguments, fz_data};
+pub use fz_globals::fz_kernel::fz_data;
+pub use fz_globals::{fz_kernel, fz_meaning};
 pub use outcome::Outcome;
+pub use said::Said;
 pub use sums::products_leave;

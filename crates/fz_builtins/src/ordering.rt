@@ -1,10 +1,10 @@
 //! The rows of order.
 
 ghost use Rattle.std.specs.Prelude.{◌≡◌, not, pos, int_le, int_lt, ◌&&◌, ◌||◌, IfOk};
-ghost use Rattle.fz_meaning.specs.Relations.{◌=ℤ◌, ◌=ᴮ◌, all_neighbours, is_sorted_form, is_before, precedes, rises_by_one};
+ghost use Rattle.fz_globals.specs.of_meaning.Relations.{◌=ℤ◌, ◌=ᴮ◌, all_neighbours, is_sorted_form, is_before, precedes, rises_by_one};
 ghost use Rattle.fz_builtins.specs.Readings.{int, ints, truths};
 
-use fz_globals::fz_kernel::fz_arguments::ArgumentView;
+use fz_globals::fz_kernel::ArgumentView;
 use fz_globals::order::{
     all_equal, is_decreasing, is_increasing, is_sorted_form, is_strictly_increasing,
     truths_decrease, truths_increase,

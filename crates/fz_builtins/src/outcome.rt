@@ -1,10 +1,10 @@
 //! The outcome of a row.
 
 ghost use Rattle.std.specs.Prelude.{◌≡◌, not, ◌||◌};
-ghost use Rattle.fz_meaning.specs.Relations.{◌=ᴮ◌};
+ghost use Rattle.fz_globals.specs.of_meaning.Relations.{◌=ᴮ◌};
 ghost use Rattle.fz_builtins.specs.Outcomes.{compared, implied_by, told};
 
-use fz_meaning::State;
+use fz_globals::fz_meaning::State;
 
 /// Whether a row holds, or that a sum of it leaves 128 bits.
 #[derive(Clone, Copy)]

@@ -1,11 +1,12 @@
 //! The rows of lists of successors, of tables and of automata.
 
-ghost use Rattle.std.specs.Prelude.{◌≡◌, int_le, IfOk};
-ghost use Rattle.fz_meaning.specs.Relations.{◌=ℤ◌, ◌=ᴮ◌, as_places, is_circuit, is_subcircuit, are_inverse, is_row_of, is_word, is_index_of_best};
+ghost use Rattle.std.specs.Prelude.{◌≡◌, ℤ, int_le, IfOk};
+ghost use Rattle.fz_globals.specs.of_meaning.Relations.{◌=ℤ◌, ◌=ᴮ◌, as_places, is_circuit, is_subcircuit, are_inverse, is_row_of, is_word, is_index_of_best};
 ghost use Rattle.fz_builtins.specs.Readings.{int, ints, numbers, truths};
+ghost use Rattle.fz_builtins.specs.Said.{is_result};
 
-use fz_globals::best_index::{is_index_of_maximum, is_index_of_minimum};
-use fz_globals::fz_kernel::fz_arguments::ArgumentView;
+use fz_globals::best_index::{index_of_maximum, index_of_minimum};
+use fz_globals::fz_kernel::ArgumentView;
 use fz_globals::tables::{is_bool_row, is_int_row};
 use fz_globals::tours::{are_inverse, is_circuit, is_subcircuit};
 use fz_scheduling::words::is_word;
@@ -62,18 +63,18 @@ pub(crate) fn regular(view: &ArgumentView<'_, '_>) -> bool
     is_word(&view.elements(0), states, symbols, transitions, first, last)
 }
 
-/// Whether the third argument is the index of the first greatest element.
-pub(crate) fn argument_of_maximum(view: &ArgumentView<'_, '_>) -> bool
-    ensures { result ≡ is_index_of_best (λ x m. int_le x m) (ints view.now 0) (int view.now 1)
-        (int view.now 2) }
+/// The index of the first greatest element.
+pub(crate) fn argument_of_maximum(view: &ArgumentView<'_, '_>) -> Option<i128>
+    ensures { (i : ℤ) → is_index_of_best (λ x m. int_le x m) (ints view.now 0) (int view.now 1) i
+        ≡ is_result ◌=ℤ◌ result i }
 {
-    is_index_of_maximum(&view.elements(0), view.int(1), view.int(2))
+    index_of_maximum(&view.elements(0), view.int(1))
 }
 
-/// Whether the third argument is the index of the first least element.
-pub(crate) fn argument_of_minimum(view: &ArgumentView<'_, '_>) -> bool
-    ensures { result ≡ is_index_of_best (λ x m. int_le m x) (ints view.now 0) (int view.now 1)
-        (int view.now 2) }
+/// The index of the first least element.
+pub(crate) fn argument_of_minimum(view: &ArgumentView<'_, '_>) -> Option<i128>
+    ensures { (i : ℤ) → is_index_of_best (λ x m. int_le m x) (ints view.now 0) (int view.now 1) i
+        ≡ is_result ◌=ℤ◌ result i }
 {
-    is_index_of_minimum(&view.elements(0), view.int(1), view.int(2))
+    index_of_minimum(&view.elements(0), view.int(1))
 }

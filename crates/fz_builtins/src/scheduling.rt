@@ -2,10 +2,10 @@
 
 ghost use Rattle.std.specs.Prelude.{◌≡◌, pos, length, int_le, ◌&&◌, ◌+ℤ◌, ◌-ℤ◌};
 ghost use Rattle.std.specs.List.{list_all, zip};
-ghost use Rattle.fz_meaning.specs.Relations.{is_cumulative, is_disjunctive, is_strictly_disjunctive, boxes, overlap_nowhere, overlap_in_no_area, load_of, lies_between, loads_are, slides_between};
+ghost use Rattle.fz_globals.specs.of_meaning.Relations.{is_cumulative, is_disjunctive, is_strictly_disjunctive, boxes, overlap_nowhere, overlap_in_no_area, load_of, lies_between, loads_are, slides_between};
 ghost use Rattle.fz_builtins.specs.Readings.{int, ints};
 
-use fz_globals::fz_kernel::fz_arguments::ArgumentView;
+use fz_globals::fz_kernel::ArgumentView;
 use fz_scheduling::bins::{loads_are_given, loads_are_within};
 use fz_scheduling::boxes::{overlap_in_no_area, overlap_nowhere};
 use fz_scheduling::slides::slides_between;

@@ -1,14 +1,14 @@
 //! The rows whose products are added in 128 bits.
 
 ghost use Rattle.std.specs.Prelude.{◌≡◌, ◌||◌, int_le, not};
-ghost use Rattle.fz_meaning.specs.Relations.{◌=ℤ◌, products, total, is_knapsack};
-ghost use Rattle.fz_meaning.specs.States.{leaves_128};
+ghost use Rattle.fz_globals.specs.of_meaning.Relations.{◌=ℤ◌, products, total, is_knapsack};
+ghost use Rattle.fz_globals.specs.of_meaning.States.{leaves_128};
 ghost use Rattle.fz_builtins.specs.Outcomes.{sum_outcome};
 ghost use Rattle.fz_builtins.specs.Readings.{int, ints};
 
 use crate::outcome::Outcome;
+use fz_globals::fz_kernel::ArgumentView;
 use fz_globals::fz_kernel::arrays::sum_of_products;
-use fz_globals::fz_kernel::fz_arguments::ArgumentView;
 use fz_scheduling::packed::is_knapsack;
 
 /// Whether the sum of products is the third argument.

@@ -10,3 +10,8 @@ pub mod StreamingLemmas
 pub mod PassingLemmas
 pub mod Refusals
 pub mod Showing
+pub mod Tokens
+pub mod Same
+pub mod Sound
+pub mod Fronts
+pub mod Notes

@@ -8,15 +8,15 @@ use Rattle.fz_judge.specs.of_stream.declared.line.ClaimKind.{ClaimKind}
 use Rattle.fz_judge.specs.of_stream.declared.reading.Claim.{Claim}
 use Rattle.fz_judge.specs.of_stream.Found.{EndsWithin, HasPlaces, IsReadAs, block_of, claims_in}
 use Rattle.fz_judge.specs.of_stream.Parts.{blocks_in, SolutionBlock, StreamPart, BlockPart, ClaimPart}
-use Rattle.fz_judge.specs.of_verdict.Solutions.{Block}
-use Rattle.fz_judge.specs.of_verdict.BlockFaults.{block_fault}
-use Rattle.fz_judge.specs.of_verdict.declared.completion.Completion.{Completion}
-use Rattle.fz_judge.specs.of_verdict.declared.completion.Completion.TheVariants.{Off}
-use Rattle.fz_judge.specs.of_verdict.Completed.{AreTold}
-use Rattle.fz_judge.specs.of_verdict.Completed.AreTold.{NoneLeft, OneMore}
-use Rattle.fz_judge.specs.of_verdict.Verdict.{Answer, Verdict, answer_by}
-use Rattle.fz_judge.specs.of_verdict.View.{located_block}
-use Rattle.fz_judge.proofs.of_verdict.Loops.{goes_on_judged}
+use Rattle.fz_judge.specs.Solutions.{Block}
+use Rattle.fz_judge.specs.BlockFaults.{block_fault}
+use Rattle.fz_judge.specs.declared.completion.Completion.{Completion}
+use Rattle.fz_judge.specs.declared.completion.Completion.TheVariants.{Off}
+use Rattle.fz_judge.specs.Completed.{AreTold}
+use Rattle.fz_judge.specs.Completed.AreTold.{NoneLeft, OneMore}
+use Rattle.fz_judge.specs.Verdict.{Answer, Verdict, answer_by}
+use Rattle.fz_judge.specs.BlockView.{located_block}
+use Rattle.fz_judge.proofs.Loops.{goes_on_judged}
 use Rattle.fz_judge.specs.Judged.{IsBlockRefusal}
 use Rattle.fz_judge.specs.View.{verdict_view}
 use Rattle.fz_judge.specs.declared.verdict.Verdict as the_verdict

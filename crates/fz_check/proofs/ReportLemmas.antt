@@ -5,17 +5,17 @@ use Rattle.fz_judge.specs.of_model.Meaning.{Model}
 use Rattle.fz_judge.specs.of_model.Names.{HasNoFault, model_of}
 use Rattle.fz_judge.specs.of_model.Texts.{IsLoadedFrom}
 use Rattle.fz_judge.proofs.of_model.Scope.{sound_aims}
-use Rattle.fz_judge.specs.of_verdict.Solutions.{Block}
-use Rattle.fz_judge.specs.of_verdict.declared.completion.Completion.{Completion}
-use Rattle.fz_judge.specs.of_verdict.Completed.{AreVerdicts}
-use Rattle.fz_judge.specs.of_verdict.Verdict.{Answer, Verdict}
-use Rattle.fz_judge.specs.of_verdict.Verdict.Answer.{Accepted}
-use Rattle.fz_judge.specs.of_verdict.Verdict.Verdict.{Violated}
-use Rattle.fz_judge.specs.of_verdict.View.{located_block}
-use Rattle.fz_judge.proofs.of_verdict.Accepted.{accepted_solves}
-use Rattle.fz_judge.proofs.of_verdict.Completing.{accepted_judged}
-use Rattle.fz_judge.proofs.of_verdict.Each.{each_satisfied, each_violated, each_not_better}
-use Rattle.fz_judge.proofs.of_verdict.Places.{blocks_are_bare}
+use Rattle.fz_judge.specs.Solutions.{Block}
+use Rattle.fz_judge.specs.declared.completion.Completion.{Completion}
+use Rattle.fz_judge.specs.Completed.{AreVerdicts}
+use Rattle.fz_judge.specs.Verdict.{Answer, Verdict}
+use Rattle.fz_judge.specs.Verdict.Answer.{Accepted}
+use Rattle.fz_judge.specs.Verdict.Verdict.{Violated}
+use Rattle.fz_judge.specs.BlockView.{located_block}
+use Rattle.fz_judge.proofs.Accepted.{accepted_solves}
+use Rattle.fz_judge.proofs.Completing.{accepted_judged}
+use Rattle.fz_judge.proofs.Each.{each_satisfied, each_violated, each_not_better}
+use Rattle.fz_judge.proofs.Places.{blocks_are_bare}
 use Rattle.fz_check.specs.Headline.{HasSolutions}
 use Rattle.fz_check.specs.Report.{Event, IsReport}
 use Rattle.fz_check.specs.Reported.{HasReport, AreBorneOut}

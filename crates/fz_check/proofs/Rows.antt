@@ -2,10 +2,10 @@
 use Rattle.std.proofs.Common.{◌≡◌, pos, negsuc, List, [], ◌∷◌, codes, refl}
 use Rattle.fz_judge.specs.of_stream.declared.line.ClaimKind.TheVariants as claims
 use Rattle.fz_judge.specs.of_stream.Parts.{SolutionBlock, BlockPart, ClaimPart}
-use Rattle.fz_judge.specs.of_verdict.Verdict.{Verdict}
-use Rattle.fz_judge.specs.of_verdict.Verdict.Answer.{NoBlocks}
-use Rattle.fz_judge.specs.of_verdict.Verdict.Verdict.{Satisfied, Violated}
-use Rattle.fz_judge.specs.of_verdict.Verdict.Fault.{NotBetter}
+use Rattle.fz_judge.specs.Verdict.{Verdict}
+use Rattle.fz_judge.specs.Verdict.Answer.{NoBlocks}
+use Rattle.fz_judge.specs.Verdict.Verdict.{Satisfied, Violated}
+use Rattle.fz_judge.specs.Verdict.Fault.{NotBetter}
 use Rattle.fz_check.specs.Report.{event_line, events_of, text_of}
 use Rattle.fz_check.specs.Report.Event.{Judged, Claimed, Answered}
 

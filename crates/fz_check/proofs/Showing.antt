@@ -11,10 +11,10 @@ use Rattle.fz_judge.specs.of_model.Names.{HasNoFault}
 use Rattle.fz_judge.specs.of_model.Located.{bare_of}
 use Rattle.fz_judge.specs.of_model.View.{located}
 use Rattle.fz_judge.proofs.of_model.Places.{located_is_bare}
-use Rattle.fz_outputs.specs.Outputs.{with_all_printed}
-use Rattle.fz_outputs.proofs.Tokens.{can_be_written}
-use Rattle.fz_outputs.proofs.Same.{same_model}
-use Rattle.fz_outputs.proofs.Sound.{no_fault_still}
+use Rattle.fz_check.specs.Outputs.{with_all_printed}
+use Rattle.fz_check.proofs.Tokens.{can_be_written}
+use Rattle.fz_check.proofs.Same.{same_model}
+use Rattle.fz_check.proofs.Sound.{no_fault_still}
 use Rattle.fz_check.specs.Shown.{IsShown, IsShownPrintingAll}
 
 pub shown_of : (model shown : List ℕ) (a : the_ast.Ast) → IsTextOfTree model (bare a)

@@ -8,9 +8,9 @@ use Rattle.fz_judge.specs.of_model.Meaning.{Model}
 use Rattle.fz_judge.specs.of_model.Texts.{IsLoadedFrom}
 use Rattle.fz_judge.specs.of_stream.declared.splitter.Stage.TheVariants.{Running, Finished}
 use Rattle.fz_judge.specs.of_stream.Parts.{StreamPart, Frame, IsStreamText}
-use Rattle.fz_judge.specs.of_verdict.View.{located_block}
-use Rattle.fz_judge.specs.of_verdict.declared.completion.Completion.{Completion}
-use Rattle.fz_judge.specs.of_verdict.Verdict.{Verdict, Answer, answer_by, answer_of}
+use Rattle.fz_judge.specs.BlockView.{located_block}
+use Rattle.fz_judge.specs.declared.completion.Completion.{Completion}
+use Rattle.fz_judge.specs.Verdict.{Verdict, Answer, answer_by, answer_of}
 use Rattle.fz_judge.specs.Judged.{JudgeState}
 use Rattle.fz_base.specs.declared.span.Span.{Span}
 use Rattle.fz_check.specs.declared.ending.Ending.{Ending}

@@ -4,7 +4,7 @@ use Rattle.fz_judge.specs.of_syntax.Text.{IsTextOfTree}
 use Rattle.fz_judge.specs.of_stream.Parts.{StreamPart, IsStreamText, blocks_in}
 use Rattle.fz_judge.specs.of_model.Located.{LocatedTree, bare_of}
 use Rattle.fz_judge.specs.of_model.Names.{HasNoFault}
-use Rattle.fz_judge.specs.of_verdict.Solutions.{Block, bare_of_block, HaveSolutions}
+use Rattle.fz_judge.specs.Solutions.{Block, bare_of_block, HaveSolutions}
 use Rattle.std.specs.Io.KnownBytes.{Consumes, IsAtEnd}
 
 -- The reader gave these bytes up to its end, and this holds of them.

@@ -12,3 +12,4 @@ pub mod Refusal
 pub mod Inside
 pub mod Telling
 pub mod Passing
+pub mod Outputs

@@ -19,8 +19,8 @@ use Rattle.fz_judge.specs.of_model.Meaning.{Model}
 use Rattle.fz_judge.specs.of_model.Texts.{IsNameFault}
 use Rattle.fz_judge.specs.of_model.declared.ModelError.{ModelError}
 use Rattle.fz_judge.specs.of_model.declared.ModelError.TheVariants.{Memory as NameMemory}
-use Rattle.fz_judge.specs.of_verdict.BlockFaults.{block_fault}
-use Rattle.fz_judge.specs.of_verdict.View.{located_block}
+use Rattle.fz_judge.specs.BlockFaults.{block_fault}
+use Rattle.fz_judge.specs.BlockView.{located_block}
 use Rattle.fz_judge.specs.Judged.{IsBlockRefusal}
 use Rattle.fz_judge.specs.declared.error.BlockError.{BlockError}
 use Rattle.fz_judge.specs.declared.error.BlockError.TheVariants.{Memory as BlockMemory}

@@ -10,14 +10,14 @@ use Rattle.fz_judge.specs.of_stream.declared.line.ClaimKind.{ClaimKind}
 use Rattle.fz_judge.specs.of_stream.declared.line.ClaimKind.TheVariants.{Complete, Unsatisfiable, Unknown, Unbounded, UnsatOrUnbounded, Error}
 use Rattle.fz_judge.specs.of_stream.Found.{HasPlaces, block_of}
 use Rattle.fz_judge.specs.of_stream.Parts.{blocks_in, StreamPart, BlockPart, ClaimPart, IsStreamText}
-use Rattle.fz_judge.specs.of_verdict.View.{located_block}
-use Rattle.fz_judge.specs.of_verdict.declared.completion.Completion.{Completion}
-use Rattle.fz_judge.specs.of_verdict.Completed.{AreVerdicts}
-use Rattle.fz_judge.specs.of_verdict.Verdict.{Fault, Reason, Verdict, Answer, answer_of}
-use Rattle.fz_judge.specs.of_verdict.Verdict.Fault.{PrintedFault, DomainFault, DefinitionFault, ConstraintFault, NotBetter}
-use Rattle.fz_judge.specs.of_verdict.Verdict.Reason.{NoValueFor, NotKnown, NotShownBetter, SumTooLarge}
-use Rattle.fz_judge.specs.of_verdict.Verdict.Verdict.{Satisfied, Violated, Undecided}
-use Rattle.fz_judge.specs.of_verdict.Verdict.Answer.{Accepted, Rejected, UndecidedAt, NoBlocks}
+use Rattle.fz_judge.specs.BlockView.{located_block}
+use Rattle.fz_judge.specs.declared.completion.Completion.{Completion}
+use Rattle.fz_judge.specs.Completed.{AreVerdicts}
+use Rattle.fz_judge.specs.Verdict.{Fault, Reason, Verdict, Answer, answer_of}
+use Rattle.fz_judge.specs.Verdict.Fault.{PrintedFault, DomainFault, DefinitionFault, ConstraintFault, NotBetter}
+use Rattle.fz_judge.specs.Verdict.Reason.{NoValueFor, NotKnown, NotShownBetter, SumTooLarge}
+use Rattle.fz_judge.specs.Verdict.Verdict.{Satisfied, Violated, Undecided}
+use Rattle.fz_judge.specs.Verdict.Answer.{Accepted, Rejected, UndecidedAt, NoBlocks}
 
 -- the verdict on the block of this number, from 1; a claim; what was cut off; the answer
 pub data Event : Type 0 where

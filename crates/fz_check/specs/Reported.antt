@@ -7,12 +7,12 @@ use Rattle.fz_judge.specs.of_model.States.{IsKnownSolution}
 use Rattle.fz_judge.specs.of_model.Names.{HasNoFault, model_of}
 use Rattle.fz_judge.specs.of_model.Texts.{IsLoadedFrom}
 use Rattle.fz_judge.specs.of_stream.Parts.{StreamPart}
-use Rattle.fz_judge.specs.of_verdict.declared.completion.Completion.{Completion}
-use Rattle.fz_judge.specs.of_verdict.Solutions.{Block, Extends, Improves}
-use Rattle.fz_judge.specs.of_verdict.Verdict.{Answer, Verdict, Fault}
-use Rattle.fz_judge.specs.of_verdict.View.{located_block}
-use Rattle.fz_judge.specs.of_verdict.Verdict.Verdict.{Satisfied, Violated}
-use Rattle.fz_judge.specs.of_verdict.Verdict.Fault.{NotBetter}
+use Rattle.fz_judge.specs.declared.completion.Completion.{Completion}
+use Rattle.fz_judge.specs.Solutions.{Block, Extends, Improves}
+use Rattle.fz_judge.specs.Verdict.{Answer, Verdict, Fault}
+use Rattle.fz_judge.specs.BlockView.{located_block}
+use Rattle.fz_judge.specs.Verdict.Verdict.{Satisfied, Violated}
+use Rattle.fz_judge.specs.Verdict.Fault.{NotBetter}
 use Rattle.fz_check.specs.Report.{Event, HaveVerdicts, IsReport}
 
 -- The model's bytes are a text of a tree without faults, and this holds of its model.

@@ -6,7 +6,7 @@ use Rattle.fz_judge.specs.of_syntax.Text.{IsTextOfTree}
 use Rattle.fz_judge.specs.of_syntax.Tokens.{toks}
 use Rattle.fz_judge.specs.of_model.Located.{LocatedTree, bare_of}
 use Rattle.fz_judge.specs.of_model.Names.{HasNoFault, model_of}
-use Rattle.fz_outputs.specs.Outputs.{with_all_printed}
+use Rattle.fz_check.specs.Outputs.{with_all_printed}
 
 -- The model's bytes are a text of a tree without faults, and what is shown is that tree's canonical
 -- text, which lexes to its tokens.

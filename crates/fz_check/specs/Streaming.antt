@@ -9,9 +9,9 @@ use Rattle.fz_judge.specs.of_stream.declared.error.StreamError.TheVariants.{Memo
 use Rattle.fz_judge.specs.of_stream.Faults.{IsStreamFault}
 use Rattle.fz_judge.specs.of_stream.Found.{HasPlaces, block_of}
 use Rattle.fz_judge.specs.of_stream.Parts.{blocks_in, StreamPart, BlockPart, IsStreamText}
-use Rattle.fz_judge.specs.of_verdict.View.{located_block}
-use Rattle.fz_judge.specs.of_verdict.declared.completion.Completion.{Completion}
-use Rattle.fz_judge.specs.of_verdict.Verdict.{Verdict, Answer, answer_of}
+use Rattle.fz_judge.specs.BlockView.{located_block}
+use Rattle.fz_judge.specs.declared.completion.Completion.{Completion}
+use Rattle.fz_judge.specs.Verdict.{Verdict, Answer, answer_of}
 use Rattle.fz_judge.specs.declared.error.BlockError.{BlockError}
 use Rattle.fz_judge.specs.declared.error.BlockError.TheVariants.{Memory}
 use Rattle.fz_judge.specs.Judged.{IsBlockRefusal}

@@ -11,11 +11,11 @@ use Rattle.fz_judge.specs.of_stream.declared.error.StreamError.TheVariants.{Memo
 use Rattle.fz_judge.specs.of_stream.Faults.{IsStreamFault}
 use Rattle.fz_judge.specs.of_stream.Found.{EndsWithin, HasPlaces, block_of}
 use Rattle.fz_judge.specs.of_stream.Parts.{blocks_in, StreamPart, BlockPart, Frame, IsStreamText}
-use Rattle.fz_judge.specs.of_verdict.Solutions.{Block}
-use Rattle.fz_judge.specs.of_verdict.View.{located_block}
-use Rattle.fz_judge.specs.of_verdict.declared.completion.Completion.{Completion}
-use Rattle.fz_judge.specs.of_verdict.Completed.{AreTold, AreVerdicts}
-use Rattle.fz_judge.specs.of_verdict.Verdict.{Answer, Verdict, first_number, is_undecided, is_violated}
+use Rattle.fz_judge.specs.Solutions.{Block}
+use Rattle.fz_judge.specs.BlockView.{located_block}
+use Rattle.fz_judge.specs.declared.completion.Completion.{Completion}
+use Rattle.fz_judge.specs.Completed.{AreTold, AreVerdicts}
+use Rattle.fz_judge.specs.Verdict.{Answer, Verdict, first_number, is_undecided, is_violated}
 use Rattle.fz_judge.specs.declared.error.BlockError.{BlockError}
 use Rattle.fz_judge.specs.declared.error.BlockError.TheVariants.{Memory}
 use Rattle.fz_judge.specs.Judged.{IsBlockRefusal}

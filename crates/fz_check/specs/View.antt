@@ -1,6 +1,6 @@
 -- What the code tells and answers, as definitions have it.
 use Rattle.std.specs.Prelude.{List, [], ◌∷◌, ◌++◌, map}
-use Rattle.fz_judge.specs.of_verdict.Verdict as plain
+use Rattle.fz_judge.specs.Verdict as plain
 use Rattle.fz_judge.specs.View.{verdict_view}
 use Rattle.fz_check.specs.declared.tally.Answer.{Answer}
 use Rattle.fz_check.specs.declared.tally.Answer.TheVariants as answers

@@ -19,12 +19,12 @@ ghost use Rattle.fz_check.specs.View.{answer_view, report_view};
 
 use crate::error::{CheckError, stream_refusal};
 use crate::jury::Jury;
+use crate::outputs::print_all;
 use crate::report::{Entry, Report};
+use fz_judge::Completion;
 use fz_judge::fz_model::{LoadError, Model, ModelError, load, load_text};
 use fz_judge::fz_stream::{Block, Claim, Stream, blocks};
 use fz_judge::fz_syntax::{Ast, SyntaxError, parse, to_text};
-use fz_judge::fz_verdict::Completion;
-use fz_outputs::print_all;
 use std::alloc::{AllocError, Global};
 
 /// The model of a text.

@@ -1,8 +1,8 @@
 //! The verdicts on blocks, one after another, and the answer on all of them.
 
 ghost use Rattle.std.specs.Prelude.{◌≡◌, ◌+◌, ◌<◌, None, IfOk, IfErr, OnOk};
-ghost use Rattle.fz_judge.specs.of_verdict.Verdict.{answer_by};
-ghost use Rattle.fz_judge.specs.of_verdict.View.{located_block};
+ghost use Rattle.fz_judge.specs.Verdict.{answer_by};
+ghost use Rattle.fz_judge.specs.BlockView.{located_block};
 ghost use Rattle.fz_judge.specs.View.{verdict_view};
 ghost use Rattle.fz_check.specs.Telling.{IsUnjudged, JudgesOneMore};
 ghost use Rattle.fz_check.specs.View.{answer_view};
@@ -11,8 +11,7 @@ use crate::error::CheckError;
 use crate::tally::{Answer, Tally};
 use fz_judge::fz_model::Model;
 use fz_judge::fz_stream::Block;
-use fz_judge::fz_verdict::Completion;
-use fz_judge::{BlockError, Judge, Verdict};
+use fz_judge::{BlockError, Completion, Judge, Verdict};
 use std::alloc::Global;
 
 /// A judge of a model's blocks, and a count of the verdicts that it gave.

@@ -1,6 +1,6 @@
 ghost use Rattle.std.specs.Prelude.{◌≡◌, ◌+◌, ◌<◌, [], cond, Some, None};
 ghost use Rattle.std.specs.Option.{option_or};
-ghost use Rattle.fz_judge.specs.of_verdict.Verdict.{answer_by, is_undecided, is_violated};
+ghost use Rattle.fz_judge.specs.Verdict.{answer_by, is_undecided, is_violated};
 ghost use Rattle.fz_judge.specs.View.{verdict_view};
 ghost use Rattle.fz_check.specs.View.{answer_view};
 

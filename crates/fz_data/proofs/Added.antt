@@ -2,22 +2,24 @@
 use Rattle.std.proofs.Common.{◌≡◌, ℕ, ◌<◌, Bool, true, false, not, cond, ◌&&◌, List, [], ◌∷◌, ◌++◌, map, length, Option, Some, None, option_map, slice_get, is_some, refl, sym, ap, ◌∙◌}
 use Rattle.std.specs.List.{AllByRecursion}
 use Rattle.std.specs.Option.{option_map_or}
+use Rattle.std.proofs.lemmas.Bool.{and_right, cond-true, cond-false}
 use Rattle.std.proofs.lemmas.Option.{slice_get_within}
+use Rattle.fz_names.proofs.of_meaning.Points.{slice_get_at}
 use Rattle.fz_base.specs.declared.value.Value.{Value}
-use Rattle.fz_meaning.specs.declared.kind.Kind.{Kind}
-use Rattle.fz_meaning.specs.declared.term.Term.{Term}
-use Rattle.fz_meaning.specs.declared.term.Term.TheVariants.{Var, Fixed}
-use Rattle.fz_meaning.specs.declared.term.Domain.{Domain}
-use Rattle.fz_meaning.specs.declared.term.Domain.TheVariants.{All, Within, Among}
-use Rattle.fz_meaning.specs.Relations.{kind_of, same_kind}
-use Rattle.fz_meaning.specs.Located.{Decl}
-use Rattle.fz_meaning.specs.Meaning.{Place, declared_points, definition_points, admits_all}
-use Rattle.fz_meaning.specs.Meaning.Place.{Scalar, Array}
-use Rattle.fz_meaning.specs.Meaning.Declared.{Parameter, ScalarVariable, ArrayOfVariables}
-use Rattle.fz_meaning.specs.Meaning.Point.{DomainPoint, ArrayPoint}
-use Rattle.fz_meaning.specs.Names.{parts, kind_of_base, domain_of, is_scalar, is_scalar_variable, number_of, literal_of, term_of, place_of_declared, definition_of, declared_of, variable_declared, declares}
-use Rattle.fz_meaning.proofs.Scope.{same_kind_is}
-use Rattle.fz_meaning.proofs.KnownNames.{next_number, number_here}
+use Rattle.fz_names.specs.of_meaning.declared.kind.Kind.{Kind}
+use Rattle.fz_names.specs.of_meaning.declared.term.Term.{Term}
+use Rattle.fz_names.specs.of_meaning.declared.term.Term.TheVariants.{Var, Fixed}
+use Rattle.fz_names.specs.of_meaning.declared.term.Domain.{Domain}
+use Rattle.fz_names.specs.of_meaning.declared.term.Domain.TheVariants.{All, Within, Among}
+use Rattle.fz_names.specs.of_meaning.Relations.{kind_of, same_kind}
+use Rattle.fz_names.specs.of_meaning.Located.{Decl}
+use Rattle.fz_names.specs.of_meaning.Meaning.{Place, declared_points, definition_points, admits_all}
+use Rattle.fz_names.specs.of_meaning.Meaning.Place.{Scalar, Array}
+use Rattle.fz_names.specs.of_meaning.Meaning.Declared.{Parameter, ScalarVariable, ArrayOfVariables}
+use Rattle.fz_names.specs.of_meaning.Meaning.Point.{DomainPoint, ArrayPoint}
+use Rattle.fz_names.specs.of_meaning.Names.{parts, kind_of_base, domain_of, is_scalar, is_scalar_variable, number_of, literal_of, term_of, place_of_declared, definition_of, declared_of, variable_declared, declares}
+use Rattle.fz_names.proofs.of_meaning.Scope.{same_kind_is}
+use Rattle.fz_names.proofs.of_meaning.KnownNames.{next_number, number_here}
 use Rattle.fz_data.specs.declared.parts.Array as the_array
 use Rattle.fz_names.specs.Naming.{Declared as declarations}
 use Rattle.fz_data.specs.declared.parts.DeclaredPoint.TheVariants as points
@@ -28,32 +30,17 @@ use Rattle.fz_data.specs.Layout.{IsPlaced}
 use Rattle.fz_data.specs.Scope.{has_elements_point}
 use Rattle.fz_data.proofs.Stands.{Adds}
 
-cond_true : {A : Type 0} (b : Bool) (x y : A) → b ≡ true → cond b x y ≡ x
-cond_true b x y e = ap (λ c. cond c x y) e
-
-cond_false : {A : Type 0} (b : Bool) (x y : A) → b ≡ false → cond b x y ≡ y
-cond_false b x y e = ap (λ c. cond c x y) e
-
-and_false : (b : Bool) → (b && false) ≡ false
-and_false true = refl
-and_false false = refl
-
-stands_behind : {A : Type 0} (xs : List A) (x : A) (ys : List A)
-    → slice_get (xs ++ x ∷ ys) (length xs) ≡ Some x
-stands_behind [] x ys = refl
-stands_behind (y ∷ xs) x ys = stands_behind xs x ys
-
 -- ---- a parameter
 
 module _ (all known : List Decl) (d : Decl) (k : List ℕ) (v : Value) (named : k ≡ d.name.text) (scalar : is_scalar d ≡ true) (fixed : d.is_var ≡ false) (value : v ≡ literal_of d.value)
     (kinds : same_kind (kind_of v) (kind_of_base d.base) ≡ true) where
   parameter_place : place_of_declared all d ≡ Scalar (kind_of v) (Fixed v)
   parameter_place =
-      cond_true (is_scalar d) _ _ scalar ∙ ap (Scalar (kind_of_base d.base)) (cond_false d.is_var _ _ fixed)
+      cond-true (is_scalar d) _ _ scalar ∙ ap (Scalar (kind_of_base d.base)) (cond-false d.is_var _ _ fixed)
       ∙ (λ i. Scalar (sym (same_kind_is (kind_of v) (kind_of_base d.base) kinds) i) (Fixed (sym value i)))
 
   parameter_is : declared_of all d ≡ Parameter d.name.text (place_of_declared all d)
-  parameter_is = cond_false d.is_var _ _ fixed
+  parameter_is = cond-false d.is_var _ _ fixed
 
   pub adds_parameter : (vs : List Variable) (xs : List the_array.Array)
       → Adds all known d (k, declarations.Scalar (Fixed v)) vs [] xs [] []
@@ -91,14 +78,14 @@ module _ (all known : List Decl) (d : Decl) (rest : List Decl) (split : all ≡ 
   number = count ∙ sym (number_here known d rest new is_one) ∙ ap (λ ds. number_of ds d.name.text) (sym split)
 
   variable_is : declared_of all d ≡ ScalarVariable (variable_declared d) (definition_of all d.value)
-  variable_is = cond_true d.is_var _ _ varies ∙ cond_true (is_scalar d) _ _ scalar
+  variable_is = cond-true d.is_var _ _ varies ∙ cond-true (is_scalar d) _ _ scalar
 
   variable_place : place_of_declared all d
       ≡ Scalar (kind_of_base d.base) (Var (number_of all d.name.text))
-  variable_place = cond_true (is_scalar d) _ _ scalar ∙ ap (Scalar (kind_of_base d.base)) (cond_true d.is_var _ _ varies)
+  variable_place = cond-true (is_scalar d) _ _ scalar ∙ ap (Scalar (kind_of_base d.base)) (cond-true d.is_var _ _ varies)
 
   at : (ws : List Variable) → slice_get (vs ++ v ∷ ws) (length vs) ≡ Some v
-  at ws = stands_behind vs v ws
+  at ws = slice_get_at vs ws v
 
   variable_there : (ws : List Variable)
       → variable_at (vs ++ v ∷ ws) (length vs) ≡ variable_declared d
@@ -145,7 +132,7 @@ module _ (all known : List Decl) (d : Decl) (k : List ℕ) (x : the_array.Array)
     (kind : x.kind ≡ kind_of_base d.base) (domain : x.domain ≡ domain_of d.base) (elements : elements_of x ≡ map (term_of all) (parts d.value)) (vs : List Variable) (xs : List the_array.Array) where
   array_place : place_of_declared all d
       ≡ Array d.name.text (kind_of_base d.base) (map (term_of all) (parts d.value))
-  array_place = cond_false (is_scalar d) _ _ list
+  array_place = cond-false (is_scalar d) _ _ list
 
   array_is : declared_of all d ≡ cond d.is_var (ArrayOfVariables d.name.text (kind_of_base d.base)
       (domain_of d.base) (map (term_of all) (parts d.value)))
@@ -157,7 +144,7 @@ module _ (all known : List Decl) (d : Decl) (k : List ℕ) (x : the_array.Array)
   declared_is = (λ i. cond (varies i) (ArrayOfVariables (name i) (kind i) (domain i) (elements i)) (Parameter (name i) (Array (name i) (kind i) (elements i)))) ∙ sym array_is
 
   here : (ys : List the_array.Array) → slice_get (xs ++ x ∷ ys) (length xs) ≡ Some x
-  here ys = stands_behind xs x ys
+  here ys = slice_get_at xs ys x
 
   pub adds_array : Adds all known d (k, declarations.Array (length xs)) vs [] xs (x ∷ [])
       (cond (has_elements_point x) (points.Elements (length xs) ∷ []) [])
@@ -165,7 +152,7 @@ module _ (all known : List Decl) (d : Decl) (k : List ℕ) (x : the_array.Array)
     declared = λ ws ys. ap (λ o. option_map_or array_declared o (Parameter k no_array)) (here ys) ∙ declared_is;
     places = λ ws ys. (λ i. (named i, (ap (λ o. option_map_or array_view o no_array) (here ys) ∙ (λ j. Array (name j) (kind j) (elements j)) ∙ sym array_place) i));
     kept = λ ys. ap (option_map (λ (a : the_array.Array). a.name.now)) (here ys) ∙ ap Some (name ∙ sym named);
-    variables = ap (λ b. map variable_declared (cond b (d ∷ []) [])) (sym (ap (λ b. d.is_var && b) list ∙ and_false d.is_var));
+    variables = ap (λ b. map variable_declared (cond b (d ∷ []) [])) (sym (ap (λ b. d.is_var && b) list ∙ and_right d.is_var false refl));
     points = λ ws ys. map_cond (declared_point (vs ++ ws) (xs ++ x ∷ ys)) (has_elements_point x) (points.Elements (length xs))
         ∙ ap (λ o. cond (has_elements_point x) (option_map_or elements_point o (ArrayPoint [] All []) ∷ []) []) (here ys)
         ∙ bounded_points x.is_variable (next_number known) x.name.now x.kind x.domain (elements_of x) (array_view x) ∙ ap (λ q. declared_points (next_number known, q)) declared_is;

@@ -2,27 +2,27 @@
 use Rattle.std.proofs.Common.{◌≡◌, ◌≢◌, ◌<◌, ◌+◌, min, get_or, drop, ℕ, zero, suc, Bool, true, false, ◌&&◌, List, [], ◌∷◌, map, flat_map, length, Option, Some, None, slice_get, refl, sym, ap, ◌∙◌, ◌==◌, arith}
 use Rattle.std.specs.Option.{option_map_or}
 use Rattle.std.specs.List.{list_all}
-use Rattle.std.proofs.lemmas.Bool.{false≢true}
+use Rattle.std.proofs.lemmas.Bool.{false≢true, and_parts, and_right}
 use Rattle.std.proofs.lemmas.List.{at_drop_more, at_drop_all, length-map}
 use Rattle.std.proofs.lemmas.List.Folds.{list_all-map}
-use Rattle.fz_meaning.specs.Builtins.{Row, Shape as Kinds}
-use Rattle.fz_meaning.specs.Builtins.Shape.{ScalarOf, ArrayOf}
-use Rattle.fz_meaning.specs.Relations.{same_kind}
-use Rattle.fz_meaning.specs.Meaning as meaning
-use Rattle.fz_meaning.specs.declared.kind.Kind.{Kind}
-use Rattle.fz_meaning.specs.declared.kind.Kind.TheVariants.{Int as IntKind}
-use Rattle.fz_meaning.specs.declared.row.Shape.{Shape}
-use Rattle.fz_meaning.specs.declared.row.Matrix.{Matrix}
-use Rattle.fz_meaning.specs.declared.row.Matrix.TheVariants.{Absent, RowsLike, RowsBy}
-use Rattle.fz_meaning.specs.Known.{shape_of}
+use Rattle.fz_names.specs.of_meaning.Builtins.{Row, Shape as Kinds}
+use Rattle.fz_names.specs.of_meaning.Builtins.Shape.{ScalarOf, ArrayOf}
+use Rattle.fz_names.specs.of_meaning.Relations.{same_kind}
+use Rattle.fz_names.specs.of_meaning.Meaning as meaning
+use Rattle.fz_names.specs.of_meaning.declared.kind.Kind.{Kind}
+use Rattle.fz_names.specs.of_meaning.declared.kind.Kind.TheVariants.{Int as IntKind}
+use Rattle.fz_names.specs.of_meaning.declared.row.Shape.{Shape}
+use Rattle.fz_names.specs.of_meaning.declared.row.Matrix.{Matrix}
+use Rattle.fz_names.specs.of_meaning.declared.row.Matrix.TheVariants.{Absent, RowsLike, RowsBy}
+use Rattle.fz_names.specs.of_meaning.Known.{shape_of}
 use Rattle.fz_data.specs.declared.parts.Variable.{Variable}
 use Rattle.fz_data.specs.declared.parts.Array.{Array}
-use Rattle.fz_store.specs.declared.store.Slot.{Slot}
-use Rattle.fz_store.specs.declared.store.Slot.TheVariants as slots
-use Rattle.fz_store.specs.declared.store.Argument.{Argument}
-use Rattle.fz_store.specs.declared.store.Argument.TheVariants as arguments
-use Rattle.fz_store.specs.declared.store.Store.{Store}
-use Rattle.fz_store.specs.Slots.{slot_term, segment}
+use Rattle.fz_data.specs.declared.store.Slot.{Slot}
+use Rattle.fz_data.specs.declared.store.Slot.TheVariants as slots
+use Rattle.fz_data.specs.declared.store.Argument.{Argument}
+use Rattle.fz_data.specs.declared.store.Argument.TheVariants as arguments
+use Rattle.fz_data.specs.declared.store.Store.{Store}
+use Rattle.fz_data.specs.Slots.{slot_term, segment}
 use Rattle.fz_data.specs.Parts.{argument_view, place_view, array_view, no_array}
 use Rattle.fz_data.specs.Fitting.{is_of_kind, is_scalar_of, is_array_slot, is_array_of, slot_length, length_of, length_at, are_equally_long, number_of, number_at, stands_in_rows, have_lengths}
 
@@ -30,18 +30,6 @@ list_all-same : {A : Type 0} (f g : A → Bool) → ((x : A) → f x ≡ g x) �
     → list_all f xs ≡ list_all g xs
 list_all-same f g same [] = refl
 list_all-same f g same (x ∷ xs) = λ i. same x i && list_all-same f g same xs i
-
-and_right : (a : Bool) {b : Bool} → (a && b) ≡ true → b ≡ true
-and_right true h = h
-and_right false h = absurd (false≢true h)
-
-and_left : (a b : Bool) → (a && b) ≡ true → a ≡ true
-and_left true b h = refl
-and_left false b h = h
-
-and_false : (a : Bool) → (a && false) ≡ false
-and_false true = refl
-and_false false = refl
 
 counted : (o : Option Array) → option_map_or (λ (a : Array). length a.elements.slots.items) o 0
     ≡ length (meaning.terms_at (option_map_or array_view o no_array))
@@ -61,11 +49,8 @@ module _ (vs : List Variable) (xs : List Array) (st : Store) where
 
   term_of : (k : Kind) (s : Slot)
       → is_of_kind vs st.constants.items k s ≡ meaning.is_term_of k (view s)
-  term_of k (slots.Variable n) = refl
-  term_of k (slots.Number i) = refl
-  term_of k (slots.Truth b) = refl
-  term_of k (slots.Constant c) = refl
   term_of k (slots.Array i) = sym (array_is_no_term k (slice_get xs i))
+  term_of k _ = refl
 
   scalar_by_term : (k : Kind) (p : meaning.Place)
       → meaning.is_term_of k p ≡ meaning.has_shape (ScalarOf k) (meaning.Argument.One p)
@@ -85,11 +70,8 @@ module _ (vs : List Variable) (xs : List Array) (st : Store) where
 
   array_slot : (k : Kind) (s : Slot)
       → is_array_slot xs k s ≡ meaning.has_shape (ArrayOf k) (meaning.Argument.One (view s))
-  array_slot k (slots.Variable n) = refl
-  array_slot k (slots.Number i) = refl
-  array_slot k (slots.Truth b) = refl
-  array_slot k (slots.Constant c) = refl
   array_slot k (slots.Array i) = has_kind k (slice_get xs i)
+  array_slot k _ = refl
 
   pub array_of : (k : Kind) (a : Argument) → is_array_of vs xs st.constants.items st.slots.items k a
       ≡ meaning.has_shape (ArrayOf k) (argument_view vs xs st a)
@@ -102,18 +84,12 @@ module _ (vs : List Variable) (xs : List Array) (st : Store) where
   scalars_counted : (k : Kind) (ss : List Slot) → list_all (meaning.is_term_of k) (map view ss)
       ≡ true → length ss ≡ length (flat_map meaning.terms_at (map view ss))
   scalars_counted k [] h = refl
-  scalars_counted k (slots.Variable n ∷ ss) h = ap suc (scalars_counted k ss (and_right (meaning.is_term_of k (view (slots.Variable n))) h))
-  scalars_counted k (slots.Number i ∷ ss) h = ap suc (scalars_counted k ss (and_right (meaning.is_term_of k (view (slots.Number i))) h))
-  scalars_counted k (slots.Truth b ∷ ss) h = ap suc (scalars_counted k ss (and_right (meaning.is_term_of k (view (slots.Truth b))) h))
-  scalars_counted k (slots.Constant c ∷ ss) h = ap suc (scalars_counted k ss (and_right (meaning.is_term_of k (view (slots.Constant c))) h))
   scalars_counted k (slots.Array i ∷ ss) h = absurd (false≢true (ap (λ b. b && list_all (meaning.is_term_of k) (map view ss)) (sym (array_is_no_term k (slice_get xs i))) ∙ h))
+  scalars_counted k (s ∷ ss) h = ap suc (scalars_counted k ss (and_parts (meaning.is_term_of k (view s)) _ h).1)
 
   slot_counted : (s : Slot) → slot_length xs s ≡ length (meaning.terms_at (view s))
-  slot_counted (slots.Variable n) = refl
-  slot_counted (slots.Number i) = refl
-  slot_counted (slots.Truth b) = refl
-  slot_counted (slots.Constant c) = refl
   slot_counted (slots.Array i) = counted (slice_get xs i)
+  slot_counted _ = refl
 
   -- an argument that has a shape has the length that is counted
   length_is : (s : Kinds) (a : Argument) → meaning.has_shape s (argument_view vs xs st a) ≡ true
@@ -127,8 +103,8 @@ module _ (vs : List Variable) (xs : List Array) (st : Store) where
       → length_at xs st.slots.items as' i ≡ meaning.length_at (map (argument_view vs xs st) as') i
   length_there ss [] i h = refl
   length_there [] (a ∷ as') i h = absurd (false≢true h)
-  length_there (s ∷ ss) (a ∷ as') zero h = length_is s a (and_left (meaning.has_shape s (argument_view vs xs st a)) _ h)
-  length_there (s ∷ ss) (a ∷ as') (suc i) h = length_there ss as' i (and_right (meaning.has_shape s (argument_view vs xs st a)) h)
+  length_there (s ∷ ss) (a ∷ as') zero h = length_is s a (and_parts (meaning.has_shape s (argument_view vs xs st a)) _ h).0
+  length_there (s ∷ ss) (a ∷ as') (suc i) h = length_there ss as' i (and_parts (meaning.has_shape s (argument_view vs xs st a)) _ h).1
 
   equally_long_are : (ss : List Kinds) (is : List ℕ) (as' : List Argument)
       → meaning.have_shapes ss (map (argument_view vs xs st) as') ≡ true
@@ -145,12 +121,8 @@ module _ (vs : List Variable) (xs : List Array) (st : Store) where
 
   number_is : (a : Argument)
       → number_of st.constants.items a ≡ meaning.fixed_number (argument_view vs xs st a)
-  number_is (arguments.One (slots.Variable n)) = refl
-  number_is (arguments.One (slots.Number i)) = refl
-  number_is (arguments.One (slots.Truth b)) = refl
-  number_is (arguments.One (slots.Constant c)) = refl
   number_is (arguments.One (slots.Array i)) = array_is_no_number (slice_get xs i)
-  number_is (arguments.List g) = refl
+  number_is _ = refl
 
   number_there : (as' : List Argument) (i : ℕ) → number_at st.constants.items as' i
       ≡ meaning.fixed_number_at (map (argument_view vs xs st) as') i
@@ -184,10 +156,9 @@ module _ (vs : List Variable) (xs : List Array) (st : Store) where
   pub fit_not_long : (ss : List Shape) (as' : List Argument) → length ss ≢ length as'
       → false ≡ fit ss as'
   fit_not_long [] [] h = absurd (h refl)
-  fit_not_long [] (a ∷ as') h = refl
-  fit_not_long (s ∷ ss) [] h = refl
   fit_not_long (s ∷ ss) (a ∷ as') h =
-      sym (and_false (meaning.has_shape (shape_of s) (argument_view vs xs st a))) ∙ ap (λ b. meaning.has_shape (shape_of s) (argument_view vs xs st a) && b) (fit_not_long ss as' (λ e. h (ap suc e)))
+      sym (and_right (meaning.has_shape (shape_of s) (argument_view vs xs st a)) false refl) ∙ ap (λ b. meaning.has_shape (shape_of s) (argument_view vs xs st a) && b) (fit_not_long ss as' (λ e. h (ap suc e)))
+  fit_not_long _ _ h = refl
 
   module _ (ss : List Shape) (as' : List Argument) (k : ℕ) where
     module _ (s : Shape) (a : Argument) (lt : k < length ss) (lt' : k < length as') (at : s ≡ get_or ss k s) (at' : a ≡ get_or as' k a)

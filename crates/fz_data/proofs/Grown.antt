@@ -4,17 +4,18 @@ use Rattle.std.proofs.lemmas.Bool.{false≢true}
 use Rattle.std.proofs.lemmas.List.{append-nil, map-append, length-map}
 use Rattle.std.proofs.Math.Seq.{take-append_seam, drop-append_seam}
 use Rattle.fz_base.specs.declared.value.Value.{Value}
-use Rattle.fz_meaning.specs.declared.term.Term.{Term}
+use Rattle.fz_names.specs.of_meaning.declared.term.Term.{Term}
 use Rattle.fz_data.specs.declared.parts.Variable.{Variable}
 use Rattle.fz_data.specs.declared.parts.Array.{Array}
-use Rattle.fz_store.specs.declared.store.Slot.{Slot}
-use Rattle.fz_store.specs.declared.store.Slot.TheVariants as slots
-use Rattle.fz_store.specs.declared.store.Argument.{Argument}
-use Rattle.fz_store.specs.declared.store.Store.{Store}
-use Rattle.fz_store.specs.Slots.{IsGrown, IsSlotOf, is_scalar, slot_term}
+use Rattle.fz_data.specs.declared.store.Slot.{Slot}
+use Rattle.fz_data.specs.declared.store.Slot.TheVariants as slots
+use Rattle.fz_data.specs.declared.store.Argument.{Argument}
+use Rattle.fz_data.specs.declared.store.Store.{Store}
+use Rattle.fz_data.specs.Slots.{IsGrown, IsSlotOf, is_scalar, slot_term}
 use Rattle.fz_data.specs.Parts.{place_view, scalar_view}
 use Rattle.fz_data.specs.Posting.{IsLonger}
 use Rattle.fz_data.proofs.Loops.{two_more}
+use Rattle.fz_data.proofs.Tells.{tells_stop}
 
 -- ---- one list
 
@@ -54,11 +55,8 @@ argument_pushed before after a pushed slots constants = record {
 
 pub scalar_is : (vs : List Variable) (xs : List Array) (cs : List Value) (s : Slot)
     → is_scalar s ≡ true → place_view vs xs cs s ≡ scalar_view vs (slot_term cs s)
-scalar_is vs xs cs (slots.Variable n) h = refl
-scalar_is vs xs cs (slots.Number i) h = refl
-scalar_is vs xs cs (slots.Truth b) h = refl
-scalar_is vs xs cs (slots.Constant k) h = refl
 scalar_is vs xs cs (slots.Array i) h = absurd (false≢true h)
+scalar_is vs xs cs _ h = refl
 
 -- a slot of a scalar stands for it, whatever constants are appended
 pub slot_is : (vs : List Variable) (xs : List Array) (cs : List Value) (t : Term) (s : Slot)
@@ -131,3 +129,6 @@ module _ {E A V : Type 0} (Later : E → E → Type 0) (view : E → A → V) wh
   segment_is e old new xs first n from many s self later h items g =
       let long : length s.behind ≡ length xs = sym (length-map s.behind (view e)) ∙ ap length (s.reads e self) in
       ap (map (view later)) (taken_behind old s.behind new first n s.grown from (many ∙ sym long) items g) ∙ s.reads later h
+
+-- what a loop over the parts of an argument cites
+pub ruleset grows = (tells_stop, none_so_far, longer_none)

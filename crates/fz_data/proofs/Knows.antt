@@ -6,29 +6,29 @@ use Rattle.std.specs.Option.{option_map_or, option_or}
 use Rattle.std.specs.Map.{lookup}
 use Rattle.std.proofs.lemmas.List.{append-nil}
 use Rattle.fz_base.specs.declared.span.Span.{Span}
-use Rattle.fz_meaning.specs.declared.kind.Kind.{Kind}
-use Rattle.fz_meaning.specs.declared.kind.Kind.TheVariants.{Int as IntKind}
-use Rattle.fz_meaning.specs.declared.term.Term.TheVariants.{Var, Fixed}
-use Rattle.fz_meaning.specs.Relations.{same_kind}
-use Rattle.fz_meaning.specs.Located.{Basic, Expr, Decl, Constraint, Goal}
-use Rattle.fz_meaning.specs.Located.Basic.{Lit, Named}
-use Rattle.fz_meaning.specs.Located.Expr.{One, Several}
-use Rattle.fz_meaning.specs.Located.Goal.{Satisfy, Minimize, Maximize}
-use Rattle.fz_meaning.specs.Meaning as meaning
-use Rattle.fz_meaning.specs.Meaning.{Place, first_some}
-use Rattle.fz_meaning.specs.Meaning.Place.{Scalar, Array}
-use Rattle.fz_meaning.specs.Names.{parts, kind_of_base, is_scalar, named_as, declares, declaration, number_of, scalar_variable_number, literal_of, scalar_term, term_of, place_of, place_of_declared, definition_of, differs_in_length, argument_of, defined_by, posted_of, aim_of, named_fault, part_fault, parts_fault, decl_fault, constraint_fault, goal_fault}
-use Rattle.fz_meaning.specs.Names.FaultKind.{DuplicateName, WrongKind, WrongLength}
-use Rattle.fz_meaning.proofs.Values.{and_first}
-use Rattle.fz_meaning.specs.of_syntax.Tree.{Note, NoteBasic}
-use Rattle.fz_meaning.specs.of_syntax.Tree.Note.{Called}
-use Rattle.fz_meaning.specs.of_syntax.Tree.NoteArgs.{NoMoreArgs, MoreArgs}
-use Rattle.fz_meaning.specs.of_syntax.Tree.NoteArg.{OneBasic, ListOf}
-use Rattle.fz_meaning.specs.of_syntax.Tree.NoteBasic.{NoteLiteral, NoteFloat, NoteString, Inner}
-use Rattle.fz_meaning.proofs.KnownNames.{clean_name, found_stays, term_found}
-use Rattle.fz_meaning.proofs.Names.{AreNew, variable_number, number_by_name}
-use Rattle.fz_meaning.proofs.ScanSteps.{first_none, second_none, constraint_by_arguments}
-use Rattle.fz_meaning.proofs.Table.{term_or_array}
+use Rattle.fz_names.specs.of_meaning.declared.kind.Kind.{Kind}
+use Rattle.fz_names.specs.of_meaning.declared.kind.Kind.TheVariants.{Int as IntKind}
+use Rattle.fz_names.specs.of_meaning.declared.term.Term.TheVariants.{Var, Fixed}
+use Rattle.fz_names.specs.of_meaning.Relations.{same_kind}
+use Rattle.fz_names.specs.of_meaning.Located.{Basic, Expr, Decl, Constraint, Goal}
+use Rattle.fz_names.specs.of_meaning.Located.Basic.{Lit, Named}
+use Rattle.fz_names.specs.of_meaning.Located.Expr.{One, Several}
+use Rattle.fz_names.specs.of_meaning.Located.Goal.{Satisfy, Minimize, Maximize}
+use Rattle.fz_names.specs.of_meaning.Meaning as meaning
+use Rattle.fz_names.specs.of_meaning.Meaning.{Place, first_some}
+use Rattle.fz_names.specs.of_meaning.Meaning.Place.{Scalar, Array}
+use Rattle.fz_names.specs.of_meaning.Names.{parts, kind_of_base, is_scalar, named_as, declares, declaration, number_of, scalar_variable_number, literal_of, scalar_term, term_of, place_of, place_of_declared, definition_of, differs_in_length, argument_of, defined_by, posted_of, aim_of, named_fault, part_fault, parts_fault, decl_fault, constraint_fault, goal_fault}
+use Rattle.fz_names.specs.of_meaning.Names.FaultKind.{DuplicateName, WrongKind, WrongLength}
+use Rattle.fz_names.proofs.of_meaning.Values.{and_first}
+use Rattle.fz_tree.specs.Tree.{Note, NoteBasic}
+use Rattle.fz_tree.specs.Tree.Note.{Called}
+use Rattle.fz_tree.specs.Tree.NoteArgs.{NoMoreArgs, MoreArgs}
+use Rattle.fz_tree.specs.Tree.NoteArg.{OneBasic, ListOf}
+use Rattle.fz_tree.specs.Tree.NoteBasic.{NoteLiteral, NoteFloat, NoteString, Inner}
+use Rattle.fz_names.proofs.of_meaning.KnownNames.{clean_name, found_stays, term_found}
+use Rattle.fz_names.proofs.of_meaning.Names.{AreNew, variable_number, number_by_name}
+use Rattle.fz_names.proofs.of_meaning.ScanSteps.{first_none, second_none, constraint_by_arguments}
+use Rattle.fz_names.proofs.of_meaning.Table.{term_or_array}
 use Rattle.fz_data.specs.declared.scope.Scope.{Scope}
 use Rattle.fz_data.specs.Declarations.{declared_place}
 use Rattle.fz_names.specs.Naming.{has_text}

@@ -14,3 +14,5 @@ pub mod Tabled
 pub mod Loaded
 pub mod RestOfText
 pub mod Grown
+pub mod Flat
+pub use Rattle.fz_names.proofs.of_meaning

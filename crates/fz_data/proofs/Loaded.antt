@@ -2,29 +2,31 @@
 use Rattle.std.proofs.Common.{◌≡◌, List, [], ◌∷◌, ◌++◌, map, Vec, Global, Some, None, refl, sym, ap, subst, ◌∙◌, flat_map, append_assoc}
 use Rattle.std.specs.List.{AllByRecursion}
 use Rattle.std.proofs.lemmas.List.{append-nil}
-use Rattle.fz_meaning.specs.declared.error.ModelError.{ModelError}
-use Rattle.fz_meaning.specs.declared.kind.Kind.TheVariants.{Int as IntKind}
-use Rattle.fz_meaning.specs.Located.{Decl, LocatedTree}
-use Rattle.fz_meaning.specs.Meaning.{declared_points, numbered_from, place_named, variable_of, first_some, find_name, row_of}
-use Rattle.fz_meaning.specs.Names.{goal_parts, number_of, place_of_declared, declared_of, posted_of, aim_of, model_of, decls_fault, constraint_fault, constraints_fault, goal_fault, first_fault}
+use Rattle.fz_names.specs.of_meaning.declared.error.ModelError.{ModelError}
+use Rattle.fz_names.specs.of_meaning.declared.kind.Kind.TheVariants.{Int as IntKind}
+use Rattle.fz_names.specs.of_meaning.Located.{Decl, LocatedTree}
+use Rattle.fz_names.specs.of_meaning.Meaning.{declared_points, numbered_from, place_named, variable_of, first_some, find_name, row_of}
+use Rattle.fz_names.specs.of_meaning.Names.{goal_parts, number_of, place_of_declared, declared_of, posted_of, aim_of, model_of, decls_fault, constraint_fault, constraints_fault, goal_fault, first_fault}
+use Rattle.fz_names.proofs.of_meaning.NamedKinds.{name_fits}
+use Rattle.fz_names.proofs.of_meaning.Scope.{literal_is_of}
 use Rattle.fz_data.specs.Kinds.{PlaceFits, PostedFits}
-use Rattle.fz_meaning.specs.View.{Tells}
-use Rattle.fz_meaning.proofs.KnownNames.{next_number, number_here}
-use Rattle.fz_meaning.proofs.Names.{AreNew, are_new, declared_name, numbered_after, numbered_is, place_named_is}
+use Rattle.fz_names.specs.of_meaning.View.{Tells}
+use Rattle.fz_names.proofs.of_meaning.KnownNames.{next_number, number_here}
+use Rattle.fz_names.proofs.of_meaning.Names.{AreNew, are_new, declared_name, numbered_after, numbered_is, place_named_is}
 use Rattle.fz_data.specs.declared.model.Model.TheInside.{Inside}
 use Rattle.fz_data.specs.declared.parts.Goal as the_goal
 use Rattle.fz_data.specs.declared.parts.Posted as the_posted
 use Rattle.fz_data.specs.declared.scope.Scope.{Scope}
-use Rattle.fz_store.specs.declared.store.Store.{Store}
+use Rattle.fz_data.specs.declared.store.Store.{Store}
 use Rattle.fz_data.specs.Parts.{posted_view, kept_row, goal_view, declared_point}
 use Rattle.fz_data.specs.Layout.{model_view, named_place, IsLaidOut, IsPlaced}
 use Rattle.fz_data.specs.Scope.{posted_in, aim_in, faults_in, constraint_fault_in}
 use Rattle.fz_data.specs.Posting.{Posts}
 use Rattle.fz_data.specs.Stands.{Declares, StandsFor, entry_view, entry_place, is_kept, declared_pair}
-use Rattle.fz_meaning.proofs.ScanSteps.{in_constraints, in_goal, nowhere}
+use Rattle.fz_names.proofs.of_meaning.ScanSteps.{in_constraints, in_goal, nowhere}
 use Rattle.fz_data.proofs.Finds.{first_some-same}
 use Rattle.fz_data.proofs.Grown.{longer_none}
-use Rattle.fz_data.proofs.OwnKinds.{HasOwnKind, name_fits, own_kinds, posted_fit}
+use Rattle.fz_data.proofs.OwnKinds.{HasKind, HasOwnKind, own_kinds, posted_fit}
 use Rattle.fz_data.proofs.Tells.{tells_further}
 use Rattle.fz_data.proofs.Stands.{variables_known}
 use Rattle.fz_data.proofs.Knows.{faults_same, constraint_same, all_posted_same, aim_same}
@@ -97,7 +99,7 @@ module _ (t : LocatedTree) (s : Scope) (held : Store) (cs : Vec the_posted.Poste
     placed = placed_now t.decls s st;
     kept = kept_now t.decls s st;
     rows = rows ∙ ap (map row_of) (sym posted);
-    kinds = λ x p e. subst (λ m. PlaceFits m p) (sym model_is) (name_fits t clean own x p (subst (λ m. find_name m x ≡ Some p) model_is e));
+    kinds = λ x p e. subst (λ m. PlaceFits m p) (sym model_is) (name_fits HasKind t clean literal_is_of own x p (subst (λ m. find_name m x ≡ Some p) model_is e));
     posted_kinds = subst (λ m. AllByRecursion (PostedFits m) m.constraints) (sym model_is) (posted_fit t clean own t.constraints);
   }
 

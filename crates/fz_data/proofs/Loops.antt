@@ -4,12 +4,12 @@ use Rattle.std.specs.List.{AllByRecursion}
 use Rattle.std.specs.Map.{lookup}
 use Rattle.std.proofs.lemmas.List.{map-append}
 use Rattle.std.proofs.lemmas.Slice.Eq.{bytes_eq-Decides}
-use Rattle.fz_meaning.specs.Meaning.{first_some}
-use Rattle.fz_meaning.proofs.ScanSteps.{first_stops, take_one_more}
+use Rattle.fz_names.specs.of_meaning.Meaning.{first_some}
+use Rattle.fz_names.proofs.of_meaning.ScanSteps.{first_stops, take_one_more, first_more}
 use Rattle.fz_names.specs.Naming.{has_text}
-use Rattle.fz_meaning.specs.of_syntax.Tree as tree
-use Rattle.fz_meaning.specs.of_syntax.View.{arg_list, bare_arg}
-use Rattle.fz_meaning.specs.of_syntax.declared.NoteArg.{NoteArg}
+use Rattle.fz_tree.specs.Tree as tree
+use Rattle.fz_tree.specs.View.{arg_list, bare_arg}
+use Rattle.fz_tree.specs.declared.tree.NoteArg.{NoteArg}
 use Rattle.fz_data.specs.Scope.{only_arg}
 
 pub two_more : {A B C : Type 0} (f : B → C) (g : A → B) (xs : List A) (i : ℕ) (x : A)
@@ -47,6 +47,8 @@ found_entry {D} P x (y ∷ es) d h e =
     ]) refl e
 
 pub not_only : (args : List NoteArg) → 2 ≤ length args → ◌≡◌ {A = Option tree.NoteArg} None (only_arg (arg_list (map bare_arg args)))
-not_only [] h = absurd (omega arith)
-not_only (a ∷ []) h = absurd (omega arith)
 not_only (a ∷ b ∷ args) h = refl
+not_only _ h = absurd (omega arith)
+
+-- what `target_of` cites
+pub ruleset first_found = (answer_found, first_more, no_answer)

@@ -2,11 +2,11 @@
 use Rattle.std.proofs.Common.{◌≡◌, ℕ, true, cond, List, [], ◌∷◌, ◌++◌, length, Option, Some, None, is_some, is_none, refl, sym, ap, ◌∙◌}
 use Rattle.std.specs.Map.{lookup}
 use Rattle.std.proofs.lemmas.List.{length-map}
-use Rattle.fz_meaning.specs.Located.{Decl}
-use Rattle.fz_meaning.specs.Names.{parts, kind_of_base, differs_in_length, variable_declared, scalar_variables, Fault, decl_fault}
-use Rattle.fz_meaning.specs.Names.FaultKind.{DuplicateName, WrongLength}
-use Rattle.fz_meaning.proofs.KnownNames.{parts_clean, next_number}
-use Rattle.fz_meaning.proofs.ScanSteps.{is_new, first_none}
+use Rattle.fz_names.specs.of_meaning.Located.{Decl}
+use Rattle.fz_names.specs.of_meaning.Names.{parts, kind_of_base, differs_in_length, variable_declared, scalar_variables, Fault, decl_fault}
+use Rattle.fz_names.specs.of_meaning.Names.FaultKind.{DuplicateName, WrongLength}
+use Rattle.fz_names.proofs.of_meaning.KnownNames.{parts_clean, next_number}
+use Rattle.fz_names.proofs.of_meaning.ScanSteps.{is_new, first_none}
 use Rattle.fz_data.specs.declared.scope.Item.{Item}
 use Rattle.fz_data.specs.declared.scope.Item.TheVariants as items
 use Rattle.fz_data.specs.declared.scope.Scope.{Scope}

@@ -1,8 +1,8 @@
 -- One more declaration is taken in, and one more constraint.
 use Rattle.std.proofs.Common.{◌≡◌, List, [], ◌∷◌, ◌++◌, None, map, refl, sym, ap, subst, ◌∙◌, append_assoc}
-use Rattle.fz_meaning.specs.Located.{Decl}
-use Rattle.fz_meaning.specs.Names.{decl_fault}
-use Rattle.fz_meaning.proofs.ScanSteps.{decls_one_more}
+use Rattle.fz_names.specs.of_meaning.Located.{Decl}
+use Rattle.fz_names.specs.of_meaning.Names.{decl_fault}
+use Rattle.fz_names.proofs.of_meaning.ScanSteps.{decls_one_more}
 use Rattle.fz_data.specs.declared.scope.Item.{Item}
 use Rattle.fz_data.specs.declared.scope.Scope.{Scope}
 use Rattle.fz_data.specs.Scope.{IsAdded, IsItem, decl_fault_in}
@@ -11,11 +11,11 @@ use Rattle.fz_data.proofs.Knows.{decl_same}
 use Rattle.fz_data.proofs.Next.{stands_next}
 use Rattle.fz_data.proofs.Stands.{stands_none}
 use Rattle.std.proofs.lemmas.List.{map-append}
-use Rattle.fz_meaning.specs.Located.{Constraint}
-use Rattle.fz_meaning.specs.Meaning.{first_some, row_of}
-use Rattle.fz_meaning.proofs.ScanSteps.{first_append, both_none}
+use Rattle.fz_names.specs.of_meaning.Located.{Constraint}
+use Rattle.fz_names.specs.of_meaning.Meaning.{first_some, row_of}
+use Rattle.fz_names.proofs.of_meaning.ScanSteps.{first_append, both_none}
 use Rattle.fz_data.specs.declared.parts.Posted.{Posted}
-use Rattle.fz_store.specs.declared.store.Store.{Store}
+use Rattle.fz_data.specs.declared.store.Store.{Store}
 use Rattle.fz_data.specs.Parts.{posted_view, kept_row}
 use Rattle.fz_data.specs.Posting.{IsLonger, IsPostedOf, Posts}
 use Rattle.fz_data.specs.Scope.{constraint_fault_in, posted_in}

@@ -4,11 +4,12 @@ use Rattle.std.proofs.lemmas.List.{length-map}
 use Rattle.std.proofs.Common.{length-append}
 use Rattle.std.proofs.lemmas.Option.{slice_get-map, slice_get_read, same_Some}
 use Rattle.std.specs.Option.{option_map_or}
-use Rattle.fz_meaning.specs.Meaning.{Point, Posted, constraint_points, points, row_of}
-use Rattle.fz_meaning.specs.Meaning.Point.{DomainPoint, DefinitionPoint, ArrayPoint, ConstraintPoint}
-use Rattle.fz_meaning.proofs.Lists.{at_place}
-use Rattle.fz_meaning.specs.declared.term.Term.{Term}
-use Rattle.fz_meaning.specs.declared.term.Domain.TheVariants.{All}
+use Rattle.fz_names.proofs.NameTable.{get_front}
+use Rattle.fz_names.specs.of_meaning.Meaning.{Point, Posted, constraint_points, points, row_of}
+use Rattle.fz_names.specs.of_meaning.Meaning.Point.{DomainPoint, DefinitionPoint, ArrayPoint, ConstraintPoint}
+use Rattle.fz_names.proofs.of_meaning.Lists.{at_place}
+use Rattle.fz_names.specs.of_meaning.declared.term.Term.{Term}
+use Rattle.fz_names.specs.of_meaning.declared.term.Domain.TheVariants.{All}
 use Rattle.std.proofs.lemmas.Bool.{false≢true}
 use Rattle.fz_data.specs.declared.model.Model.TheInside.{Inside}
 use Rattle.fz_data.specs.declared.parts.DeclaredPoint.{DeclaredPoint}
@@ -30,12 +31,6 @@ at_constraint n k [] = refl
 at_constraint n zero (p ∷ ps) = let same : n ≡ 0 + n = omega arith in ap (λ j. Some (ConstraintPoint j p)) same
 at_constraint n (suc k) (p ∷ ps) =
     let same : k + suc n ≡ suc k + n = omega arith in at_constraint (suc n) k ps ∙ ap (λ j. option_map (λ q. ConstraintPoint j q) (slice_get ps k)) same
-
-pub at_left : {A : Type 0} (xs ys : List A) (k : ℕ) → k < length xs
-    → slice_get (xs ++ ys) k ≡ slice_get xs k
-at_left [] ys k lt = absurd (omega arith)
-at_left (x ∷ xs) ys zero lt = refl
-at_left (x ∷ xs) ys (suc k) lt = at_left xs ys k (omega arith)
 
 pub at_right : {A : Type 0} (xs ys : List A) (k : ℕ) → length xs ≤ k
     → slice_get (xs ++ ys) k ≡ slice_get ys (k - length xs)
@@ -83,7 +78,7 @@ module _ (m : Inside) (laid : IsLaidOut m) where
       → k < length m.points.items → slice_get (points (model_view m)) k
       ≡ Some (declared_point m.variables.items m.arrays.items p)
   point_declared k p e lt =
-      ap (λ ps. slice_get ps k) points_are ∙ at_left declared posted k (omega (arith, length-declared, lt))
+      ap (λ ps. slice_get ps k) points_are ∙ get_front declared posted k (omega (arith, length-declared, lt))
       ∙ slice_get-map (declared_point m.variables.items m.arrays.items) m.points.items k ∙ ap (option_map (declared_point m.variables.items m.arrays.items)) e
 
   module _ (k : ℕ) where
@@ -139,3 +134,6 @@ module _ (m : Inside) (laid : IsLaidOut m) where
     elements_at p n x lt read found form =
         let at : slice_get m.arrays.items n ≡ Some x = slice_get_read m.arrays.items _ n x refl (placed_at_k p (points.Elements n) lt read form) found in
         there p (points.Elements n) lt read form ∙ ap (λ o. Some (option_map_or elements_point o (ArrayPoint [] All []))) at
+
+-- what `point_parts` cites
+pub ruleset point_at = (how_many, domain_at, definition_is, no_definition, elements_at)

@@ -4,16 +4,15 @@ use Rattle.std.proofs.Common.{◌≡◌, ℕ, suc, ◌+◌, Bool, true, false, c
 use Rattle.std.specs.List.{AllByRecursion}
 use Rattle.std.proofs.lemmas.List.{map-append, append-nil, length-map}
 use Rattle.std.proofs.lemmas.Grind.{flat_map-append}
-use Rattle.fz_meaning.specs.Located.{Decl}
-use Rattle.fz_meaning.specs.Meaning as meaning
-use Rattle.fz_meaning.specs.Meaning.{Place, declared_points, definition_points, array_points, numbered_from, variable_of}
-use Rattle.fz_meaning.specs.Meaning.Place.{Scalar, Array}
-use Rattle.fz_meaning.specs.Meaning.Declared.{Parameter, ScalarVariable, ArrayOfVariables}
-use Rattle.fz_meaning.specs.Meaning.Point.{DomainPoint, DefinitionPoint, ArrayPoint}
-use Rattle.fz_meaning.specs.Names.{parts, kind_of_base, domain_of, is_scalar, is_scalar_variable, scalar_variables, term_of, place_of_declared, definition_of, declared_of, variable_declared}
-use Rattle.fz_meaning.proofs.Lists.{all_append}
-use Rattle.fz_meaning.proofs.KnownNames.{next_number, scalars_more}
-use Rattle.fz_meaning.proofs.Names.{numbered_decl}
+use Rattle.fz_names.specs.of_meaning.Located.{Decl}
+use Rattle.fz_names.specs.of_meaning.Meaning as meaning
+use Rattle.fz_names.specs.of_meaning.Meaning.{declared_points, numbered_from, variable_of}
+use Rattle.fz_names.specs.of_meaning.Meaning.Place.{Array}
+use Rattle.fz_names.specs.of_meaning.Meaning.Declared.{Parameter, ScalarVariable, ArrayOfVariables}
+use Rattle.fz_names.specs.of_meaning.Names.{parts, kind_of_base, domain_of, is_scalar, is_scalar_variable, scalar_variables, term_of, place_of_declared, definition_of, declared_of, variable_declared}
+use Rattle.fz_names.proofs.of_meaning.Lists.{all_append}
+use Rattle.fz_names.proofs.of_meaning.KnownNames.{next_number, scalars_more}
+use Rattle.fz_names.proofs.of_meaning.Names.{numbered_decl}
 use Rattle.fz_data.specs.declared.parts.Array as the_array
 use Rattle.fz_data.specs.declared.parts.DeclaredPoint.{DeclaredPoint}
 use Rattle.fz_data.specs.declared.parts.Variable.{Variable}

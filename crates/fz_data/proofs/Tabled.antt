@@ -3,14 +3,13 @@ use Rattle.std.proofs.Common.{◌≡◌, ℕ, ◌+◌, ◌<◌, ◌≤◌, ℤ, 
 use Rattle.std.proofs.Math.Seq.{take-append_seam}
 use Rattle.std.proofs.lemmas.List.{length-map}
 use Rattle.fz_base.specs.declared.value.Value.{Value}
-use Rattle.fz_meaning.specs.Meaning.{Variable, give, value_at}
+use Rattle.fz_names.specs.of_meaning.Meaning.{Variable, give, value_at}
 use Rattle.fz_data.specs.Partial.{IsTabled, number_in, truth_in, unset_count, without}
 
 map_set : {A B : Type 0} (f : A → B) (xs : List A) (n : ℕ) (x : A)
     → slice_set (map f xs) n (f x) ≡ map f (slice_set xs n x)
-map_set f [] n x = refl
-map_set f (y ∷ xs) zero x = refl
 map_set f (y ∷ xs) (suc n) x = ap (λ ys. f y ∷ ys) (map_set f xs n x)
+map_set f _ n x = refl
 
 -- one more value
 pub still_tabled : (K : List (Option Value)) (ns : List ℤ) (bs gs : List Bool) (n : ℕ) (v : Value)
@@ -51,11 +50,10 @@ one_unset_less (Some u ∷ K) (suc n) v h e = one_unset_less K n v (omega arith)
 -- and one that is taken away leaves one more
 pub one_unset_more : (K : List (Option Value)) (n : ℕ) → is_some (value_at K n) ≡ true
     → unset_count (without K n) ≡ suc (unset_count K)
-one_unset_more [] n e = cc
-one_unset_more (None ∷ K) zero e = cc
 one_unset_more (Some u ∷ K) zero e = refl
 one_unset_more (None ∷ K) (suc n) e = ap suc (one_unset_more K n e)
 one_unset_more (Some u ∷ K) (suc n) e = one_unset_more K n e
+one_unset_more _ n e = cc
 
 pub unset_fit : (K : List (Option Value)) → unset_count K ≤ length K
 unset_fit [] = omega arith
@@ -65,10 +63,9 @@ unset_fit (Some u ∷ K) = omega (arith, unset_fit K)
 -- where there is none, none is taken away
 pub none_taken : (K : List (Option Value)) (n : ℕ) → is_some (value_at K n) ≡ false
     → K ≡ without K n
-none_taken [] n e = refl
-none_taken (None ∷ K) zero e = refl
 none_taken (Some u ∷ K) zero e = cc
 none_taken (o ∷ K) (suc n) e = ap (λ J. o ∷ J) (none_taken K n e)
+none_taken _ n e = refl
 
 pub has_place : (K : List (Option Value)) (n : ℕ) → is_some (value_at K n) ≡ true → n < length K
 has_place [] n e = cc
@@ -129,3 +126,6 @@ forgets_all K n e = ap (λ k. forgotten k K) e ∙ all K
     all : (K : List (Option Value)) → forgotten (length K) K ≡ map (λ v. None) K
     all [] = refl
     all (o ∷ K) = ap (λ J. None ∷ J) (all K)
+
+-- what `forget` cites
+pub ruleset forgets = (forgotten, forgets_next, forgets_all)

@@ -1,20 +1,17 @@
 -- An error tells the same of what has the same fault.
 use Rattle.std.proofs.Common.{◌≡◌, ℕ, ◌<◌, List, map, length, take, get_or, Option, Some, None}
-use Rattle.fz_meaning.specs.declared.error.ModelError.{ModelError}
-use Rattle.fz_meaning.specs.declared.error.ModelError.TheVariants as errors
-use Rattle.fz_meaning.specs.Meaning.{first_some}
-use Rattle.fz_meaning.specs.Names.{Fault}
-use Rattle.fz_meaning.specs.View.{Tells}
-use Rattle.fz_meaning.proofs.ScanSteps.{first_stops}
+use Rattle.fz_names.specs.of_meaning.declared.error.ModelError.{ModelError}
+use Rattle.fz_names.specs.of_meaning.declared.error.ModelError.TheVariants as errors
+use Rattle.fz_names.specs.of_meaning.Meaning.{first_some}
+use Rattle.fz_names.specs.of_meaning.Names.{Fault}
+use Rattle.fz_names.specs.of_meaning.View.{Tells}
+use Rattle.fz_names.proofs.of_meaning.ScanSteps.{first_stops}
 
 -- where the second has the fault that the first has
 pub tells_further : (e : ModelError) (f g : Option Fault) → ((x : Fault) → f ≡ Some x → g ≡ Some x)
     → Tells e f → Tells e g
-tells_further (errors.DuplicateName at) f g same h = same _ h
-tells_further (errors.UnknownName at) f g same h = same _ h
-tells_further (errors.Kind at) f g same h = same _ h
-tells_further (errors.Length at) f g same h = same _ h
 tells_further errors.Memory f g same h = tt
+tells_further _ f g same h = same _ h
 
 -- the first fault of a list, where none was met before
 pub tells_stop : {A B : Type 0} (f : B → Option Fault) (g : A → B) (xs : List A) (i : ℕ) (x : A)

@@ -1,10 +1,10 @@
 -- What declared names stand for, as the declarations of a model (private functions only).
 use Rattle.std.specs.Prelude.{ℕ, List, cond, slice_get}
 use Rattle.std.specs.Option.{option_map_or}
-use Rattle.fz_meaning.specs.Relations.{kind_of}
-use Rattle.fz_meaning.specs.declared.term.Term.{Term}
-use Rattle.fz_meaning.specs.declared.term.Term.TheVariants.{Var, Fixed}
-use Rattle.fz_meaning.specs.Meaning as meaning
+use Rattle.fz_names.specs.of_meaning.Relations.{kind_of}
+use Rattle.fz_names.specs.of_meaning.declared.term.Term.{Term}
+use Rattle.fz_names.specs.of_meaning.declared.term.Term.TheVariants.{Var, Fixed}
+use Rattle.fz_names.specs.of_meaning.Meaning as meaning
 use Rattle.fz_names.specs.Naming.{Declared, Declared as declarations}
 use Rattle.fz_data.specs.declared.parts.Variable.{Variable}
 use Rattle.fz_data.specs.declared.parts.Array.{Array}

@@ -9,4 +9,5 @@ pub mod Scope
 pub mod Posting
 pub mod Stands
 pub mod Texts
-pub use Rattle.fz_store.specs.Slots
+pub mod Slots
+pub use Rattle.fz_names.specs.of_meaning

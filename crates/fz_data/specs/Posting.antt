@@ -2,17 +2,17 @@
 -- whatever is appended later.
 use Rattle.std.specs.Prelude.{◌≡◌, List, None, map}
 use Rattle.fz_base.specs.declared.value.Value.{Value}
-use Rattle.fz_meaning.specs.Located.{Constraint}
-use Rattle.fz_meaning.specs.Meaning as meaning
-use Rattle.fz_meaning.specs.Meaning.{first_some, row_of}
-use Rattle.fz_store.specs.declared.store.Slot.{Slot}
-use Rattle.fz_store.specs.declared.store.Segment.{Segment}
-use Rattle.fz_store.specs.declared.store.Argument.{Argument}
-use Rattle.fz_store.specs.declared.store.Store.{Store}
+use Rattle.fz_names.specs.of_meaning.Located.{Constraint}
+use Rattle.fz_names.specs.of_meaning.Meaning as meaning
+use Rattle.fz_names.specs.of_meaning.Meaning.{first_some, row_of}
+use Rattle.fz_data.specs.declared.store.Slot.{Slot}
+use Rattle.fz_data.specs.declared.store.Segment.{Segment}
+use Rattle.fz_data.specs.declared.store.Argument.{Argument}
+use Rattle.fz_data.specs.declared.store.Store.{Store}
 use Rattle.fz_data.specs.declared.parts.Posted.{Posted}
 use Rattle.fz_data.specs.declared.scope.Scope.{Scope}
 use Rattle.fz_data.specs.Scope.{constraint_fault_in, posted_in}
-use Rattle.fz_store.specs.Slots.{IsGrown, segment}
+use Rattle.fz_data.specs.Slots.{IsGrown, segment}
 use Rattle.fz_data.specs.Parts.{place_view, argument_view, posted_view, kept_row}
 
 -- more may be appended to each list

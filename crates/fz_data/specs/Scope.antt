@@ -4,27 +4,27 @@ use Rattle.std.specs.Prelude.{◌≡◌, ◌++◌, ◌∷◌, ℕ, pos, Bool, tr
 use Rattle.std.specs.Map.{lookup}
 use Rattle.fz_base.specs.declared.span.Span.{Span}
 use Rattle.fz_base.specs.declared.value.Value.TheVariants.{Int}
-use Rattle.fz_meaning.specs.declared.kind.Kind.{Kind}
-use Rattle.fz_meaning.specs.declared.kind.Kind.TheVariants.{Int as IntKind}
-use Rattle.fz_meaning.specs.declared.term.Term.{Term}
-use Rattle.fz_meaning.specs.declared.term.Term.TheVariants.{Var, Fixed}
-use Rattle.fz_meaning.specs.Relations.{kind_of, same_kind}
-use Rattle.fz_meaning.specs.Located.{Basic, Expr, Decl, Constraint, Goal}
-use Rattle.fz_meaning.specs.Located.Goal.{Satisfy, Minimize, Maximize}
-use Rattle.fz_meaning.specs.of_syntax.Tree.{Note, NoteArg, NoteArgs}
-use Rattle.fz_meaning.specs.of_syntax.Tree.Note.{Called}
-use Rattle.fz_meaning.specs.of_syntax.Tree.NoteArgs.{NoMoreArgs, MoreArgs}
-use Rattle.fz_meaning.specs.of_syntax.Tree.NoteArg.{OneBasic}
-use Rattle.fz_meaning.specs.of_syntax.Tree.NoteBasic.{Inner}
+use Rattle.fz_names.specs.of_meaning.declared.kind.Kind.{Kind}
+use Rattle.fz_names.specs.of_meaning.declared.kind.Kind.TheVariants.{Int as IntKind}
+use Rattle.fz_names.specs.of_meaning.declared.term.Term.{Term}
+use Rattle.fz_names.specs.of_meaning.declared.term.Term.TheVariants.{Var, Fixed}
+use Rattle.fz_names.specs.of_meaning.Relations.{kind_of, same_kind}
+use Rattle.fz_names.specs.of_meaning.Located.{Basic, Expr, Decl, Constraint, Goal}
+use Rattle.fz_names.specs.of_meaning.Located.Goal.{Satisfy, Minimize, Maximize}
+use Rattle.fz_tree.specs.Tree.{Note, NoteArg, NoteArgs}
+use Rattle.fz_tree.specs.Tree.Note.{Called}
+use Rattle.fz_tree.specs.Tree.NoteArgs.{NoMoreArgs, MoreArgs}
+use Rattle.fz_tree.specs.Tree.NoteArg.{OneBasic}
+use Rattle.fz_tree.specs.Tree.NoteBasic.{Inner}
 use Rattle.fz_data.specs.Fitting.{kinds_among}
-use Rattle.fz_meaning.specs.Located.Basic.{Lit, Named}
-use Rattle.fz_meaning.specs.Located.Expr.{One, Several}
-use Rattle.fz_meaning.specs.Meaning.{Place, Argument, Posted, Aim, first_some, is_term_of, admits_all}
-use Rattle.fz_meaning.specs.Meaning.Argument.{One as OneArgument, ListOf}
+use Rattle.fz_names.specs.of_meaning.Located.Basic.{Lit, Named}
+use Rattle.fz_names.specs.of_meaning.Located.Expr.{One, Several}
+use Rattle.fz_names.specs.of_meaning.Meaning.{Place, Argument, Posted, Aim, first_some, is_term_of, admits_all}
+use Rattle.fz_names.specs.of_meaning.Meaning.Argument.{One as OneArgument, ListOf}
 use Rattle.std.specs.Option.{option_or}
-use Rattle.fz_meaning.specs.Meaning.Place.{Scalar, Array}
-use Rattle.fz_meaning.specs.Names.{literal_value, literal_of, parts, kind_of_base, domain_of, is_scalar, differs_in_length, variable_declared, Fault, literal_fault}
-use Rattle.fz_meaning.specs.Names.FaultKind.{DuplicateName, UnknownName, WrongKind, WrongLength}
+use Rattle.fz_names.specs.of_meaning.Meaning.Place.{Scalar, Array}
+use Rattle.fz_names.specs.of_meaning.Names.{literal_value, literal_of, parts, kind_of_base, domain_of, is_scalar, differs_in_length, variable_declared, Fault, literal_fault}
+use Rattle.fz_names.specs.of_meaning.Names.FaultKind.{DuplicateName, UnknownName, WrongKind, WrongLength}
 use Rattle.fz_data.specs.declared.scope.Scope.{Scope}
 use Rattle.fz_data.specs.declared.scope.Item.{Item}
 use Rattle.fz_data.specs.declared.scope.Item.TheVariants as items

@@ -2,10 +2,10 @@
 -- variables and arrays come.
 use Rattle.std.specs.Prelude.{◌≡◌, ℕ, ◌++◌, List, [], None, map, flat_map}
 use Rattle.std.specs.List.{AllByRecursion}
-use Rattle.fz_meaning.specs.Located.{Decl}
-use Rattle.fz_meaning.specs.Names.{decls_fault, scalar_variables, place_of_declared, declared_of, variable_declared}
-use Rattle.fz_meaning.specs.Meaning as meaning
-use Rattle.fz_meaning.specs.Meaning.{Place, declared_points, numbered_from}
+use Rattle.fz_names.specs.of_meaning.Located.{Decl}
+use Rattle.fz_names.specs.of_meaning.Names.{decls_fault, scalar_variables, place_of_declared, declared_of, variable_declared}
+use Rattle.fz_names.specs.of_meaning.Meaning as meaning
+use Rattle.fz_names.specs.of_meaning.Meaning.{Place, declared_points, numbered_from}
 use Rattle.fz_data.specs.declared.parts.Array as the_array
 use Rattle.fz_names.specs.Naming as the_declared
 use Rattle.fz_data.specs.declared.parts.DeclaredPoint.{DeclaredPoint}

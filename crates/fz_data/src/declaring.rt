@@ -1,20 +1,20 @@
 //! What a declaration declares, and whether its name, its length and its value fit.
 
 ghost use Rattle.std.specs.Prelude.{◌≡◌, IfErr, IfOk, None, Some, map, true};
-ghost use Rattle.fz_meaning.specs.Relations.{kind_of, same_kind};
-ghost use Rattle.fz_meaning.specs.Names.{differs_in_length, kind_of_base, literal_of, parts, variable_declared};
-ghost use Rattle.fz_meaning.specs.Located.Expr.{One};
+ghost use Rattle.fz_names.specs.of_meaning.Relations.{kind_of, same_kind};
+ghost use Rattle.fz_names.specs.of_meaning.Names.{differs_in_length, kind_of_base, literal_of, parts, variable_declared};
+ghost use Rattle.fz_names.specs.of_meaning.Located.Expr.{One};
 ghost use Rattle.fz_data.specs.Parts.{variable_view};
-ghost use Rattle.fz_meaning.specs.View.{Tells, located_basic, located_decl, located_expr, located_value};
+ghost use Rattle.fz_names.specs.of_meaning.View.{Tells, located_basic, located_decl, located_expr, located_value};
 ghost use Rattle.fz_data.specs.Scope.{HasKinds, IsArrayOf, IsItem, decl_fault_in, definition_in, fault_in, faults_in, name_fault_in};
 ghost use Rattle.fz_data.specs.declared.scope.Scope.{Scope};
 
 use crate::parts::{Array, Variable};
 use crate::scope::{Item, Scope, scalars_of, term_of};
+use crate::values::{base_kind, domain_of, literal_kind, literal_value, same_kind};
 use fz_base::Value;
-use fz_meaning::fz_syntax::{Basic, Decl, Expr};
-use fz_meaning::{Kind, ModelError, Term};
-use fz_store::{base_kind, domain_of, literal_kind, literal_value, same_kind};
+use fz_names::fz_meaning::{Kind, ModelError, Term};
+use fz_tree::{Basic, Decl, Expr};
 use std::alloc::Global;
 use std::slice;
 

@@ -1,12 +1,12 @@
 //! What is found under a name.
 
 ghost use Rattle.std.specs.Prelude.{◌≡◌, length, option_map, slice_get};
-ghost use Rattle.fz_store.specs.Slots.{scalar_term};
+ghost use Rattle.fz_data.specs.Slots.{scalar_term};
 ghost use Rattle.fz_data.specs.Shown.{scalar_terms};
 
+use crate::store::{Scalar, Slot, scalar_at};
 use fz_base::Value;
-use fz_meaning::Kind;
-use fz_store::{Scalar, Slot, scalar_at};
+use fz_names::fz_meaning::Kind;
 
 /// A list of scalars, as slots.
 #[derive(Clone, Copy)]

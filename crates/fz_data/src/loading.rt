@@ -2,10 +2,10 @@
 //! is looked up once.
 
 ghost use Rattle.std.specs.Prelude.{◌≡◌, ◌++◌, ◌∷◌, [], IfErr, IfOk, List, OnOk, map};
-ghost use Rattle.fz_meaning.specs.Located.{Decl as LocatedDecl};
-ghost use Rattle.fz_meaning.specs.declared.error.ModelError.TheVariants.{Memory};
-ghost use Rattle.fz_meaning.specs.Names.{model_of, HasNoFault, decl_fault, decls_fault, first_fault};
-ghost use Rattle.fz_meaning.specs.View.{Tells, located, located_decl};
+ghost use Rattle.fz_names.specs.of_meaning.Located.{Decl as LocatedDecl};
+ghost use Rattle.fz_names.specs.of_meaning.declared.error.ModelError.TheVariants.{Memory};
+ghost use Rattle.fz_names.specs.of_meaning.Names.{model_of, HasNoFault, decl_fault, decls_fault, first_fault};
+ghost use Rattle.fz_names.specs.of_meaning.View.{Tells, located, located_decl};
 ghost use Rattle.fz_data.specs.Scope.{HasKinds};
 ghost use Rattle.fz_data.specs.Stands.{Declares};
 
@@ -13,10 +13,10 @@ use crate::declaring::item_of;
 use crate::model::Model;
 use crate::posting::{all_posted, goal_of};
 use crate::scope::{Scope, add};
-use fz_meaning::ModelError;
-use fz_meaning::fz_syntax::{Ast, Decl};
+use crate::store::Store;
 use fz_names::Names;
-use fz_store::Store;
+use fz_names::fz_meaning::ModelError;
+use fz_tree::{Ast, Decl};
 use std::alloc::Global;
 
 /// A scope in which nothing is declared yet, with room for this many names.
@@ -56,6 +56,7 @@ pub(crate) fn declare<'a>(
 }
 
 /// What all declarations declare. It refuses the first fault in them.
+#[tactic(auto, using(crate::proofs::OneMore::declares_none))]
 fn declared<'a>(alloc: Global, decls: &[Decl<'a>]) -> Result<Scope<'a>, ModelError>
     ensures declares { IfOk result (Declares (map located_decl decls.now)) }
     ensures kinds { IfOk result HasKinds }

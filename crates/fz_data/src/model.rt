@@ -2,9 +2,9 @@
 
 ghost use Rattle.std.specs.Prelude.{◌≡◌, ◌<◌, IfSome, Some, length, map, option_map, slice_get};
 ghost use Rattle.std.specs.List.{AllByRecursion};
-ghost use Rattle.fz_meaning.specs.Meaning.{constraint_points, find_name, points, row_of, variables_of};
-ghost use Rattle.fz_meaning.specs.States.{shown_point};
-ghost use Rattle.fz_meaning.specs.Known.{known_row};
+ghost use Rattle.fz_names.specs.of_meaning.Meaning.{constraint_points, find_name, points, row_of, variables_of};
+ghost use Rattle.fz_names.specs.of_meaning.States.{shown_point};
+ghost use Rattle.fz_names.specs.of_meaning.Known.{known_row};
 ghost use Rattle.fz_data.specs.Kinds.{PlaceFits, PostedFits};
 ghost use Rattle.fz_data.specs.Parts.{constraint_view, elements_of, goal_view, kept_row, posted_view, variable_view};
 ghost use Rattle.fz_data.specs.Shown.{IfConstraint, found_place, point_name, point_view, scalar_terms};
@@ -13,8 +13,8 @@ use crate::found::{Found, Scalars, What};
 use crate::parts::{Array, DeclaredPoint, Goal, Posted, Variable};
 use crate::point::{ConstraintParts, Constraints, Point, PointParts};
 use crate::scope::Scope;
-use fz_names::{Hint, NO_HINT, Names, Standing};
-use fz_store::{Scalar, Store, read_term};
+use crate::store::{Scalar, Store, read_term};
+use fz_names::{Names, Standing};
 
 /// A model with its names looked up. A contract sees it as the model of the tree that it was loaded
 /// from.
@@ -33,7 +33,7 @@ pub struct Model<'a> {
 }
 
 impl<'a> std::marker::Model for Model<'a> {
-    ghost use Rattle.fz_meaning.specs.Meaning.{Model as Meaning};
+    ghost use Rattle.fz_names.specs.of_meaning.Meaning.{Model as Meaning};
     ghost use Rattle.fz_base.specs.contracts.sets.IntSet as the_set;
     ghost use Rattle.std.specs.Coded.{codes};
 
@@ -79,6 +79,7 @@ impl<'a> Model<'a> {
     }
 
     /// What a name stands for, where it is declared. It takes no memory.
+    #[tactic(auto, using(crate::proofs::FindsKinds::finds))]
     pub fn find(&self, name: &[u8]) -> Option<Found<'_, 'a>>
         ensures place { option_map (found_place (variables_of self.now)) result
             ≡ find_name self.now name.now }
@@ -86,21 +87,7 @@ impl<'a> Model<'a> {
         ensures kinds { IfSome result (λ f. PlaceFits self.now
             (found_place (variables_of self.now) f)) }
     {
-        let (found, _) = self.find_at(name, NO_HINT)?;
-        Some(found)
-    }
-
-    /// What a name stands for, where it is declared, and a hint: a caller that stores the hint of a
-    /// name finds the name again at once, and that of another name does no harm. It takes no
-    /// memory.
-    pub fn find_at(&self, name: &[u8], hint: Hint) -> Option<(Found<'_, 'a>, Hint)>
-        ensures place { option_map (λ f. found_place (variables_of self.now) f.0) result
-            ≡ find_name self.now name.now }
-        ensures text { IfSome result (λ f. f.0.name.now ≡ name.now) }
-        ensures kinds { IfSome result (λ f. PlaceFits self.now
-            (found_place (variables_of self.now) f.0)) }
-    {
-        let (text, standing, stands_at) = self.names.find_at(name, hint)?;
+        let (text, standing) = self.names.look_up(name)?;
         let what = match standing {
             Standing::Variable(number) => What::Scalar(Scalar::Variable(number)),
             Standing::Parameter(term) => What::Scalar(read_term(term)),
@@ -109,10 +96,11 @@ impl<'a> Model<'a> {
                 What::Array(array.kind, elements_of(array))
             }
         };
-        Some((Found { name: text, what }, stands_at))
+        Some(Found { name: text, what })
     }
 
     /// The number of points. It takes no memory.
+    #[tactic(auto, using(crate::proofs::Points::how_many))]
     pub fn points(&self) -> usize
         ensures counted { result ≡ length (points self.now) }
     {
@@ -136,6 +124,7 @@ impl<'a> Model<'a> {
     /// The point of a number, from 0, with its parts: a constraint is known where it has a row. It
     /// takes no memory.
     #[inline(always)]
+    #[tactic(auto, using(crate::proofs::Points::point_at))]
     pub fn point_parts(&self, number: usize) -> PointParts<'_, 'a>
         requires in_range { number < length (points self.now) }
         ensures parts { slice_get (points self.now) number ≡ Some (point_view result) }

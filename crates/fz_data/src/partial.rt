@@ -2,12 +2,12 @@
 
 ghost use Rattle.std.specs.Prelude.{◌≡◌, ◌<◌, IfOk, None, Some, false, is_some, length, map, option_map, pos, replicate};
 ghost use Rattle.std.specs.FinSet as sets;
-ghost use Rattle.fz_meaning.specs.Meaning.{give, value, value_at};
+ghost use Rattle.fz_names.specs.of_meaning.Meaning.{give, value, value_at};
 ghost use Rattle.fz_data.specs.Partial.{nothing_for, number_in, truth_in, unset_count, without};
 
 use crate::model::Model;
 use fz_base::{IntSet, Value};
-use fz_meaning::Term;
+use fz_names::fz_meaning::Term;
 use std::alloc::{AllocError, Global};
 use std::mem;
 
@@ -107,6 +107,7 @@ fn empty(place: &mut Option<Value>)
 }
 
 /// Takes away each value that is there.
+#[tactic(auto, using(crate::proofs::Tabled::forgets))]
 fn forget(values: &mut [Option<Value>])
     ensures forgotten { values.new ≡ map (λ v. None) values.old }
 {

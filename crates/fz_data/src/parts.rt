@@ -2,11 +2,11 @@
 
 ghost use Rattle.std.specs.Prelude.{◌≡◌, true};
 ghost use Rattle.std.specs.List.{list_all};
-ghost use Rattle.fz_store.specs.Slots.{is_scalar};
+ghost use Rattle.fz_data.specs.Slots.{is_scalar};
 
+use crate::store::{Segment, Slot};
 use fz_base::Value;
-use fz_meaning::{Domain, Kind, Known, Term};
-use fz_store::{Segment, Slot};
+use fz_names::fz_meaning::{Domain, Kind, Known, Term};
 
 /// A scalar variable: its name, its kind, and the values that its declaration admits.
 #[derive(Debug, Drop)]

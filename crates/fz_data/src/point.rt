@@ -1,12 +1,12 @@
 //! The points of a model, as data.
 
 ghost use Rattle.std.specs.Prelude.{◌≡◌};
-ghost use Rattle.fz_store.specs.Slots.{segment};
+ghost use Rattle.fz_data.specs.Slots.{segment};
 
 use crate::found::Scalars;
 use crate::parts::{Array, Posted, Variable};
-use fz_meaning::{Domain, Term};
-use fz_store::{Argument, Store, part};
+use crate::store::{Argument, Store, part};
+use fz_names::fz_meaning::{Domain, Term};
 
 /// How a point is reported: a declared name, or a constraint's number, from 1, and the name of its
 /// predicate. Names are slices of the source.

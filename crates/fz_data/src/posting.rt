@@ -1,31 +1,28 @@
 //! Constraints and the goal, with their names looked up.
 
 ghost use Rattle.std.specs.Prelude.{◌≡◌, ◌++◌, ◌∷◌, [], IfErr, IfOk, List, None, OnOk, Some, map, option_map};
-ghost use Rattle.fz_meaning.specs.Located.{Constraint as LocatedConstraint};
-ghost use Rattle.fz_meaning.specs.declared.kind.Kind.TheVariants.{Int as IntKind};
-ghost use Rattle.fz_meaning.specs.Located.Basic.{Named};
-ghost use Rattle.fz_meaning.specs.Meaning.{first_some, row_of};
-ghost use Rattle.fz_meaning.specs.Names.{goal_parts};
-ghost use Rattle.fz_meaning.specs.View.{Tells, located_basic, located_constraint, located_expr, located_goal, located_name};
-ghost use Rattle.fz_meaning.specs.of_syntax.View.{arg_list, bare_arg, bare_basic, bare_note, bare_notes};
-ghost use Rattle.fz_meaning.specs.of_syntax.Tree.NoteArg.{OneBasic};
+ghost use Rattle.fz_names.specs.of_meaning.Located.{Constraint as LocatedConstraint};
+ghost use Rattle.fz_names.specs.of_meaning.declared.kind.Kind.TheVariants.{Int as IntKind};
+ghost use Rattle.fz_names.specs.of_meaning.Located.Basic.{Named};
+ghost use Rattle.fz_names.specs.of_meaning.Meaning.{first_some, row_of};
+ghost use Rattle.fz_names.specs.of_meaning.Names.{goal_parts};
+ghost use Rattle.fz_names.specs.of_meaning.View.{Tells, located_basic, located_constraint, located_expr, located_goal, located_name};
+ghost use Rattle.fz_tree.specs.View.{arg_list, bare_arg, bare_basic, bare_note, bare_notes};
+ghost use Rattle.fz_tree.specs.Tree.NoteArg.{OneBasic};
 ghost use Rattle.fz_data.specs.Parts.{goal_view, kept_row, posted_view};
 ghost use Rattle.fz_data.specs.Posting.{AreArgumentsOf, ArePlacesOf, IsArgumentOf, IsLonger, IsPlaceOf, IsPostedOf, Posts};
 ghost use Rattle.fz_data.specs.Scope.{HasKinds, aim_in, argument_fault, argument_in, constraint_fault_in, defined_in, bare_name_of, fault_in, faults_in, inner_of, only_arg, place_in, place_of_part, posted_in, variable_at_term, variable_by_place};
-ghost use Rattle.fz_store.specs.Slots.{IsGrown};
+ghost use Rattle.fz_data.specs.Slots.{IsGrown};
 
 use crate::parts::{Goal, Posted};
 use crate::rows::row_of;
 use crate::scope::{Scope, term_of};
+use crate::store::{Argument, Segment, Slot, Store, narrow, part, slot_of, value_slot};
+use crate::values::{copied, literal_value};
 use fz_base::Value;
-use fz_meaning::fz_syntax::{
-    Basic, Constraint, Expr, Goal as TreeGoal, Name, Note, NoteArg, NoteBasic,
-};
-use fz_meaning::{Kind, ModelError, Term, same_text};
 use fz_names::Standing;
-use fz_store::{
-    Argument, Segment, Slot, Store, copied, literal_value, narrow, part, slot_of, value_slot,
-};
+use fz_names::fz_meaning::{Kind, ModelError, Term, same_text};
+use fz_tree::{Basic, Constraint, Expr, Goal as TreeGoal, Name, Note, NoteArg, NoteBasic};
 use std::alloc::Global;
 
 /// What a name stands for.
@@ -79,6 +76,7 @@ fn place_of(
 }
 
 /// Appends the slots of a list in brackets.
+#[tactic(auto, using(crate::proofs::Grown::grows))]
 fn places_of(
     alloc: Global,
     scope: &Scope<'_>,
@@ -132,6 +130,7 @@ fn argument_of(
 }
 
 /// Appends the arguments of a constraint, in their order.
+#[tactic(auto, using(crate::proofs::Grown::grows))]
 fn arguments_of(
     alloc: Global,
     scope: &Scope<'_>,
@@ -176,6 +175,7 @@ fn variable_named(scope: &Scope<'_>, name: &[u8]) -> Option<usize>
 }
 
 /// The argument of an annotation, where it has exactly one.
+#[tactic(auto, using(crate::proofs::Loops::not_only))]
 fn only<'t, 'a>(args: &'t [NoteArg<'a>]) -> Option<&'t NoteArg<'a>>
     ensures { option_map (λ a. bare_arg a.now) result
         ≡ only_arg (arg_list (map bare_arg args.now)) }
@@ -231,6 +231,7 @@ fn defined(scope: &Scope<'_>, note: &Note<'_>) -> Option<usize>
 }
 
 /// The first variable that an annotation of that form names.
+#[tactic(auto, using(crate::proofs::Loops::first_found))]
 fn target_of(scope: &Scope<'_>, notes: &[Note<'_>]) -> Option<usize>
     ensures { result ≡ first_some (defined_in scope.now) (bare_notes notes.now) }
 {

@@ -2,18 +2,19 @@
 
 ghost use Rattle.std.specs.Prelude.{◌≡◌, ◌==◌, ℕ, Option, map, option_map};
 ghost use Rattle.std.specs.List.{list_all};
-ghost use Rattle.fz_meaning.specs.declared.term.Term.TheVariants.{Var};
-ghost use Rattle.fz_meaning.specs.Meaning.{are_rows_of, are_whole_rows, as_int, fits, has_shape, have_shapes, row_of};
-ghost use Rattle.fz_meaning.specs.Known.{known_row, shape_of};
-ghost use Rattle.fz_meaning.specs.Relations.{kind_of};
+ghost use Rattle.fz_names.specs.of_meaning.declared.term.Term.TheVariants.{Var};
+ghost use Rattle.fz_names.specs.of_meaning.Meaning.{are_rows_of, are_whole_rows, as_int, fits, has_shape, have_shapes, row_of};
+ghost use Rattle.fz_names.specs.of_meaning.Known.{known_row, shape_of};
+ghost use Rattle.fz_names.specs.of_meaning.Relations.{kind_of};
 ghost use Rattle.fz_data.specs.Parts.{argument_view, kind_of_term};
 ghost use Rattle.fz_data.specs.Fitting.{are_equally_long, array_kind, have_lengths, is_array_of, is_array_slot, is_of_kind, is_scalar_of, kinds_among, length_at, length_of, number_at, number_of, slot_length, slot_number, stands_in_rows};
-ghost use Rattle.fz_store.specs.Slots.{constant_at};
+ghost use Rattle.fz_data.specs.Slots.{constant_at};
 
 use crate::parts::{Array, Variable};
+use crate::store::{Argument, Slot, Store, part};
+use crate::values::{kind_of, same_kind};
 use fz_base::Value;
-use fz_meaning::{Kind, Known, Matrix, Shape, Term};
-use fz_store::{Argument, Slot, Store, kind_of, part, same_kind};
+use fz_names::fz_meaning::{Kind, Known, Matrix, Shape, Term};
 
 /// What constraints cite: the variables, their kinds, and the arrays. The kinds have a list of
 /// their own, a byte each, so that they stay in a near cache while constraints are loaded.
@@ -66,6 +67,7 @@ fn have_lengths(known: Known, arguments: &[Argument], arrays: &[Array<'_>], stor
         && stands_in_rows(known.matrix(), arguments, arrays, store)
 }
 
+#[tactic(auto, using(crate::proofs::Fitting::fit_not, crate::proofs::Fitting::fit_more))]
 fn have_shapes(
     shapes: &[Shape],
     arguments: &[Argument],
@@ -86,6 +88,7 @@ fn have_shapes(
     true
 }
 
+#[tactic(auto, using(crate::proofs::Fitting::scalar_of, crate::proofs::Fitting::array_of))]
 fn has_shape(shape: Shape, argument: &Argument, cited: &Cited<'_, '_>, store: &Store) -> bool
     ensures { result ≡ has_shape (shape_of shape)
         (argument_view cited.now.variables.now cited.now.arrays.now store.now argument.now) }

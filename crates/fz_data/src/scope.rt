@@ -1,23 +1,24 @@
 //! What was declared so far.
 
 ghost use Rattle.std.specs.Prelude.{◌≡◌, ◌++◌, ◌∷◌, [], IfErr, IfOk, OnOk, None, Some, cond, is_none, length, map, true};
-ghost use Rattle.fz_meaning.specs.View.{Tells, located_basic};
-ghost use Rattle.fz_meaning.specs.declared.term.Term.TheVariants.{Fixed, Var};
-ghost use Rattle.fz_meaning.specs.Names.{literal_fault, literal_value};
-ghost use Rattle.fz_meaning.specs.Relations.{kind_of};
-ghost use Rattle.fz_meaning.specs.of_syntax.View.{bare_literal_kind};
+ghost use Rattle.fz_names.specs.of_meaning.View.{Tells, located_basic};
+ghost use Rattle.fz_names.specs.of_meaning.declared.term.Term.TheVariants.{Fixed, Var};
+ghost use Rattle.fz_names.specs.of_meaning.Names.{literal_fault, literal_value};
+ghost use Rattle.fz_names.specs.of_meaning.Relations.{kind_of};
+ghost use Rattle.fz_tree.specs.View.{bare_literal_kind};
 ghost use Rattle.fz_data.specs.Parts.{kind_of_term, terms_of};
 ghost use Rattle.fz_data.specs.declared.scope.Item.TheVariants.{Parameter, Variable as item_variable, Array as item_array};
-ghost use Rattle.fz_meaning.specs.declared.error.ModelError.TheVariants.{Memory};
+ghost use Rattle.fz_names.specs.of_meaning.declared.error.ModelError.TheVariants.{Memory};
 ghost use Rattle.fz_data.specs.Scope.{HasKinds, IsAdded, fault_in, faults_in, has_elements_point, IsNewName, place_fault, place_in, term_at, term_in};
 
 use crate::parts::{Array, DeclaredPoint, ScalarList, Variable};
 use crate::rows::{Cited, term_kind, variable_kind};
+use crate::store::slot_of;
+use crate::values::{copied, literal_kind, literal_value, same_kind};
 use fz_base::Value;
-use fz_meaning::fz_syntax::{Basic, Literal, Name};
-use fz_meaning::{Domain, Kind, ModelError, Term};
+use fz_names::fz_meaning::{Domain, Kind, ModelError, Term};
 use fz_names::{Names, Standing};
-use fz_store::{copied, literal_kind, literal_value, same_kind, slot_of};
+use fz_tree::{Basic, Literal, Name};
 use std::alloc::{AllocError, Global};
 
 /// What was declared so far: the names in source order, the variables and arrays by their numbers,
@@ -126,6 +127,7 @@ pub(crate) fn term_of(
 }
 
 /// Literals and names, where scalars of a kind are wanted.
+#[tactic(auto, using(crate::proofs::Tells::tells_stop, crate::proofs::Grown::none_read))]
 pub(crate) fn scalars_of(
     alloc: Global,
     scope: &Scope<'_>,

@@ -1,17 +1,17 @@
 //! Loading a text item by item: once one is loaded it gives its lists back, so no tree is held.
 
 ghost use Rattle.std.specs.Prelude.{◌≡◌, ◌≢◌, ◌<◌, ◌↔◌, Err, ◌++◌, ◌∷◌, [], IfErr, IfOk, List, OnOk, length, map};
-ghost use Rattle.fz_meaning.specs.Located.{Constraint as LocatedConstraint, Decl as LocatedDecl};
-ghost use Rattle.fz_meaning.specs.of_syntax.Offering.{IsLeft, IsRefused, IsTextOfAll, Took, TookAll, all_items, from_constraints, from_decls, from_predicates, left_of};
-ghost use Rattle.fz_meaning.specs.of_syntax.Lexing.{most_bytes};
-ghost use Rattle.fz_meaning.specs.of_syntax.SyntaxError.{SyntaxError as SyntaxFault};
-ghost use Rattle.fz_meaning.specs.of_syntax.SyntaxError.TheVariants.{TooLong};
-ghost use Rattle.fz_meaning.specs.of_syntax.declared.Decl as the_decl;
-ghost use Rattle.fz_meaning.specs.of_syntax.declared.Predicate as the_predicate;
-ghost use Rattle.fz_meaning.specs.Names.{decl_fault};
-ghost use Rattle.fz_meaning.specs.View.{Tells, located_constraint, located_decl};
-ghost use Rattle.fz_meaning.specs.declared.error.ModelError.{ModelError as NameFault};
-ghost use Rattle.fz_meaning.specs.declared.error.ModelError.TheVariants.{Memory};
+ghost use Rattle.fz_names.specs.of_meaning.Located.{Constraint as LocatedConstraint, Decl as LocatedDecl};
+ghost use Rattle.fz_names.specs.of_meaning.of_syntax.Offering.{IsLeft, IsRefused, IsTextOfAll, Took, TookAll, all_items, from_constraints, from_decls, from_predicates, left_of};
+ghost use Rattle.fz_tree.specs.of_lex.Lexing.{most_bytes};
+ghost use Rattle.fz_names.specs.of_meaning.of_syntax.SyntaxError.{SyntaxError as SyntaxFault};
+ghost use Rattle.fz_names.specs.of_meaning.of_syntax.SyntaxError.TheVariants.{TooLong};
+ghost use Rattle.fz_tree.specs.declared.tree.Decl as the_decl;
+ghost use Rattle.fz_tree.specs.declared.tree.Predicate as the_predicate;
+ghost use Rattle.fz_names.specs.of_meaning.Names.{decl_fault};
+ghost use Rattle.fz_names.specs.of_meaning.View.{Tells, located_constraint, located_decl};
+ghost use Rattle.fz_names.specs.of_meaning.declared.error.ModelError.{ModelError as NameFault};
+ghost use Rattle.fz_names.specs.of_meaning.declared.error.ModelError.TheVariants.{Memory};
 ghost use Rattle.fz_data.specs.Posting.{Posts};
 ghost use Rattle.fz_data.specs.Scope.{HasKinds, constraint_fault_in};
 ghost use Rattle.fz_data.specs.Stands.{Declares};
@@ -23,11 +23,11 @@ use crate::model::Model;
 use crate::parts::Posted;
 use crate::posting::{goal_of, post};
 use crate::scope::Scope;
-use fz_meaning::ModelError;
-use fz_meaning::fz_syntax::{
-    Constraint, ConstraintItems, Decl, DeclItems, Offer, PredicateItems, Solve, SyntaxError,
-};
-use fz_store::Store;
+use crate::store::Store;
+use fz_names::fz_meaning::ModelError;
+use fz_names::fz_meaning::fz_syntax::{ConstraintItems, DeclItems, Offer, PredicateItems};
+use fz_tree::fz_lex::SyntaxError;
+use fz_tree::{Constraint, Decl, Solve};
 use std::alloc::Global;
 
 /// The items after the predicates. A predicate adds nothing to a model.

@@ -6,8 +6,8 @@ use Rattle.std.proofs.Math.Nat.{mod-lt}
 use Rattle.std.proofs.lemmas.Bool.{eqb-true}
 use Rattle.std.proofs.lemmas.Int.{ints, to_z-of_z, to_z_pos}
 use Rattle.fz_base.specs.Sets.{at_least_none, count_between}
-use Rattle.fz_filling.specs.of_syntax.View.{bare_basic, basic_list}
-use Rattle.fz_filling.specs.of_syntax.declared.NoteBasic.{NoteBasic}
+use Rattle.fz_judge.specs.of_syntax.View.{bare_basic, basic_list}
+use Rattle.fz_judge.specs.of_syntax.declared.NoteBasic.{NoteBasic}
 use Rattle.fz_explain.specs.Elements.{index_between, index_in, indices_in}
 
 -- one index set before others

@@ -4,16 +4,16 @@ use Rattle.std.specs.Option.{option_map_or}
 use Rattle.std.proofs.lemmas.Bool.{cases_eq, eqb-false, eqb-true}
 use Rattle.std.proofs.lemmas.List.{append_assoc}
 use Rattle.fz_base.specs.declared.value.Value.{Value}
-use Rattle.fz_filling.specs.of_model.Meaning.{Model, Partial, give, value_at}
-use Rattle.fz_filling.proofs.of_model.Gaps.{value_at_new}
-use Rattle.fz_filling.proofs.of_model.Steps.{value_at_other}
-use Rattle.fz_filling.proofs.of_model.Tabled.{has_place}
-use Rattle.fz_filling.specs.of_verdict.Filling.{Chain, givers}
-use Rattle.fz_filling.specs.of_verdict.Filling.Chain.{Ends, Step}
-use Rattle.fz_filling.proofs.of_verdict.Violated.{chain_grows}
-use Rattle.fz_filling.proofs.Keeping.{length_given}
-use Rattle.fz_filling.proofs.Runs.{stands}
-use Rattle.fz_filling.proofs.Stepping.{step_unset}
+use Rattle.fz_judge.specs.of_model.Meaning.{Model, Partial, give, value_at}
+use Rattle.fz_judge.proofs.of_model.Gaps.{value_at_new}
+use Rattle.fz_judge.proofs.of_model.Steps.{value_at_other}
+use Rattle.fz_judge.proofs.of_model.Tabled.{has_place}
+use Rattle.fz_judge.specs.Filling.{Chain, givers}
+use Rattle.fz_judge.specs.Filling.Chain.{Ends, Step}
+use Rattle.fz_judge.proofs.Violated.{chain_grows}
+use Rattle.fz_judge.proofs.Keeping.{length_given}
+use Rattle.fz_judge.proofs.Runs.{stands}
+use Rattle.fz_judge.proofs.Stepping.{step_unset}
 use Rattle.fz_explain.specs.Sources.{IsGivenBefore, IsTrueSource, SourcesAreEarlier, giver_of, source_of}
 use Rattle.fz_explain.specs.declared.source.Source.TheVariants.{Given, Nothing, Printed}
 

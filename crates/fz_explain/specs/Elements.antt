@@ -6,14 +6,14 @@ use Rattle.std.specs.Prelude.{ℕ, ℤ, pos, ◌+ℤ◌, ◌/◌, ◌%◌, ◌==
 use Rattle.std.specs.List.{position_from}
 use Rattle.std.specs.Option.{option_and_then}
 use Rattle.fz_base.specs.Sets.{count_between}
-use Rattle.fz_filling.specs.of_model.Meaning.{first_some}
-use Rattle.fz_filling.specs.of_syntax.Tree.{Basic, Decl, Expr, NoteArg, NoteBasic, NoteBasics}
-use Rattle.fz_filling.specs.of_syntax.Tree.Literal.{Range}
-use Rattle.fz_filling.specs.of_syntax.Tree.Basic.{Lit, Named}
-use Rattle.fz_filling.specs.of_syntax.Tree.Expr.{Several}
-use Rattle.fz_filling.specs.of_syntax.Tree.NoteArg.{ListOf, OneBasic}
-use Rattle.fz_filling.specs.of_syntax.Tree.NoteBasics.{NoMoreBasics, MoreBasics}
-use Rattle.fz_filling.specs.of_syntax.Tree.NoteBasic.{NoteLiteral}
+use Rattle.fz_judge.specs.of_model.Meaning.{first_some}
+use Rattle.fz_judge.specs.of_syntax.Tree.{Basic, Decl, Expr, NoteArg, NoteBasic, NoteBasics}
+use Rattle.fz_judge.specs.of_syntax.Tree.Literal.{Range}
+use Rattle.fz_judge.specs.of_syntax.Tree.Basic.{Lit, Named}
+use Rattle.fz_judge.specs.of_syntax.Tree.Expr.{Several}
+use Rattle.fz_judge.specs.of_syntax.Tree.NoteArg.{ListOf, OneBasic}
+use Rattle.fz_judge.specs.of_syntax.Tree.NoteBasics.{NoMoreBasics, MoreBasics}
+use Rattle.fz_judge.specs.of_syntax.Tree.NoteBasic.{NoteLiteral}
 use Rattle.fz_explain.specs.Annotations.{argument_of}
 use Rattle.fz_explain.specs.declared.element.Element.{Element}
 

@@ -1,9 +1,9 @@
 -- What a name stands for that is no variable (this project's profile).
 use Rattle.std.specs.Prelude.{◌≡◌, ℕ, true, false, List, [], ◌∷◌, map, Some, option_map}
 use Rattle.fz_base.specs.declared.value.Value.{Value}
-use Rattle.fz_filling.specs.of_model.Meaning.{Model, Place, find_name}
-use Rattle.fz_filling.specs.of_model.declared.Term.{Term}
-use Rattle.fz_filling.specs.of_model.declared.Term.TheVariants.{Fixed}
+use Rattle.fz_judge.specs.of_model.Meaning.{Model, Place, find_name}
+use Rattle.fz_judge.specs.of_model.declared.Term.{Term}
+use Rattle.fz_judge.specs.of_model.declared.Term.TheVariants.{Fixed}
 use Rattle.fz_explain.specs.declared.fixed.Fixing.{Fixing}
 
 -- a parameter of this one value

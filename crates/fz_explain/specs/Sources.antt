@@ -3,11 +3,11 @@ use Rattle.std.specs.Prelude.{◌≡◌, ℕ, Bool, cond, List, [], ◌∷◌, �
 use Rattle.std.specs.List.{list_any}
 use Rattle.std.specs.Option.{option_map_or}
 use Rattle.fz_base.specs.declared.value.Value.{Value}
-use Rattle.fz_filling.specs.of_model.Meaning.{Model, Partial, Point, points, value_at}
-use Rattle.fz_filling.specs.of_model.Steps.{Gives, terms_of}
-use Rattle.fz_filling.specs.of_verdict.Filling.{Chain, givers}
-use Rattle.fz_filling.specs.of_model.declared.Term.{Term}
-use Rattle.fz_filling.specs.of_model.declared.Term.TheVariants.{Var, Fixed}
+use Rattle.fz_judge.specs.of_model.Meaning.{Model, Partial, Point, points, value_at}
+use Rattle.fz_judge.specs.of_model.Steps.{Gives, terms_of}
+use Rattle.fz_judge.specs.Filling.{Chain, givers}
+use Rattle.fz_judge.specs.of_model.declared.Term.{Term}
+use Rattle.fz_judge.specs.of_model.declared.Term.TheVariants.{Var, Fixed}
 use Rattle.fz_explain.specs.declared.source.Source.{Source}
 use Rattle.fz_explain.specs.declared.source.Source.TheVariants as sources
 

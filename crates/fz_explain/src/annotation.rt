@@ -2,12 +2,12 @@
 
 ghost use Rattle.std.specs.Prelude.{◌≡◌, option_map};
 ghost use Rattle.std.specs.Option.{option_and_then};
-ghost use Rattle.fz_filling.specs.of_syntax.Tree.NoteArg.{OneBasic};
-ghost use Rattle.fz_filling.specs.of_model.Meaning.{first_some};
-ghost use Rattle.fz_filling.specs.of_syntax.View.{bare_arg, bare_basic, bare_note, bare_notes};
+ghost use Rattle.fz_judge.specs.of_syntax.Tree.NoteArg.{OneBasic};
+ghost use Rattle.fz_judge.specs.of_model.Meaning.{first_some};
+ghost use Rattle.fz_judge.specs.of_syntax.View.{bare_arg, bare_basic, bare_note, bare_notes};
 ghost use Rattle.fz_explain.specs.Annotations.{argument_of, text};
 
-use fz_filling::fz_syntax::{Note, NoteArg, NoteBasic};
+use fz_judge::fz_syntax::{Note, NoteArg, NoteBasic};
 
 /// The argument of an annotation of this name, where it has exactly one.
 fn argument<'t, 'a>(note: &'t Note<'a>, name: &[u8]) -> Option<&'t NoteArg<'a>>

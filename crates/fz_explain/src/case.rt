@@ -2,9 +2,9 @@
 
 use crate::message::{Message, Text};
 use crate::verdict::{Reading, verdict_message, verdict_place};
-use fz_filling::fz_model::Model;
-use fz_filling::fz_syntax::{Ast, parse};
-use fz_filling::fz_verdict::fz_stream::Block;
+use fz_judge::fz_model::Model;
+use fz_judge::fz_stream::Block;
+use fz_judge::fz_syntax::{Ast, parse};
 use fz_judge::{Verdict, fill_with_steps};
 use std::alloc::{AllocError, Global};
 

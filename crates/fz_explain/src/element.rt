@@ -5,12 +5,12 @@ ghost use Rattle.std.specs.Int.{w64};
 ghost use Rattle.std.specs.List.{position_from};
 ghost use Rattle.std.specs.Option.{option_and_then};
 ghost use Rattle.fz_base.specs.Sets.{count_between};
-ghost use Rattle.fz_filling.specs.of_model.Meaning.{first_some};
-ghost use Rattle.fz_filling.specs.of_syntax.View.{bare_arg, bare_basic, bare_decl, bare_expression, bare_expressions, bare_value, basic_list};
+ghost use Rattle.fz_judge.specs.of_model.Meaning.{first_some};
+ghost use Rattle.fz_judge.specs.of_syntax.View.{bare_arg, bare_basic, bare_decl, bare_expression, bare_expressions, bare_value, basic_list};
 ghost use Rattle.fz_explain.specs.Elements.{element_in, element_view, elements_of, index_between, index_in, indices_at, indices_in, indices_of, is_name, listed, range_of};
 
 use crate::annotation::argument_of;
-use fz_filling::fz_syntax::{Ast, Basic, Decl, Expr, LiteralKind, NoteArg, NoteBasic};
+use fz_judge::fz_syntax::{Ast, Basic, Decl, Expr, LiteralKind, NoteArg, NoteBasic};
 use std::alloc::{AllocError, Global};
 
 /// The name of the annotation that has the index sets of an array.

@@ -1,13 +1,13 @@
 //! Parameters, and arrays of fixed values, by their names.
 
 ghost use Rattle.std.specs.Prelude.{◌≡◌, ◌++◌, IfOk, IfSome, map};
-ghost use Rattle.fz_filling.specs.of_model.Shown.{scalar_terms};
-ghost use Rattle.fz_filling.specs.of_model.Slots.{scalar_term, slot_term};
-ghost use Rattle.fz_filling.specs.of_model.declared.Term.TheVariants.{Fixed};
+ghost use Rattle.fz_judge.specs.of_model.Shown.{scalar_terms};
+ghost use Rattle.fz_judge.specs.of_model.Slots.{scalar_term, slot_term};
+ghost use Rattle.fz_judge.specs.of_model.declared.Term.TheVariants.{Fixed};
 ghost use Rattle.fz_explain.specs.Fixings.{AreElements, IsFixing, IsParameter};
 
 use fz_base::Value;
-use fz_filling::fz_model::{Model, Scalar, Scalars, What, scalar_at};
+use fz_judge::fz_model::{Model, Scalar, Scalars, What, scalar_at};
 use std::alloc::{AllocError, Global};
 
 /// What a name stands for: of a parameter the only value, of an array those of its elements.

@@ -3,7 +3,7 @@
 use crate::excerpt::shown_text;
 use crate::message::Message;
 use crate::verdict::Reading;
-use fz_filling::fz_model::Model;
+use fz_judge::fz_model::Model;
 use fz_judge::{Reason, Verdict};
 use std::alloc::{AllocError, Global};
 

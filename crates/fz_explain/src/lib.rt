@@ -34,7 +34,7 @@ pub use explained::{Explained, Explanation, explain};
 pub use failing::{Sought, first_point};
 pub use fixed::{Fixing, fixing_of};
 pub use fz_base::{Range, Value};
-pub use fz_filling::Giver;
+pub use fz_judge::Giver;
 pub use lines::{Spot, spot_of};
 pub use message::{Message, Text, message_at};
 pub use notes::{FixedNote, MOST_RANGES, Note, Origin};

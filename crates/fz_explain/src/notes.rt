@@ -12,8 +12,8 @@ use crate::remarks::{Remarks, remarks_on};
 use crate::source::Source;
 use crate::verdict::Reading;
 use fz_base::{IntSet, Range, Value};
-use fz_filling::fz_model::{Domain, Model, Point};
-use fz_filling::fz_syntax::{Ast, Basic, Constraint, Expr};
+use fz_judge::fz_model::{Domain, Model, Point};
+use fz_judge::fz_syntax::{Ast, Basic, Constraint, Expr};
 use std::alloc::{AllocError, Global};
 
 /// The most ranges of a set that are shown.

@@ -5,8 +5,8 @@ use crate::annotation::text_of;
 use crate::excerpt::{cut_text, shown_text};
 use crate::path::{ModelPlace, model_place};
 use crate::place::point_notes;
-use fz_filling::fz_model::Point;
-use fz_filling::fz_syntax::{Ast, Note};
+use fz_judge::fz_model::Point;
+use fz_judge::fz_syntax::{Ast, Note};
 use std::alloc::{AllocError, Global};
 
 /// What the compiler wrote at a point.

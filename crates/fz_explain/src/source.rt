@@ -1,11 +1,11 @@
 //! Where the value of a variable comes from.
 
 ghost use Rattle.std.specs.Prelude.{◌≡◌, map};
-ghost use Rattle.fz_filling.specs.Givers.{giver_view};
+ghost use Rattle.fz_judge.specs.Givers.{giver_view};
 ghost use Rattle.fz_explain.specs.Sources.{SourcesAreEarlier, giver_of, source_of};
 
-use fz_filling::Giver;
-use fz_filling::fz_model::Partial;
+use fz_judge::Giver;
+use fz_judge::fz_model::Partial;
 
 /// Where the value of a variable comes from.
 #[derive(Clone, Copy, Debug, PartialEq, Eq)]

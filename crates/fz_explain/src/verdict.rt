@@ -2,7 +2,7 @@
 //! where these come from.
 
 ghost use Rattle.std.specs.Prelude.{◌<◌, length};
-ghost use Rattle.fz_filling.specs.of_model.Meaning.{points};
+ghost use Rattle.fz_judge.specs.of_model.Meaning.{points};
 
 use crate::case::Case;
 use crate::domain::declared_domain;
@@ -16,10 +16,9 @@ use crate::sentence::sentence;
 use crate::sums::too_large_at;
 use crate::variables::variables_of;
 use fz_base::Span;
-use fz_filling::Giver;
-use fz_filling::fz_model::{Goal, Model, Partial, Point, Scalar, Term, What, scalar_at};
-use fz_filling::fz_syntax::{Ast, Basic, Goal as GoalItem};
-use fz_judge::{Fault, Reason, Verdict};
+use fz_judge::fz_model::{Goal, Model, Partial, Point, Scalar, Term, What, scalar_at};
+use fz_judge::fz_syntax::{Ast, Basic, Goal as GoalItem};
+use fz_judge::{Fault, Giver, Reason, Verdict};
 use std::alloc::{AllocError, Global};
 
 /// A case with the model's text and tree, and the block's filling with its steps.

@@ -1,12 +1,14 @@
 -- Two lists in ascending order that have each number equally often are one list.
-use Rattle.std.proofs.Common.{◌≡◌, ℕ, suc, zero, ◌<◌, ◌≤◌, ℤ, pos, ◌<ℤ◌, ◌≤ℤ◌, int_le, Bool, true, false, cond, ◌&&◌, ◌||◌, ◌⊎◌, inl, inr, nat_eq, List, [], ◌∷◌, length, filter, get_or, All, IsSorted, IsPermutation, int_cmp, sym, ap, subst, ◌∙◌, refl, arith, eq-eqb, eqb-true}
+use Rattle.std.proofs.Common.{◌≡◌, ℕ, suc, zero, ◌<◌, ◌≤◌, ℤ, ◌<ℤ◌, ◌≤ℤ◌, int_le, Bool, true, false, cond, ◌&&◌, ◌||◌, ◌⊎◌, inl, inr, nat_eq, List, [], ◌∷◌, length, filter, get_or, All, IsSorted, IsPermutation, int_cmp, sym, ap, subst, ◌∙◌, refl, arith, eq-eqb, eqb-true}
 use Rattle.std.specs.List.{list_all}
 use Rattle.std.specs.Cmp.{both_ways}
 use Rattle.std.proofs.lemmas.Int.{ints}
 use Rattle.std.proofs.lemmas.List.Sorted.{length_permutation}
-use Rattle.fz_meaning.specs.Relations.{◌=ℤ◌, is_among, all_neighbours, is_same_list, is_sorted_form, count_of}
-use Rattle.fz_meaning.proofs.Values.{no, no', and_first, and_second, and_both, same_int, int_itself}
-use Rattle.fz_globals.proofs.Compared.{above_is_other, at_most, is_at_most}
+use Rattle.std.proofs.lemmas.Grind.{common_steps}
+use Rattle.fz_base.proofs.Covers.{at_most_yes}
+use Rattle.fz_kernel.specs.of_meaning.Relations.{◌=ℤ◌, is_among, all_neighbours, is_same_list, is_sorted_form, count_of}
+use Rattle.fz_kernel.proofs.of_meaning.Values.{no, no', and_first, and_second, and_both, same_int, int_itself}
+use Rattle.fz_globals.proofs.Compared.{above_is_other, at_most}
 use Rattle.fz_globals.proofs.Each.{filter_yes, filter_no, told-permutation, count_of-permutation}
 use Rattle.fz_globals.proofs.Halving.{Ascends, ascends}
 
@@ -17,24 +19,20 @@ times a xs = length (filter (λ x. x =ℤ a) xs)
 -- ---- neighbours in order
 
 pub neighbours_ascend : (xs : List ℤ) → all_neighbours int_le xs ≡ true → Ascends xs
-neighbours_ascend [] e i j d before inside = absurd (omega arith)
 neighbours_ascend (x ∷ xs) e zero zero d before inside = omega (arith, ints)
-neighbours_ascend (x ∷ xs) e (suc i) zero d before inside = absurd (omega arith)
-neighbours_ascend (x ∷ []) e zero (suc j) d before inside = absurd (omega arith)
-neighbours_ascend (x ∷ []) e (suc i) (suc j) d before inside = absurd (omega arith)
 neighbours_ascend (x ∷ y ∷ xs) e zero (suc j) d before inside =
     let step : x ≤ℤ y = at_most x y (and_first (int_le x y) (all_neighbours int_le (y ∷ xs)) e) in
     let far : y ≤ℤ get_or (y ∷ xs) j d = neighbours_ascend (y ∷ xs) (and_second (int_le x y) (all_neighbours int_le (y ∷ xs)) e) zero j d (omega arith) (omega arith) in
     omega (arith, ints)
 neighbours_ascend (x ∷ y ∷ xs) e (suc i) (suc j) d before inside =
     neighbours_ascend (y ∷ xs) (and_second (int_le x y) (all_neighbours int_le (y ∷ xs)) e) i j d (omega arith) (omega arith)
+neighbours_ascend _ e i j d before inside = absurd (omega arith)
 
 ascending_neighbours : (xs : List ℤ) → Ascends xs → all_neighbours int_le xs ≡ true
-ascending_neighbours [] up = refl
-ascending_neighbours (x ∷ []) up = refl
 ascending_neighbours (x ∷ y ∷ xs) up =
-    and_both (int_le x y) (all_neighbours int_le (y ∷ xs)) (is_at_most x y (up zero (suc zero) x (omega arith) (omega arith)))
+    and_both (int_le x y) (all_neighbours int_le (y ∷ xs)) (at_most_yes x y (up zero (suc zero) x (omega arith) (omega arith)))
     (ascending_neighbours (y ∷ xs) (λ i j d l h. up (suc i) (suc j) d (omega arith) (omega arith)))
+ascending_neighbours _ up = refl
 
 -- ---- the same numbers equally often
 
@@ -113,12 +111,11 @@ longer_or_same (x ∷ xs) (y ∷ ys) up_x up_y few =
 
 same_list_is : (xs ys : List ℤ) → is_same_list ◌=ℤ◌ xs ys ≡ true → xs ≡ ys
 same_list_is [] [] e = refl
-same_list_is [] (y ∷ ys) e = no e
-same_list_is (x ∷ xs) [] e = no e
 same_list_is (x ∷ xs) (y ∷ ys) e =
     let one : x ≡ y = same_int x y (and_first (x =ℤ y) (is_same_list ◌=ℤ◌ xs ys) e) in
     let rest : xs ≡ ys = same_list_is xs ys (and_second (x =ℤ y) (is_same_list ◌=ℤ◌ xs ys) e) in
     cc
+same_list_is _ _ e = no e
 
 list_itself : (xs : List ℤ) → is_same_list ◌=ℤ◌ xs xs ≡ true
 list_itself [] = refl
@@ -140,11 +137,8 @@ at_listed p (x ∷ xs) a all one =
 module _ (xs zs ys : List ℤ) (moved : IsPermutation xs zs) (sorted : IsSorted int_cmp zs) where
   each_as_often : list_all (λ v. count_of xs v =ℤ count_of ys v) xs ≡ true → (a : ℤ) (s : Bool)
       → is_among a xs ≡ s → times a zs ≤ times a ys
-  each_as_often all a true e =
-      let equal : pos (times a xs) ≡ pos (times a ys) = same_int (count_of xs a) (count_of ys a) (at_listed (λ v. count_of xs v =ℤ count_of ys v) xs a all e) in
-      let same : times a xs ≡ times a ys = cc in
-      omega (arith, told-permutation (λ x. x =ℤ a) xs zs moved)
-  each_as_often all a false e = omega (arith, not_listed a xs e, told-permutation (λ x. x =ℤ a) xs zs moved)
+  each_as_often all a s e =
+      grind (arith, common_steps, same_int, at_listed, told-permutation, not_listed)
 
   told_same : is_sorted_form xs ys ≡ true → is_same_list ◌=ℤ◌ zs ys ≡ true
   told_same e =

@@ -8,15 +8,16 @@ use Rattle.std.specs.Ordering.{int_cmp, int_eq}
 use Rattle.std.specs.Cmp.{int_cmp_total, both_ways}
 use Rattle.std.specs.FinSet.{contains, insert, remove, from_list, len, contains-insert, contains-remove, contains-from_list, contains-empty, len-insert, len-remove, len-empty, empty_of_len}
 use Rattle.std.proofs.lemmas.Int.{ints}
-use Rattle.std.proofs.lemmas.Bool.{or_right, cases_eq}
+use Rattle.std.proofs.lemmas.Bool.{or_right, cases_eq, or_parts}
 use Rattle.std.proofs.lemmas.Bool.Decides.{nat_tests, Decides-int_eq}
 use Rattle.std.proofs.lemmas.Option.{slice_get_within}
+use Rattle.std.proofs.lemmas.Grind.{common_steps}
 use Rattle.fz_base.specs.Sets.{NumberSet}
 use Rattle.fz_base.proofs.Numbers.{same_numbers}
-use Rattle.fz_meaning.specs.Relations.{◌=ℤ◌, ◌=ˢ◌, element_at, are_channelled, indices_of, lies_between, sets_are}
-use Rattle.fz_meaning.proofs.Values.{no, no', and_first, and_second, and_both, same_int, int_itself, same_set_is, set_itself}
+use Rattle.fz_kernel.specs.of_meaning.Relations.{◌=ℤ◌, ◌=ˢ◌, element_at, are_channelled, indices_of, lies_between, sets_are}
+use Rattle.fz_kernel.proofs.of_meaning.Values.{no, no', and_first, and_second, and_both, same_int, int_itself, same_set_is, set_itself}
 use Rattle.fz_globals.specs.Held.{is_held, are_held, size_of_all}
-use Rattle.fz_globals.proofs.Tested.{other_int}
+use Rattle.fz_globals.proofs.Compared.{is_other}
 use Rattle.fz_globals.proofs.FirstBest.{one_on}
 use Rattle.fz_kernel.proofs.Left.{next}
 use Rattle.fz_kernel.proofs.Passed.{element_is}
@@ -50,19 +51,11 @@ still_in : (s : NumberSet) (k : ℤ) (ks : List ℤ) → list_any (int_eq k) ks 
 still_in s k [] other all = refl
 still_in s k (j ∷ ks) other all =
     and_both (contains (remove s k) j) (list_all (contains (remove s k)) ks)
-    (contains-remove int_cmp_total s k j ∙ rw (unequal j (int_eq k j) refl (first_is (int_eq k j) (list_any (int_eq k) ks) other)) (and_first (contains s j) (list_all (contains s) ks) all))
-    (still_in s k ks (second_is (int_eq k j) (list_any (int_eq k) ks) other) (and_second (contains s j) (list_all (contains s) ks) all))
+    (contains-remove int_cmp_total s k j ∙ rw (unequal j (int_eq k j) refl (or_parts (int_eq k j) (list_any (int_eq k) ks) other).0) (and_first (contains s j) (list_all (contains s) ks) all))
+    (still_in s k ks (or_parts (int_eq k j) (list_any (int_eq k) ks) other).1 (and_second (contains s j) (list_all (contains s) ks) all))
   where
-    first_is : (p q : Bool) → (p || q) ≡ false → p ≡ false
-    first_is true q e = e
-    first_is false q e = refl
-
-    second_is : (p q : Bool) → (p || q) ≡ false → q ≡ false
-    second_is true q e = no' e
-    second_is false q e = e
-
     unequal : (j : ℤ) (b : Bool) → int_eq k j ≡ b → b ≡ false → int_eq j k ≡ false
-    unequal j b is e = other_int j k (λ same. no' (sym ((Decides-int_eq k j).1 (sym same)) ∙ is ∙ e))
+    unequal j b is e = is_other j k (λ same. no' (sym ((Decides-int_eq k j).1 (sym same)) ∙ is ∙ e))
 
 -- a set that has them has at least as many, and just these where it has no more
 has_as_many : (ks : List ℤ) (s : NumberSet) → Apart ks → list_all (contains s) ks ≡ true
@@ -96,30 +89,18 @@ times v (x ∷ xs) = cond (x =ℤ v) (suc (times v xs)) (times v xs)
 
 length-indices_of : (i : ℤ) (xs : List ℤ) (v : ℤ) → length (indices_of i xs v) ≡ times v xs
 length-indices_of i [] v = refl
-length-indices_of i (x ∷ xs) v =
-    elim (x =ℤ v) as (λ b. length (if b then i ∷ indices_of (i +ℤ pos 1) xs v else indices_of (i +ℤ pos 1) xs v) ≡ cond b (suc (times v xs)) (times v xs)) [
-      | true ↦ ap suc (length-indices_of (i +ℤ pos 1) xs v)
-      | false ↦ length-indices_of (i +ℤ pos 1) xs v
-    ]
+length-indices_of i (x ∷ xs) v = grind (arith, common_steps, length-indices_of (i +ℤ pos 1) xs v)
 
 below_all : (k i : ℤ) (xs : List ℤ) (v : ℤ) → k <ℤ i
     → list_any (int_eq k) (indices_of i xs v) ≡ false
 below_all k i [] v h = refl
 below_all k i (x ∷ xs) v h =
-    let later : list_any (int_eq k) (indices_of (i +ℤ pos 1) xs v) ≡ false = below_all k (i +ℤ pos 1) xs v (omega (arith, ints)) in
-    let other : int_eq k i ≡ false = grind (arith, ints) in
-    elim (x =ℤ v) as (λ b. list_any (int_eq k) (if b then i ∷ indices_of (i +ℤ pos 1) xs v else indices_of (i +ℤ pos 1) xs v) ≡ false) [
-      | true ↦ ap (λ b. b || list_any (int_eq k) (indices_of (i +ℤ pos 1) xs v)) other ∙ later
-      | false ↦ later
-    ]
+    grind (arith, ints, nat_tests, below_all k (i +ℤ pos 1) xs v (omega (arith, ints)))
 
 indices_apart : (i : ℤ) (xs : List ℤ) (v : ℤ) → Apart (indices_of i xs v)
 indices_apart i [] v = tt
 indices_apart i (x ∷ xs) v =
-    elim (x =ℤ v) as (λ b. Apart (if b then i ∷ indices_of (i +ℤ pos 1) xs v else indices_of (i +ℤ pos 1) xs v)) [
-      | true ↦ (below_all i (i +ℤ pos 1) xs v (omega (arith, ints)), indices_apart (i +ℤ pos 1) xs v)
-      | false ↦ indices_apart (i +ℤ pos 1) xs v
-    ]
+    grind (arith, ints, nat_tests, below_all, indices_apart (i +ℤ pos 1) xs v)
 
 -- ---- each index in its number's set
 
@@ -137,13 +118,16 @@ have_all : (i : ℤ) (xs : List ℤ) (ss : List NumberSet) (so : ℤ) → are_he
     → HaveAll i xs ss so
 have_all i [] ss so held t s at = refl
 have_all i (x ∷ xs) ss so held t s at =
-    let later : list_all (contains s) (indices_of (i +ℤ pos 1) xs (so +ℤ pos t)) ≡ true = have_all (i +ℤ pos 1) xs ss so (and_second (is_held i x ss so) (are_held (i +ℤ pos 1) xs ss so) held) t s at in
-    elim (x =ℤ (so +ℤ pos t)) as (λ b. (x =ℤ (so +ℤ pos t)) ≡ b → list_all (contains s) (if b then i ∷ indices_of (i +ℤ pos 1) xs (so +ℤ pos t) else indices_of (i +ℤ pos 1) xs (so +ℤ pos t)) ≡ true) [
-      | true ↦ λ e.
-          and_both (contains s i) (list_all (contains s) (indices_of (i +ℤ pos 1) xs (so +ℤ pos t)))
-          (sym (is_there i x so ss t s at (same_int x (so +ℤ pos t) e)) ∙ and_first (is_held i x ss so) (are_held (i +ℤ pos 1) xs ss so) held) later
-      | false ↦ λ _. later
-    ] refl
+    grind (
+      arith,
+      common_steps,
+      and_second,
+      and_both,
+      is_there,
+      same_int,
+      and_first,
+      have_all (i +ℤ pos 1) xs ss so (and_second (is_held i x ss so) (are_held (i +ℤ pos 1) xs ss so) held) t s at,
+    )
 
 abbrev in_range : List NumberSet → ℤ → ℤ → Bool
 in_range ss so x = lies_between so ((so +ℤ pos (length ss)) -ℤ pos 1) x
@@ -231,28 +215,20 @@ counts_of j (s ∷ ss) xs = times j xs + counts_of (j +ℤ pos 1) ss xs
 
 none_counted : (j : ℤ) (ss : List NumberSet) → counts_of j ss [] ≡ 0
 none_counted j [] = refl
-none_counted j (s ∷ ss) =
-    let rest : counts_of (j +ℤ pos 1) ss [] ≡ 0 = none_counted (j +ℤ pos 1) ss in
-    omega arith
+none_counted j (s ∷ ss) = grind (arith, common_steps, none_counted (j +ℤ pos 1) ss)
 
 not_here : (j x : ℤ) (ss : List NumberSet) (xs : List ℤ) → x <ℤ j
     → counts_of j ss (x ∷ xs) ≡ counts_of j ss xs
 not_here j x [] xs h = refl
 not_here j x (s ∷ ss) xs h =
-    let here : times j (x ∷ xs) ≡ times j xs = ap (λ b. cond b (suc (times j xs)) (times j xs)) (other_int x j (λ same. omega (arith, ints))) in
-    let later : counts_of (j +ℤ pos 1) ss (x ∷ xs) ≡ counts_of (j +ℤ pos 1) ss xs = not_here (j +ℤ pos 1) x ss xs (omega (arith, ints)) in
-    λ k. here k + later k
+    grind (arith, ints, nat_tests, is_other, not_here (j +ℤ pos 1) x ss xs (omega (arith, ints)))
 
 once_here : (j x : ℤ) (ss : List NumberSet) (xs : List ℤ) (t : ℕ) → t < length ss → x ≡ j +ℤ pos t
     → counts_of j ss (x ∷ xs) ≡ suc (counts_of j ss xs)
 once_here j x [] xs t h is = absurd (omega arith)
-once_here j x (s ∷ ss) xs zero h is =
-    let same : x ≡ j = omega (arith, ints) in
-    let here : times j (x ∷ xs) ≡ suc (times j xs) = ap (λ b. cond b (suc (times j xs)) (times j xs)) ((Decides-int_eq x j).1 same) in
-    let later : counts_of (j +ℤ pos 1) ss (x ∷ xs) ≡ counts_of (j +ℤ pos 1) ss xs = not_here (j +ℤ pos 1) x ss xs (omega (arith, ints)) in
-    (λ k. here k + later k) ∙ omega arith
+once_here j x (s ∷ ss) xs zero h is = grind (arith, ints, nat_tests, not_here)
 once_here j x (s ∷ ss) xs (suc t) h is =
-    let here : times j (x ∷ xs) ≡ times j xs = ap (λ b. cond b (suc (times j xs)) (times j xs)) (other_int x j (λ same. omega (arith, ints))) in
+    let here : times j (x ∷ xs) ≡ times j xs = ap (λ b. cond b (suc (times j xs)) (times j xs)) (is_other x j (λ same. omega (arith, ints))) in
     let later : counts_of (j +ℤ pos 1) ss (x ∷ xs) ≡ suc (counts_of (j +ℤ pos 1) ss xs) = once_here (j +ℤ pos 1) x ss xs t (omega arith) (omega (arith, ints)) in
     (λ k. here k + later k) ∙ omega arith
 

@@ -1,11 +1,12 @@
 -- A loop that tests one element after another, of one list or of two side by side, and a loop that
 -- counts those that pass.
-use Rattle.std.proofs.Common.{◌≡◌, ℕ, suc, ◌+◌, ◌≤◌, ℤ, pos, int_le, Bool, true, false, cond, ◌&&◌, ◌||◌, ◌⊎◌, inl, inr, List, [], ◌∷◌, ◌++◌, append-nil, take, drop, length, filter, Some, slice_get, IsPermutation, int_eq, refl, sym, ap, ◌∙◌, arith}
+use Rattle.std.proofs.Common.{◌≡◌, ℕ, suc, ◌+◌, ◌≤◌, ℤ, pos, Bool, true, false, cond, ◌&&◌, ◌||◌, ◌⊎◌, List, [], ◌∷◌, ◌++◌, append-nil, take, drop, length, filter, Some, slice_get, IsPermutation, int_eq, refl, sym, ap, ◌∙◌, arith, rules}
 use Rattle.std.specs.List.{list_all, list_any}
 use Rattle.std.proofs.lemmas.List.Elements.{filter-append}
 use Rattle.std.proofs.lemmas.List.Sums.{length-filter}
 use Rattle.std.proofs.lemmas.List.Sorted.{sum_by-IsPermutation, list_any-IsPermutation}
-use Rattle.fz_meaning.specs.Relations.{◌=ℤ◌, is_among, all_both, is_same_list, count_of, counts_are, counts_lie, is_closed}
+use Rattle.std.proofs.lemmas.Grind.{common_steps}
+use Rattle.fz_kernel.specs.of_meaning.Relations.{◌=ℤ◌, all_both, is_same_list, count_of, counts_are, counts_lie, is_closed}
 use Rattle.fz_kernel.proofs.Left.{next, none_left, one_more}
 
 -- ---- a test of each element
@@ -40,30 +41,12 @@ pub record IsTold {A : Type 0} (p : A → Bool) (xs : List A) (i n : ℕ) : Type
   pub whole : length (filter p xs) ≡ n + length (filter p (drop i xs))
   pub few : n ≤ i
 
-pub none_told : {A : Type 0} (p : A → Bool) (xs : List A) → IsTold p xs 0 0
-none_told p xs = record { whole = omega arith; few = omega arith }
-
-pub all_told : {A : Type 0} (p : A → Bool) (xs : List A) (i n : ℕ) → length xs ≤ i → IsTold p xs i n
-    → n ≡ length (filter p xs)
-all_told p xs i n end so_far =
-    let whole : length (filter p xs) ≡ n + length (filter p (drop i xs)) = so_far.whole in
-    let none : length (filter p (drop i xs)) ≡ 0 = ap (λ l. length (filter p l)) (none_left xs i end) in
-    omega arith
-
 module _ {A : Type 0} (p : A → Bool) (xs : List A) (i n : ℕ) (x : A) (at : slice_get xs i ≡ Some x) (so_far : IsTold p xs i n) where
   pub one_told : (m : ℕ) → m ≡ n + 1 → p x ≡ true → IsTold p xs (i + 1) m
-  one_told m is e =
-      let whole : length (filter p xs) ≡ n + length (filter p (drop i xs)) = so_far.whole in
-      let few : n ≤ i = so_far.few in
-      let here : length (filter p (drop i xs)) ≡ suc (length (filter p (drop (i + 1) xs))) = ap (λ l. length (filter p l)) (next xs i x at) ∙ filter_yes p x (drop (i + 1) xs) e in
-      record { whole = omega arith; few = omega arith }
+  one_told m is e = search (rules, next, filter_yes)
 
   pub one_left_out : (m : ℕ) → m ≡ n → p x ≡ false → IsTold p xs (i + 1) m
-  one_left_out m is e =
-      let whole : length (filter p xs) ≡ n + length (filter p (drop i xs)) = so_far.whole in
-      let few : n ≤ i = so_far.few in
-      let here : length (filter p (drop i xs)) ≡ length (filter p (drop (i + 1) xs)) = ap (λ l. length (filter p l)) (next xs i x at) ∙ filter_no p x (drop (i + 1) xs) e in
-      record { whole = omega arith; few = omega arith }
+  one_left_out m is e = search (rules, next, filter_no)
 
 -- those that pass, so far
 pub one_kept : {A : Type 0} (p : A → Bool) (xs : List A) (i : ℕ) (x : A) → slice_get xs i ≡ Some x
@@ -91,17 +74,12 @@ both_none p (x ∷ xs) = refl
 
 pub all_both-same : {A B : Type 0} (p q : A → B → Bool) → ((x : A) (y : B) → p x y ≡ q x y)
     → (xs : List A) (ys : List B) → all_both p xs ys ≡ all_both q xs ys
-all_both-same p q same [] ys = refl
-all_both-same p q same (x ∷ xs) [] = refl
 all_both-same p q same (x ∷ xs) (y ∷ ys) = ap (λ b. b && all_both p xs ys) (same x y) ∙ ap (λ b. q x y && b) (all_both-same p q same xs ys)
+all_both-same p q same _ ys = refl
 
 module _ {A B : Type 0} (p : A → B → Bool) (xs : List A) (ys : List B) (i : ℕ) (so_far : all_both p xs ys ≡ all_both p (drop i xs) (drop i ys)) where
   pub both_end : (length xs ≤ i) ⊎ (length ys ≤ i) → true ≡ all_both p xs ys
-  both_end end = sym (so_far ∙ ended end)
-    where
-      ended : (length xs ≤ i) ⊎ (length ys ≤ i) → all_both p (drop i xs) (drop i ys) ≡ true
-      ended (inl h) = ap (λ l. all_both p l (drop i ys)) (none_left xs i h)
-      ended (inr h) = ap (λ l. all_both p (drop i xs) l) (none_left ys i h) ∙ both_none p (drop i xs)
+  both_end end = search (rules, none_left, both_none)
 
   left : (x : A) (y : B) → slice_get xs i ≡ Some x → slice_get ys i ≡ Some y
       → all_both p xs ys ≡ (p x y && all_both p (drop (i + 1) xs) (drop (i + 1) ys))
@@ -123,34 +101,15 @@ counts_are-permutation xs ys moved vs ns =
 pub counts_lie-permutation : (xs ys : List ℤ) → IsPermutation xs ys → (vs least most : List ℤ)
     → counts_lie ys vs least most ≡ counts_lie xs vs least most
 counts_lie-permutation xs ys moved vs least most =
-    ap (λ b. b && all_both (λ v n. int_le (count_of ys v) n) vs most)
-    (all_both-same (λ v n. int_le n (count_of ys v)) (λ v n. int_le n (count_of xs v)) (λ v n. ap (λ k. int_le n k) (sym (count_of-permutation xs ys moved v))) vs least)
-    ∙ ap (λ b. all_both (λ v n. int_le n (count_of xs v)) vs least && b)
-    (all_both-same (λ v n. int_le (count_of ys v) n) (λ v n. int_le (count_of xs v) n) (λ v n. ap (λ k. int_le k n) (sym (count_of-permutation xs ys moved v))) vs most)
+    search (rules, all_both-same, count_of-permutation)
 
 pub closed-permutation : (vs ys : List ℤ) → IsPermutation vs ys → (xs : List ℤ)
     → is_closed xs ys ≡ is_closed xs vs
-closed-permutation vs ys moved [] = refl
-closed-permutation vs ys moved (x ∷ xs) =
-    ap (λ b. b && is_closed xs ys) (sym (list_any-IsPermutation (λ y. y =ℤ x) vs ys moved)) ∙ ap (λ b. is_among x vs && b) (closed-permutation vs ys moved xs)
+closed-permutation vs ys moved xs = grind (arith, common_steps, list_any-IsPermutation)
 
 -- ---- the same list
 
-pub other_lengths : {A : Type 0} (same : A → A → Bool) (xs ys : List A) → ¬ (length xs ≡ length ys)
-    → false ≡ is_same_list same xs ys
-other_lengths same [] [] other = absurd (other refl)
-other_lengths same [] (y ∷ ys) other = refl
-other_lengths same (x ∷ xs) [] other = refl
-other_lengths same (x ∷ xs) (y ∷ ys) other = sym (ap (λ b. same x y && b) (sym (other_lengths same xs ys (λ e. other (ap suc e)))) ∙ and_false (same x y))
-  where
-    and_false : (b : Bool) → (b && false) ≡ false
-    and_false true = refl
-    and_false false = refl
-
 module _ {A : Type 0} (same : A → A → Bool) (xs ys : List A) (i : ℕ) (so_far : is_same_list same xs ys ≡ is_same_list same (drop i xs) (drop i ys)) where
-  pub same_end : length xs ≤ i → length ys ≤ i → true ≡ is_same_list same xs ys
-  same_end end_x end_y = sym (so_far ∙ rw (none_left xs i end_x, none_left ys i end_y))
-
   left_same : (x y : A) → slice_get xs i ≡ Some x → slice_get ys i ≡ Some y
       → is_same_list same xs ys ≡ (same x y
       && is_same_list same (drop (i + 1) xs) (drop (i + 1) ys))

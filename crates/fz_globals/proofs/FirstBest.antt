@@ -1,26 +1,20 @@
 -- The index of the first element that is a number, and of the first that is the best.
-use Rattle.std.proofs.Common.{◌≡◌, ℕ, ◌+◌, ◌≤◌, ℤ, pos, ◌+ℤ◌, Bool, true, false, ◌&&◌, ◌||◌, List, [], ◌∷◌, drop, length, if◌then◌else◌, Option, Some, None, slice_get, refl, sym, ap, subst, ◌∙◌, arith}
+use Rattle.std.proofs.Common.{◌≡◌, ℕ, ◌+◌, ℤ, pos, ◌+ℤ◌, Bool, true, false, ◌&&◌, ◌||◌, List, [], ◌∷◌, drop, if◌then◌else◌, Option, Some, slice_get, refl, sym, ap, subst, ◌∙◌, arith, rules}
 use Rattle.std.specs.List.{list_all, list_any}
 use Rattle.std.specs.Cmp.{both_ways}
 use Rattle.std.proofs.lemmas.Int.{ints}
 use Rattle.std.proofs.lemmas.Bool.{or_right}
 use Rattle.std.proofs.lemmas.Bool.Decides.{Decides-int_eq}
-use Rattle.fz_meaning.specs.Relations.{◌=ℤ◌, is_among, index_from}
-use Rattle.fz_meaning.proofs.Values.{no, and_first, and_second, and_both, same_int, int_itself}
-use Rattle.fz_globals.proofs.Tested.{other_int}
-use Rattle.fz_kernel.proofs.Left.{next, none_left}
+use Rattle.fz_kernel.specs.of_meaning.Relations.{◌=ℤ◌, is_among, index_from}
+use Rattle.fz_kernel.proofs.of_meaning.Values.{no, and_first, and_second, and_both, same_int, int_itself}
+use Rattle.fz_globals.proofs.Compared.{is_other}
+use Rattle.fz_kernel.proofs.Left.{next}
 use Rattle.fz_kernel.proofs.Best.{IsOrder, is_best, is_the_best}
 
 -- ---- the first element that is a number
 
-pub from_here : (o : ℤ) → o ≡ (o +ℤ pos 0)
-from_here o = omega (arith, ints)
-
 pub one_on : (o : ℤ) (i : ℕ) → ((o +ℤ pos i) +ℤ pos 1) ≡ (o +ℤ pos (i + 1))
 one_on o i = omega (arith, ints)
-
-pub none_passed : (o n : ℤ) (xs : List ℤ) → index_from o xs n ≡ index_from (o +ℤ pos 0) xs n
-none_passed o n xs = ap (λ i. index_from i xs n) (from_here o)
 
 module _ (o n : ℤ) (xs : List ℤ) (i : ℕ) (r : Option ℤ) (so_far : r ≡ index_from (o +ℤ pos i) (drop i xs) n) where
   module _ (x : ℤ) (at : slice_get xs i ≡ Some x) where
@@ -32,12 +26,7 @@ module _ (o n : ℤ) (xs : List ℤ) (i : ℕ) (r : Option ℤ) (so_far : r ≡ 
     stands_there same = one ∙ ap (λ b. if b then Some (o +ℤ pos i) else index_from ((o +ℤ pos i) +ℤ pos 1) (drop (i + 1) xs) n) ((Decides-int_eq x n).1 same)
 
     pub stands_behind : ¬ (x ≡ n) → r ≡ index_from (o +ℤ pos (i + 1)) (drop (i + 1) xs) n
-    stands_behind other =
-        one ∙ ap (λ b. if b then Some (o +ℤ pos i) else index_from ((o +ℤ pos i) +ℤ pos 1) (drop (i + 1) xs) n) (other_int x n other)
-        ∙ ap (λ j. index_from j (drop (i + 1) xs) n) (one_on o i)
-
-  pub stands_nowhere : length xs ≤ i → r ≡ None
-  stands_nowhere end = so_far ∙ ap (λ l. index_from (o +ℤ pos i) l n) (none_left xs i end)
+    stands_behind other = search (rules, one, is_other, one_on)
 
 -- ---- the best
 

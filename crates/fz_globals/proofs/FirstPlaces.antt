@@ -6,13 +6,14 @@ use Rattle.std.specs.Cmp.{int_cmp_total}
 use Rattle.std.specs.List.Sorted.{IsSorted}
 use Rattle.std.proofs.lemmas.Int.{ints}
 use Rattle.std.proofs.lemmas.Bool.{cases_lt}
-use Rattle.std.proofs.lemmas.Bool.Decides.{Decides-int_eq}
+use Rattle.std.proofs.lemmas.Bool.Decides.{nat_tests}
 use Rattle.std.proofs.lemmas.List.Sorted.{sorted_far, ranks_by, Contains-permutation, IsPermutation-sym}
 use Rattle.std.proofs.lemmas.Option.{same_Some, slice_get_within, slice_get-get_or, get_or_from_slice_get}
+use Rattle.std.proofs.lemmas.Grind.{common_steps}
 use Rattle.fz_base.proofs.Numbers.{not_below}
-use Rattle.fz_meaning.specs.Relations.{◌=ℤ◌, index_from, precedes}
+use Rattle.fz_kernel.specs.of_meaning.Relations.{◌=ℤ◌, index_from, precedes}
 use Rattle.fz_globals.specs.Keys.{key, keys_from, AreKeys, comes_before}
-use Rattle.fz_globals.proofs.Tested.{other_int}
+use Rattle.fz_globals.proofs.Compared.{is_other}
 use Rattle.fz_kernel.proofs.Left.{next}
 
 -- ---- numbers in order
@@ -31,9 +32,7 @@ one_more_key ks xs i x at = ap (λ l. ks ++ keys_from i l) (next xs i x at) ∙ 
 key_at : (xs : List ℤ) (n k j : ℕ) (x : ℤ) → j ≡ n + k → slice_get xs k ≡ Some x
     → slice_get (keys_from n xs) k ≡ Some (key x j)
 key_at [] n k j x is at = cc
-key_at (y ∷ ys) n zero j x is at =
-    let place : n ≡ j = omega arith in
-    (λ i. Some (key (same_Some y x at i) (place i)))
+key_at (y ∷ ys) n zero j x is at = grind (arith, common_steps, same_Some)
 key_at (y ∷ ys) n (suc k) j x is at = key_at ys (n + 1) k j x (omega arith) at
 
 key_is : (xs : List ℤ) (n k : ℕ) (z : ℤ) → slice_get (keys_from n xs) k ≡ Some z
@@ -42,10 +41,7 @@ key_is [] n k z at = cc
 key_is (y ∷ ys) n zero z at =
     let place : n ≡ n + 0 = omega arith in
     (y, refl, sym (same_Some (key y n) z at) ∙ ap (key y) place)
-key_is (y ∷ ys) n (suc k) z at =
-    let there = key_is ys (n + 1) k z at in
-    let place : (n + 1) + k ≡ n + suc k = omega arith in
-    (there.0, there.1, there.2 ∙ ap (key there.0) place)
+key_is (y ∷ ys) n (suc k) z at = grind (arith, common_steps, key_is ys (n + 1) k z at)
 
 contained : (xs : List ℤ) (k : ℕ) (x : ℤ) → slice_get xs k ≡ Some x → Contains xs x
 contained xs k x at = (k, slice_get_within xs k x at, get_or_from_slice_get xs k x x at)
@@ -71,19 +67,17 @@ module _ (xs ks : List ℤ) (keys : AreKeys xs ks) where
 first_there : (o v : ℤ) (xs : List ℤ) (k : ℕ) → slice_get xs k ≡ Some v
     → ((q : ℕ) → q < k → slice_get xs q ≡ Some v → ⊥) → index_from o xs v ≡ Some (o +ℤ pos k)
 first_there o v [] k at before = cc
-first_there o v (x ∷ xs) zero at before =
-    let here : o ≡ o +ℤ pos 0 = omega (arith, ints) in
-    ap (λ b. if b then Some o else index_from (o +ℤ pos 1) xs v) ((Decides-int_eq x v).1 (same_Some x v at)) ∙ ap Some here
+first_there o v (x ∷ xs) zero at before = grind (arith, ints, nat_tests, same_Some)
 first_there o v (x ∷ xs) (suc k) at before =
     let there : (o +ℤ pos 1) +ℤ pos k ≡ o +ℤ pos (suc k) = omega (arith, ints) in
-    ap (λ b. if b then Some o else index_from (o +ℤ pos 1) xs v) (other_int x v (λ same. before 0 (omega arith) (ap Some same)))
+    ap (λ b. if b then Some o else index_from (o +ℤ pos 1) xs v) (is_other x v (λ same. before 0 (omega arith) (ap Some same)))
     ∙ first_there (o +ℤ pos 1) v xs k at (λ q h e. before (suc q) (omega arith) e) ∙ ap Some there
 
 nowhere : (o v : ℤ) (xs : List ℤ) → ((q : ℕ) → slice_get xs q ≡ Some v → ⊥)
     → index_from o xs v ≡ None
 nowhere o v [] none = refl
 nowhere o v (x ∷ xs) none =
-    ap (λ b. if b then Some o else index_from (o +ℤ pos 1) xs v) (other_int x v (λ same. none 0 (ap Some same)))
+    ap (λ b. if b then Some o else index_from (o +ℤ pos 1) xs v) (is_other x v (λ same. none 0 (ap Some same)))
     ∙ nowhere (o +ℤ pos 1) v xs (λ q e. none (suc q) e)
 
 place_between : (v z : ℤ) (q : ℕ) → key v 0 ≤ℤ z → z ≤ℤ key v q → (p : ℕ) × (p ≤ q) × (z ≡ key v p)

@@ -1,24 +1,21 @@
 -- Sets of the indices of Booleans.
-use Rattle.std.proofs.Common.{◌≡◌, ℕ, ◌+◌, ◌≤◌, ◌↔◌, ℤ, pos, ◌+ℤ◌, ◌-ℤ◌, ◌≤ℤ◌, Bool, true, false, ◌&&◌, List, [], ◌∷◌, drop, length, nat_eq, FitsSigned, w64, Some, slice_get, refl, sym, ap, ◌∙◌, arith}
+use Rattle.std.proofs.Common.{◌≡◌, ℕ, ◌+◌, ◌↔◌, ℤ, pos, ◌+ℤ◌, ◌-ℤ◌, ◌≤ℤ◌, Bool, true, false, ◌&&◌, List, [], ◌∷◌, drop, length, nat_eq, FitsSigned, w64, Some, slice_get, refl, sym, ap, ◌∙◌, arith}
 use Rattle.std.specs.Int.{int_min}
 use Rattle.std.specs.Ordering.{int_cmp}
 use Rattle.std.specs.Cmp.{int_cmp_total, both_ways}
 use Rattle.std.specs.FinSet.{contains, empty, is_subset, len, contains-empty, is_subset-contains, contains-is_subset, empty_of_len, len-empty}
 use Rattle.std.proofs.lemmas.Int.{ints}
 use Rattle.std.proofs.lemmas.Bool.Decides.{nat_tests}
+use Rattle.fz_base.proofs.Covers.{and-true}
 use Rattle.fz_base.specs.Sets.{NumberSet, numbers_between, LiesWithin, Has64Bits}
 use Rattle.fz_base.specs.Ranges.{is_between}
 use Rattle.fz_base.proofs.Numbers.{contains-numbers_between, same_numbers}
-use Rattle.fz_meaning.specs.Relations.{◌=ᴮ◌, flags_are, is_flagged}
-use Rattle.fz_meaning.proofs.Values.{no}
-use Rattle.fz_globals.proofs.FirstBest.{from_here, one_on}
-use Rattle.fz_kernel.proofs.Left.{next, none_left}
+use Rattle.fz_kernel.specs.of_meaning.Relations.{◌=ᴮ◌, flags_are, is_flagged}
+use Rattle.fz_kernel.proofs.of_meaning.Values.{no}
+use Rattle.fz_globals.proofs.FirstBest.{one_on}
+use Rattle.fz_kernel.proofs.Left.{next}
 
 -- ---- flags, one after another
-
-pub no_flags_yet : (o : ℤ) (bs : List Bool) (s : NumberSet)
-    → flags_are o bs s ≡ flags_are (o +ℤ pos 0) bs s
-no_flags_yet o bs s = ap (λ i. flags_are i bs s) (from_here o)
 
 module _ (o : ℤ) (bs : List Bool) (s : NumberSet) (i : ℕ) (r : Bool) (so_far : r ≡ flags_are (o +ℤ pos i) (drop i bs) s) where
   module _ (b : Bool) (at : slice_get bs i ≡ Some b) where
@@ -31,9 +28,6 @@ module _ (o : ℤ) (bs : List Bool) (s : NumberSet) (i : ℕ) (r : Bool) (so_far
 
     pub flag_differs : (b =ᴮ contains s (o +ℤ pos i)) ≡ false → false ≡ r
     flag_differs other = sym (one ∙ ap (λ c. c && flags_are (o +ℤ pos (i + 1)) (drop (i + 1) bs) s) other)
-
-  pub all_agree : length bs ≤ i → true ≡ r
-  all_agree end = sym (so_far ∙ ap (λ l. flags_are (o +ℤ pos i) l s) (none_left bs i end))
 
 -- ---- the numbers that are indices
 
@@ -91,11 +85,7 @@ no_index o s =
 
 pub none_flagged : (s : NumberSet) (bs : List Bool) (o : ℤ) → length bs ≡ 0
     → nat_eq (len s) 0 ≡ is_flagged s bs o
-none_flagged s [] o none = no_index o s ∙ sym (and_true (is_subset s (numbers_between o (last_of o 0))))
-  where
-    and_true : (p : Bool) → (p && true) ≡ p
-    and_true true = refl
-    and_true false = refl
+none_flagged s [] o none = no_index o s ∙ sym (and-true (is_subset s (numbers_between o (last_of o 0))))
 none_flagged s (b ∷ bs) o none = absurd (omega arith)
 
 module _ (s : NumberSet) (bs : List Bool) (o last : ℤ) (r : Bool) (told : r ≡ true ↔ LiesWithin o last s) (fits : Has64Bits s) (is : last ≡ int_min (last_of o (length bs)) greatest) where

@@ -6,8 +6,9 @@ use Rattle.std.proofs.lemmas.Int.{ints}
 use Rattle.std.proofs.lemmas.Bool.{cases_lt}
 use Rattle.std.proofs.lemmas.List.Folds.{list_any_at, list_any_none}
 use Rattle.std.proofs.lemmas.List.Sorted.{sorted_far, ranks_by, searchable_from_sorted}
+use Rattle.std.proofs.lemmas.Grind.{common_steps}
 use Rattle.fz_base.proofs.Numbers.{not_below}
-use Rattle.fz_meaning.specs.Relations.{◌=ℤ◌, is_among}
+use Rattle.fz_kernel.specs.of_meaning.Relations.{◌=ℤ◌, is_among}
 use Rattle.fz_globals.proofs.Each.{filter_yes, filter_no}
 
 -- each number is at most the later ones
@@ -55,12 +56,7 @@ pub parts_add : (xs : List ℤ) (v : ℤ) → length (filter (λ x. int_lt x v) 
     (filter (λ x. x =ℤ v) xs) ≡ length (filter (λ x. int_le x v) xs)
 parts_add [] v = refl
 parts_add (x ∷ xs) v =
-    let rest : length (filter (λ x. int_lt x v) xs) + length (filter (λ x. x =ℤ v) xs) ≡ length (filter (λ x. int_le x v) xs) = parts_add xs v in
-    elim (three_cases x v) [
-      | inl h ↦ omega (arith, filter_yes (λ y. int_lt y v) x xs h.0, filter_no (λ y. y =ℤ v) x xs h.1, filter_yes (λ y. int_le y v) x xs h.2)
-      | inr (inl h) ↦ omega (arith, filter_no (λ y. int_lt y v) x xs h.0, filter_yes (λ y. y =ℤ v) x xs h.1, filter_yes (λ y. int_le y v) x xs h.2)
-      | inr (inr h) ↦ omega (arith, filter_no (λ y. int_lt y v) x xs h.0, filter_no (λ y. y =ℤ v) x xs h.1, filter_no (λ y. int_le y v) x xs h.2)
-    ]
+    grind (arith, common_steps, int_lt, three_cases, filter_yes, filter_no, parts_add xs v)
 
 -- ---- a number that is looked for
 

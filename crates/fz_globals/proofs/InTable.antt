@@ -1,25 +1,23 @@
 -- Two lists compared index by index, and the rows of a table one after another.
-use Rattle.std.proofs.Common.{◌≡◌, ℕ, suc, zero, ◌+◌, ◌*◌, ◌%◌, ◌<◌, ◌≤◌, Bool, true, false, ◌&&◌, ◌||◌, List, [], ◌∷◌, drop, take, length, nat_eq, Some, slice_get, refl, sym, ap, ◌∙◌, arith}
+use Rattle.std.proofs.Common.{◌≡◌, ℕ, suc, zero, ◌+◌, ◌*◌, ◌<◌, ◌≤◌, Bool, true, false, ◌&&◌, ◌||◌, List, [], ◌∷◌, drop, take, length, Some, slice_get, refl, sym, ap, ◌∙◌, arith, rules}
 use Rattle.std.specs.List.{list_any}
 use Rattle.std.proofs.lemmas.List.{length-drop, drop-drop}
-use Rattle.std.proofs.lemmas.Nat.{mod-mul-add, mul-add-lt, mul-le}
-use Rattle.fz_meaning.specs.Relations.{is_same_list, is_row_of, rows_of, rows_within}
-use Rattle.fz_kernel.proofs.Left.{next, none_left}
+use Rattle.std.proofs.lemmas.Nat.{mod-mul-add, mul-add-lt}
+use Rattle.std.proofs.lemmas.Grind.{common_steps}
+use Rattle.fz_kernel.specs.of_meaning.Relations.{is_same_list, is_row_of, rows_of, rows_within}
+use Rattle.fz_kernel.proofs.Left.{next}
 
 -- ---- indices of a part of a list
 
 pub in_front : {A : Type 0} (xs : List A) (n i : ℕ) (x : A) → i < n → slice_get xs i ≡ Some x
     → slice_get (take n xs) i ≡ Some x
 in_front xs zero i x h at = absurd (omega arith)
-in_front [] (suc n) i x h at = at
-in_front (y ∷ ys) (suc n) zero x h at = at
 in_front (y ∷ ys) (suc n) (suc i) x h at = in_front ys n i x (omega arith) at
+in_front _ (suc n) i x h at = at
 
 pub behind : {A : Type 0} (xs : List A) (s i j : ℕ) (x : A) → j ≡ s + i → slice_get xs j ≡ Some x
     → slice_get (drop s xs) i ≡ Some x
-behind xs zero i j x is at =
-    let same : j ≡ i = omega arith in
-    ap (slice_get xs) (sym same) ∙ at
+behind xs zero i j x is at = grind (arith, common_steps)
 behind [] (suc s) i j x is at = at
 behind (y ∷ ys) (suc s) i zero x is at = absurd (omega arith)
 behind (y ∷ ys) (suc s) i (suc j) x is at = behind ys s i j x (omega arith) at
@@ -37,28 +35,20 @@ module _ {A : Type 0} (same : A → A → Bool) (xs ys : List A) (i : ℕ) where
     pub differs : same x y ≡ false → false ≡ r
     differs failed = sym (one ∙ ap (λ b. b && is_same_list same (drop (i + 1) xs) (drop (i + 1) ys)) failed)
 
-  pub both_end : (r : Bool) → length xs ≤ i → length ys ≤ i
-      → r ≡ is_same_list same (drop i xs) (drop i ys) → true ≡ r
-  both_end r end_x end_y so_far = sym (so_far ∙ (λ k. is_same_list same (none_left xs i end_x k) (none_left ys i end_y k)))
-
 -- ---- rows
 
 -- the number of rows that is asked for doesn't matter where it is large enough
 enough : {A : Type 0} (k j n : ℕ) (xs : List A) → length xs ≤ k → length xs ≤ j
     → rows_within k (suc n) xs ≡ rows_within j (suc n) xs
-enough zero zero n xs h g = refl
-enough zero (suc j) n [] h g = refl
 enough zero (suc j) n (x ∷ xs) h g = absurd (omega arith)
-enough (suc k) zero n [] h g = refl
 enough (suc k) zero n (x ∷ xs) h g = absurd (omega arith)
-enough (suc k) (suc j) n [] h g = refl
 enough (suc k) (suc j) n (x ∷ xs) h g = ap (λ r. take (suc n) (x ∷ xs) ∷ r) (enough k j n (drop n xs) (omega (arith, length-drop n xs)) (omega (arith, length-drop n xs)))
+enough _ _ n xs h g = refl
 
 first_row : {A : Type 0} (n : ℕ) (xs : List A) → 0 < n → 0 < length xs
     → rows_of n xs ≡ take n xs ∷ rows_of n (drop n xs)
-first_row zero xs h g = absurd (omega arith)
-first_row (suc n) [] h g = absurd (omega arith)
 first_row (suc n) (x ∷ xs) h g = ap (λ r. take (suc n) (x ∷ xs) ∷ r) (enough (length xs) (length (drop n xs)) n (drop n xs) (omega (arith, length-drop n xs)) (omega arith))
+first_row _ xs h g = absurd (omega arith)
 
 -- a table of so many rows, of which i are done
 module _ {A : Type 0} (test : List A → Bool) (t : List A) (n rows i : ℕ) (wide : 0 < n) (whole : rows * n ≡ length t) (r : Bool) (so_far : r ≡ list_any test (rows_of n (drop (i * n) t))) where
@@ -72,34 +62,12 @@ module _ {A : Type 0} (test : List A → Bool) (t : List A) (n rows i : ℕ) (wi
       row_more : (i n : ℕ) → i * n + n ≡ (i + 1) * n
       row_more i n = omega arith
 
-  pub row_passes : i < rows → (start : ℕ) → start ≡ i * n → test (take n (drop start t)) ≡ true
-      → true ≡ r
-  row_passes more start is passed =
-      let here : test (take n (drop (i * n) t)) ≡ true = ap (λ m. test (take n (drop m t))) (sym is) ∙ passed in
-      sym (one_row more ∙ ap (λ b. b || list_any test (rows_of n (drop ((i + 1) * n) t))) here)
-
   pub row_fails : i < rows → (start : ℕ) → start ≡ i * n → test (take n (drop start t)) ≡ false
       → r ≡ list_any test (rows_of n (drop ((i + 1) * n) t))
-  row_fails more start is failed =
-      let here : test (take n (drop (i * n) t)) ≡ false = ap (λ m. test (take n (drop m t))) (sym is) ∙ failed in
-      one_row more ∙ ap (λ b. b || list_any test (rows_of n (drop ((i + 1) * n) t))) here
-
-  pub rows_end : rows ≤ i → false ≡ r
-  rows_end end = sym (so_far ∙ ap (λ l. list_any test (rows_of n l)) (none_left t (i * n) (omega (arith, mul-le rows n i n end (omega arith)))))
+  row_fails more start is failed = search (rules, one_row)
 
 module _ {A : Type 0} (same : A → A → Bool) where
   pub whole_rows : (xs t : List A) (rows : ℕ) → 0 < length xs → rows * length xs ≡ length t
       → is_row_of same xs t ≡ list_any (is_same_list same xs)
       (rows_of (length xs) (drop (0 * length xs) t))
-  whole_rows [] t rows wide whole = absurd (omega arith)
-  whole_rows (x ∷ xs) t rows wide whole =
-      let sum : length t ≡ rows * length (x ∷ xs) + 0 = omega arith in
-      let even : length t % length (x ∷ xs) ≡ 0 = ap (λ m. m % length (x ∷ xs)) sum ∙ mod-mul-add rows (length (x ∷ xs)) 0 wide in
-      let start : 0 ≡ 0 * length (x ∷ xs) = omega arith in
-      ap (λ m. nat_eq m 0 && list_any (is_same_list same (x ∷ xs)) (rows_of (length (x ∷ xs)) t)) even
-      ∙ ap (λ m. list_any (is_same_list same (x ∷ xs)) (rows_of (length (x ∷ xs)) (drop m t))) start
-
-  pub no_rows : (xs t : List A) → (0 < length xs → nat_eq (length t % length xs) 0 ≡ false)
-      → is_row_of same xs t ≡ false
-  no_rows [] t odd = refl
-  no_rows (x ∷ xs) t odd = ap (λ b. b && list_any (is_same_list same (x ∷ xs)) (rows_of (length (x ∷ xs)) t)) (odd (omega arith))
+  whole_rows xs t rows wide whole = grind (arith, common_steps, mod-mul-add)

@@ -1,13 +1,13 @@
 -- Lists of successors: the elements as positions, and inverse lists.
-use Rattle.std.proofs.Common.{◌≡◌, ℕ, suc, zero, ◌+◌, ◌≤◌, ℤ, pos, negsuc, ◌+ℤ◌, ◌-ℤ◌, Bool, true, false, not, ◌&&◌, ◌||◌, List, [], ◌∷◌, drop, length, Some, option_map, slice_get, refl, sym, ap, ◌∙◌, arith, add-one}
+use Rattle.std.proofs.Common.{◌≡◌, ℕ, suc, zero, ◌+◌, ◌≤◌, ℤ, pos, negsuc, ◌+ℤ◌, ◌-ℤ◌, Bool, true, false, not, ◌&&◌, ◌||◌, List, [], ◌∷◌, drop, length, Some, option_map, slice_get, refl, sym, ap, ◌∙◌, arith, add-one, rules}
 use Rattle.std.specs.Option.{option_map_or}
 use Rattle.std.proofs.lemmas.Int.{ints}
 use Rattle.std.proofs.lemmas.List.{length-map}
-use Rattle.std.proofs.lemmas.Bool.Decides.{Decides-int_eq}
 use Rattle.std.proofs.lemmas.Option.{slice_get-map}
-use Rattle.fz_meaning.specs.Relations.{◌=ℤ◌, all_different, element_at, is_among, as_places, leads_back, lies_between}
-use Rattle.fz_meaning.proofs.Values.{no, and_first, and_second}
-use Rattle.fz_kernel.proofs.Left.{next, none_left}
+use Rattle.std.proofs.lemmas.Grind.{common_steps}
+use Rattle.fz_kernel.specs.of_meaning.Relations.{◌=ℤ◌, all_different, element_at, is_among, as_places, leads_back, lies_between}
+use Rattle.fz_kernel.proofs.of_meaning.Values.{no, and_first, and_second}
+use Rattle.fz_kernel.proofs.Left.{next}
 use Rattle.fz_kernel.proofs.Passed.{element_is}
 
 -- ---- elements as positions
@@ -52,23 +52,17 @@ is_no_place (negsuc k) count none e = no e
 
 pub element_place : (xs : List ℤ) (n c : ℤ) → element_at xs n ≡ Some c
     → (k : ℕ) × (n ≡ pos (suc k)) × (slice_get xs k ≡ Some c)
-element_place [] n c e = cc
-element_place (x ∷ xs) (negsuc n) c e = cc
-element_place (x ∷ xs) (pos zero) c e = cc
 element_place (x ∷ xs) (pos (suc k)) c e = (k, refl, sym (element_is (x ∷ xs) k) ∙ e)
+element_place _ n c e = cc
 
 pub listed_at : (xs : List ℤ) (k : ℕ) (c : ℤ) → slice_get xs k ≡ Some c → is_among c xs ≡ true
 listed_at [] k c at = cc
-listed_at (x ∷ xs) zero c at =
-    let same : x ≡ c = cc in
-    ap (λ b. b || is_among c xs) ((Decides-int_eq x c).1 same)
+listed_at (x ∷ xs) zero c at = grind (arith, common_steps)
 listed_at (x ∷ xs) (suc k) c at = elim (x =ℤ c) as (λ b. (b || is_among c xs) ≡ true) [ true ↦ refl | false ↦ listed_at xs k c at ]
 
 twice : (x : ℤ) (xs : List ℤ) (j : ℕ) (c : ℤ) → all_different (x ∷ xs) ≡ true → Some x ≡ Some c
     → slice_get xs j ≡ Some c → ⊥
-twice x xs j c apart here there =
-    let same : c ≡ x = cc in
-    no (ap not (sym (listed_at xs j x (there ∙ ap Some same))) ∙ and_first (not (is_among x xs)) (all_different xs) apart)
+twice x xs j c apart here there = search (rules, no, listed_at, and_first)
 
 -- a number is at one position of a list whose elements are different
 pub one_place : (xs : List ℤ) (k j : ℕ) (c : ℤ) → all_different xs ≡ true → slice_get xs k ≡ Some c
@@ -95,6 +89,3 @@ module _ (f g : List ℤ) (i : ℕ) (r : Bool) (so_far : r ≡ leads_back (pos (
 
     pub leads_off : leads_to g x (pos (i + 1)) ≡ false → false ≡ r
     leads_off failed = sym (one ∙ ap (λ b. b && leads_back (pos ((i + 1) + 1)) (drop (i + 1) f) g) failed)
-
-  pub all_lead : length f ≤ i → true ≡ r
-  all_lead end = sym (so_far ∙ ap (λ l. leads_back (pos (i + 1)) l g) (none_left f i end))

@@ -16,4 +16,5 @@ pub mod Tested
 pub mod Valued
 pub mod Walked
 pub use Rattle.fz_kernel.proofs.of_data
-pub use Rattle.fz_kernel.proofs.of_view
+pub use Rattle.fz_kernel.proofs as of_kernel
+pub use Rattle.fz_kernel.proofs.of_meaning

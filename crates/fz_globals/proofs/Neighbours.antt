@@ -1,7 +1,7 @@
 -- A loop that tests each element with the next one.
-use Rattle.std.proofs.Common.{◌≡◌, ℕ, ◌+◌, ◌-◌, ◌≤◌, Bool, true, false, ◌&&◌, List, [], ◌∷◌, drop, length, Some, slice_get, refl, sym, ap, ◌∙◌, arith}
+use Rattle.std.proofs.Common.{◌≡◌, ℕ, ◌+◌, ◌-◌, ◌≤◌, Bool, true, false, ◌&&◌, List, ◌∷◌, drop, length, Some, slice_get, refl, sym, ap, ◌∙◌, arith, rules}
 use Rattle.std.proofs.lemmas.List.{length-drop}
-use Rattle.fz_meaning.specs.Relations.{all_neighbours}
+use Rattle.fz_kernel.specs.of_meaning.Relations.{all_neighbours}
 use Rattle.fz_kernel.proofs.Left.{next}
 
 -- each of those before the index i passes with the next one, where that is before i too
@@ -9,9 +9,8 @@ abbrev pub PassUpTo : {A : Type 0} → (A → A → Bool) → List A → ℕ →
 PassUpTo p xs i = all_neighbours p xs ≡ all_neighbours p (drop (i - 1) xs)
 
 short : {A : Type 0} (p : A → A → Bool) (xs : List A) → length xs ≤ 1 → all_neighbours p xs ≡ true
-short p [] h = refl
-short p (x ∷ []) h = refl
 short p (x ∷ y ∷ xs) h = absurd (omega arith)
+short p _ h = refl
 
 pub all_pass : {A : Type 0} (p : A → A → Bool) (xs : List A) (i : ℕ) → length xs ≤ i
     → PassUpTo p xs i → true ≡ all_neighbours p xs
@@ -19,16 +18,10 @@ all_pass p xs i end so_far = sym (so_far ∙ short p (drop (i - 1) xs) (omega (a
 
 module _ {A : Type 0} (p : A → A → Bool) (xs : List A) (i : ℕ) (x y : A) (from_one : 1 ≤ i) (so_far : PassUpTo p xs i) (at_x : slice_get xs (i - 1) ≡ Some x) (at_y : slice_get xs i ≡ Some y) where
   left : all_neighbours p xs ≡ (p x y && all_neighbours p (drop i xs))
-  left =
-      let place : (i - 1) + 1 ≡ i = omega arith in
-      let rest : drop i xs ≡ y ∷ drop (i + 1) xs = next xs i y at_y in
-      let two : drop (i - 1) xs ≡ x ∷ drop i xs = next xs (i - 1) x at_x ∙ ap (λ k. x ∷ drop k xs) place in
-      so_far ∙ ap (all_neighbours p) (two ∙ ap (λ l. x ∷ l) rest) ∙ ap (λ l. p x y && all_neighbours p l) (sym rest)
+  left = search (rules, next)
 
   pub pair_passes : p x y ≡ true → PassUpTo p xs (i + 1)
-  pair_passes e =
-      let place : i ≡ (i + 1) - 1 = omega arith in
-      left ∙ ap (λ b. b && all_neighbours p (drop i xs)) e ∙ ap (λ k. all_neighbours p (drop k xs)) place
+  pair_passes e = search (rules, left)
 
   pub pair_fails : p x y ≡ false → false ≡ all_neighbours p xs
   pair_fails e = sym (left ∙ ap (λ b. b && all_neighbours p (drop i xs)) e)

@@ -1,17 +1,13 @@
 -- The best element of a list has one index: that of the first element that is the number.
-use Rattle.std.proofs.Common.{◌≡◌, ℤ, Bool, true, false, List, Option, Some, None, IfSome, IfNone, sym, ap, subst, ◌∙◌}
-use Rattle.std.specs.Cmp.{both_ways}
+use Rattle.std.proofs.Common.{◌≡◌, ℤ, Bool, true, false, List, Option, Some, None, IfSome, IfNone, sym, ap, ◌∙◌, rules}
 use Rattle.std.specs.Option.{option_map_or}
-use Rattle.fz_meaning.specs.Relations.{◌=ℤ◌, index_from, is_index_of_best}
-use Rattle.fz_meaning.proofs.Values.{same_int, int_itself}
+use Rattle.fz_kernel.specs.of_meaning.Relations.{◌=ℤ◌, index_from, is_index_of_best}
+use Rattle.fz_kernel.proofs.of_meaning.Values.{same_int, int_itself}
 use Rattle.fz_kernel.proofs.Best.{IsOrder, is_best}
 use Rattle.fz_globals.proofs.FirstBest.{at_the_best}
 
 turned_round : (a b : ℤ) → (a =ℤ b) ≡ (b =ℤ a)
-turned_round a b = both_ways (a =ℤ b) (b =ℤ a) (equal a b) (equal b a)
-  where
-    equal : (x y : ℤ) → (x =ℤ y) ≡ true → (y =ℤ x) ≡ true
-    equal x y same = subst (λ z. (z =ℤ x) ≡ true) (same_int x y same) (int_itself x)
+turned_round a b = search (rules, same_int, int_itself)
 
 module _ (below : ℤ → ℤ → Bool) (order : IsOrder below) (o m : ℤ) (xs : List ℤ) (best : is_best below m xs ≡ true) where
   at_index : (r : Option ℤ) → r ≡ index_from o xs m → (j : ℤ)

@@ -5,10 +5,11 @@ use Rattle.std.specs.Ordering.{int_cmp}
 use Rattle.std.specs.Cmp.{int_cmp_total, both_ways}
 use Rattle.std.proofs.lemmas.Bool.Decides.{nat_tests}
 use Rattle.std.specs.FinSet.{contains, empty, union, intersection, difference, is_subset, len, contains-empty, contains-union, contains-intersection, contains-difference, is_subset-contains, contains-is_subset, empty_of_len, len-empty}
+use Rattle.fz_base.proofs.Covers.{and-false}
 use Rattle.fz_base.specs.Sets.{NumberSet}
 use Rattle.fz_base.proofs.Numbers.{same_numbers}
-use Rattle.fz_meaning.specs.Relations.{◌=ˢ◌, all_pairs, are_disjoint, is_partition, union_of}
-use Rattle.fz_meaning.proofs.Values.{no, and_first, and_second, and_both, same_truth, same_set_is, set_itself}
+use Rattle.fz_kernel.specs.of_meaning.Relations.{◌=ˢ◌, all_pairs, are_disjoint, is_partition, union_of}
+use Rattle.fz_kernel.proofs.of_meaning.Values.{no, and_first, and_second, and_both, same_truth, same_set_is, set_itself}
 use Rattle.fz_kernel.proofs.Left.{next, none_left}
 
 -- ---- sets that are disjoint
@@ -44,11 +45,7 @@ told_disjoint r s t h =
 
 all_apart : (s : NumberSet) (ss : List NumberSet) → list_all (are_disjoint s) ss ≡ true → (q : ℤ)
     → (contains s q && contains (union_of ss) q) ≡ false
-all_apart s [] e q = ap (λ b. contains s q && b) (contains-empty int_cmp q) ∙ and_false (contains s q)
-  where
-    and_false : (p : Bool) → (p && false) ≡ false
-    and_false true = refl
-    and_false false = refl
+all_apart s [] e q = ap (λ b. contains s q && b) (contains-empty int_cmp q) ∙ and-false (contains s q)
 all_apart s (t ∷ ss) e q =
     ap (λ b. contains s q && b) (contains-union int_cmp_total t (union_of ss) q)
     ∙ neither (contains s q) (contains t q) (contains (union_of ss) q)

@@ -1,10 +1,10 @@
 -- Which values come before which.
-use Rattle.std.proofs.Common.{◌≡◌, ℕ, ◌+◌, ◌≤◌, ℤ, pos, ◌+ℤ◌, Bool, true, false, not, ◌&&◌, ◌||◌, List, drop, length, int_le, Some, slice_get, refl, sym, ap, ◌∙◌}
+use Rattle.std.proofs.Common.{◌≡◌, ℕ, ◌+◌, ℤ, pos, ◌+ℤ◌, Bool, true, false, not, ◌&&◌, ◌||◌, List, drop, int_le, Some, slice_get, refl, sym, ap, ◌∙◌}
 use Rattle.std.specs.Int.{int_max}
 use Rattle.std.proofs.lemmas.Bool.Decides.{Decides-int_eq}
-use Rattle.fz_meaning.specs.Relations.{◌=ℤ◌, precedes, rises_by_one}
-use Rattle.fz_globals.proofs.Tested.{other_int}
-use Rattle.fz_kernel.proofs.Left.{next, none_left}
+use Rattle.fz_kernel.specs.of_meaning.Relations.{◌=ℤ◌, precedes, rises_by_one}
+use Rattle.fz_globals.proofs.Compared.{is_other}
+use Rattle.fz_kernel.proofs.Left.{next}
 
 -- ---- one value before another
 
@@ -18,13 +18,10 @@ module _ (s t : ℤ) (xs : List ℤ) (i : ℕ) (r : Bool) (so_far : r ≡ preced
     second_comes same = sym (one true (x =ℤ s) ((Decides-int_eq x t).1 same) refl)
 
     pub first_comes : ¬ (x ≡ t) → x ≡ s → true ≡ r
-    first_comes other same = sym (one false true (other_int x t other) ((Decides-int_eq x s).1 same))
+    first_comes other same = sym (one false true (is_other x t other) ((Decides-int_eq x s).1 same))
 
     pub neither_comes : ¬ (x ≡ t) → ¬ (x ≡ s) → r ≡ precedes s t (drop (i + 1) xs)
-    neither_comes other_t other_s = one false false (other_int x t other_t) (other_int x s other_s)
-
-  pub none_comes : length xs ≤ i → true ≡ r
-  none_comes end = sym (so_far ∙ ap (precedes s t) (none_left xs i end))
+    neither_comes other_t other_s = one false false (is_other x t other_t) (is_other x s other_s)
 
 -- ---- values that rise
 
@@ -39,6 +36,3 @@ module _ (most : ℤ) (xs : List ℤ) (i : ℕ) (r : Bool) (so_far : r ≡ rises
 
     pub rises_too_far : int_le x (most +ℤ pos 1) ≡ false → false ≡ r
     rises_too_far failed = sym (rise ∙ ap (λ b. b && rises_by_one (int_max most x) (drop (i + 1) xs)) failed)
-
-  pub all_rise : length xs ≤ i → true ≡ r
-  all_rise end = sym (so_far ∙ ap (rises_by_one most) (none_left xs i end))

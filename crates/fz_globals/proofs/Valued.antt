@@ -1,6 +1,6 @@
 -- How many different numbers a list has: as many as its set; and where they are in order,
 -- neighbours tell.
-use Rattle.std.proofs.Common.{◌≡◌, ℕ, suc, zero, ◌+◌, ◌-◌, ◌<◌, ◌≤◌, ℤ, ◌<ℤ◌, ◌≤ℤ◌, Bool, true, false, cond, ◌||◌, List, [], ◌∷◌, drop, length, get_or, All, IsPermutation, int_cmp, int_eq, sym, ap, ◌∙◌, refl, arith}
+use Rattle.std.proofs.Common.{◌≡◌, ℕ, suc, zero, ◌+◌, ◌-◌, ◌<◌, ◌≤◌, ℤ, ◌<ℤ◌, ◌≤ℤ◌, Bool, true, false, cond, ◌||◌, List, [], ◌∷◌, drop, length, get_or, All, IsPermutation, int_cmp, int_eq, sym, ap, ◌∙◌, refl, arith, rules}
 use Rattle.std.specs.Ordering.{eq_by_cmp}
 use Rattle.std.specs.Cmp.{int_cmp_total}
 use Rattle.std.specs.List.{list_any}
@@ -9,8 +9,8 @@ use Rattle.std.proofs.lemmas.Int.{ints}
 use Rattle.std.proofs.lemmas.List.{drop_more, length-drop, get_or-drop, get_or_default}
 use Rattle.std.proofs.lemmas.List.Sorted.{list_any-IsPermutation}
 use Rattle.std.proofs.lemmas.Bool.Decides.{Decides-int_eq}
-use Rattle.fz_meaning.specs.Relations.{◌=ℤ◌, is_among, values_of}
-use Rattle.fz_meaning.proofs.Values.{same_truth, same_int}
+use Rattle.fz_kernel.specs.of_meaning.Relations.{◌=ℤ◌, is_among, values_of}
+use Rattle.fz_kernel.proofs.of_meaning.Values.{same_truth, same_int}
 use Rattle.fz_globals.proofs.Compared.{above_is_other}
 use Rattle.fz_globals.proofs.Halving.{Ascends}
 
@@ -55,38 +55,20 @@ pub record AreValued (xs : List ℤ) (i n : ℕ) : Type 0 where
   pub whole : n + length (values_of (drop (i - 1) xs)) ≡ 1 + length (values_of xs)
   pub few : n ≤ i
 
-pub one_valued : (xs : List ℤ) → AreValued xs 1 1
-one_valued xs = record { whole = refl; few = omega arith }
-
 one_left : (xs : List ℤ) → length xs ≡ 1 → length (values_of xs) ≡ 1
-one_left [] h = absurd (omega arith)
 one_left (x ∷ []) h = refl
-one_left (x ∷ y ∷ xs) h = absurd (omega arith)
+one_left _ h = absurd (omega arith)
 
 pub all_valued : (xs : List ℤ) (i n : ℕ) → 1 ≤ length xs → i ≡ length xs → AreValued xs i n
     → n ≡ length (values_of xs)
-all_valued xs i n some end so_far =
-    let whole : n + length (values_of (drop (i - 1) xs)) ≡ 1 + length (values_of xs) = so_far.whole in
-    let last : length (values_of (drop (i - 1) xs)) ≡ 1 = one_left (drop (i - 1) xs) (omega (arith, length-drop (i - 1) xs)) in
-    omega arith
+all_valued xs i n some end so_far = search (rules, one_left, length-drop)
 
 module _ (xs : List ℤ) (i n : ℕ) (d : ℤ) (up : Ascends xs) (from_one : 1 ≤ i) (inside : i < length xs) (so_far : AreValued xs i n) where
   here : drop (i - 1) xs ≡ get_or xs (i - 1) d ∷ drop i xs
-  here =
-      let place : (i - 1) + 1 ≡ i = omega arith in
-      drop_more xs (i - 1) d (omega arith) ∙ ap (λ k. get_or xs (i - 1) d ∷ drop k xs) place
+  here = search (rules, drop_more)
 
   pub value_again : (m : ℕ) → m ≡ n → get_or xs (i - 1) d ≡ get_or xs i d → AreValued xs (i + 1) m
-  value_again m is same =
-      let listed : is_among (get_or xs (i - 1) d) (drop i xs) ≡ true =
-      ap (is_among (get_or xs (i - 1) d)) (drop_more xs i d inside) ∙ ap (λ s. s || is_among (get_or xs (i - 1) d) (drop (i + 1) xs)) ((Decides-int_eq (get_or xs i d) (get_or xs (i - 1) d)).1 (sym same)) in
-      let step : length (values_of (drop (i - 1) xs)) ≡ length (values_of (drop i xs)) =
-      ap (λ l. length (values_of l)) here ∙ ap (λ b. length (cond b (values_of (drop i xs)) (get_or xs (i - 1) d ∷ values_of (drop i xs)))) listed in
-      let place : i ≡ (i + 1) - 1 = omega arith in
-      let moved : length (values_of (drop i xs)) ≡ length (values_of (drop ((i + 1) - 1) xs)) = ap (λ k. length (values_of (drop k xs))) place in
-      let whole : n + length (values_of (drop (i - 1) xs)) ≡ 1 + length (values_of xs) = so_far.whole in
-      let few : n ≤ i = so_far.few in
-      record { whole = omega arith; few = omega arith }
+  value_again m is same = search (rules, drop_more, here)
 
   pub value_new : (m : ℕ) → m ≡ n + 1 → ¬ (get_or xs (i - 1) d ≡ get_or xs i d)
       → AreValued xs (i + 1) m

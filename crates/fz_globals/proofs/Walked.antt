@@ -1,14 +1,16 @@
 -- Where the successors in a list lead, step by step, and whether the positions on the way are
 -- different.
-use Rattle.std.proofs.Common.{◌≡◌, ℕ, suc, zero, ◌+◌, ◌-◌, ◌<◌, ◌≤◌, ℤ, pos, Bool, true, false, not, ◌&&◌, ◌||◌, inl, inr, List, [], ◌∷◌, drop, length, nat_eq, if◌then◌else◌, Some, None, option_and_then, slice_get, refl, sym, ap, subst, ◌∙◌, arith}
+use Rattle.std.proofs.Common.{◌≡◌, ℕ, suc, zero, ◌+◌, ◌-◌, ◌<◌, ℤ, pos, true, false, not, ◌&&◌, ◌||◌, List, [], ◌∷◌, drop, length, nat_eq, if◌then◌else◌, Some, None, option_and_then, slice_get, refl, sym, ap, subst, ◌∙◌, arith, rules}
 use Rattle.std.specs.Option.{option_map_or}
 use Rattle.std.proofs.lemmas.Int.{ints}
 use Rattle.std.proofs.lemmas.Bool.{or_right, cases_lt}
 use Rattle.std.proofs.lemmas.Bool.Decides.{nat_tests, Decides-int_eq}
 use Rattle.std.proofs.lemmas.Option.{same_Some}
-use Rattle.fz_meaning.specs.Relations.{◌=ℤ◌, all_different, element_at, is_among, are_places, tour, end_of_tour, is_circuit, moved_from, is_one_tour, is_subcircuit}
-use Rattle.fz_meaning.proofs.Values.{no, and_both, same_int}
-use Rattle.fz_kernel.proofs.Left.{next, none_left}
+use Rattle.std.proofs.lemmas.Grind.{common_steps}
+use Rattle.fz_base.proofs.Covers.{and-false, and-true}
+use Rattle.fz_kernel.specs.of_meaning.Relations.{◌=ℤ◌, all_different, element_at, is_among, are_places, tour, end_of_tour, is_circuit, moved_from, is_one_tour, is_subcircuit}
+use Rattle.fz_kernel.proofs.of_meaning.Values.{no, and_both, same_int}
+use Rattle.fz_kernel.proofs.Left.{next}
 use Rattle.fz_globals.proofs.Led.{element_place, one_place}
 
 -- ---- steps
@@ -26,9 +28,7 @@ module _ (f : List ℤ) where
   -- a way of a + b steps
   pub walked_on : (a b c : ℕ) (p q : ℤ) → c ≡ a + b → end_of_tour f a p ≡ Some q
       → end_of_tour f c p ≡ end_of_tour f b q
-  walked_on zero b c p q sum here =
-      let same : c ≡ b = omega arith in
-      ap (λ n. end_of_tour f n p) same ∙ ap (end_of_tour f b) (same_Some p q here)
+  walked_on zero b c p q sum here = grind (arith, common_steps, same_Some)
   walked_on (suc a) b zero p q sum here = absurd (omega arith)
   walked_on (suc a) b (suc c) p q sum here =
       elim (element_at f p) as (λ o. option_and_then (end_of_tour f a) o ≡ Some q → option_and_then (end_of_tour f c) o ≡ end_of_tour f b q) [
@@ -98,13 +98,7 @@ module _ (f : List ℤ) where
   -- back at the start before the end
   pub back_early : (n k : ℕ) (start : ℤ) → 0 < k → k < n → end_of_tour f k start ≡ Some start
       → all_different (tour f n start) ≡ false
-  back_early zero k start h g back = absurd (omega arith)
-  back_early (suc m) zero start h g back = absurd (omega arith)
-  back_early (suc m) (suc k) start h g back =
-      elim (element_at f start) as (λ o. option_and_then (end_of_tour f k) o ≡ Some start → (not (is_among start (option_map_or (tour f m) o [])) && all_different (option_map_or (tour f m) o [])) ≡ false) [
-        | None ↦ λ e. cc
-        | Some s ↦ λ e. ap (λ b. not b && all_different (tour f m s)) (is_on_tour m k start s (omega arith) e)
-      ] back
+  back_early n k start h g back = grind (arith, common_steps, is_on_tour)
 
   abbrev pub NotBack : ℤ → ℕ → Type 0
   NotBack start n = (k : ℕ) → 0 < k → k < n → end_of_tour f k start ≡ Some start → ⊥
@@ -114,14 +108,7 @@ module _ (f : List ℤ) where
       → end_of_tour f step (pos (start + 1)) ≡ Some (pos (place + 1))
       → (0 < step → place ≡ start → ⊥) → NotBack (pos (start + 1)) (step + 1)
   still_ahead start place step ahead here apart k some h back =
-      elim (cases_lt k step) [
-        | inl before ↦ ahead k some before back
-        | inr not_before ↦
-            let last : k ≡ step = omega arith in
-            let same : Some (pos (place + 1)) ≡ Some (pos (start + 1)) = sym here ∙ ap (λ n. end_of_tour f n (pos (start + 1))) (sym last) ∙ back in
-            let numbers : place + 1 ≡ start + 1 = cc in
-            apart (omega arith) (omega arith)
-      ]
+      grind (arith, common_steps, cases_lt)
 
   -- a way that ends where it began, and didn't come back before
   pub round : (start : ℤ) (n : ℕ) → NotBack start n → end_of_tour f n start ≡ Some start
@@ -139,10 +126,7 @@ module _ (f : List ℤ) where
 
   module _ (apart : all_different f ≡ true) where
     from_one_place : (a b c : ℤ) → element_at f a ≡ Some c → element_at f b ≡ Some c → a ≡ b
-    from_one_place a b c at_a at_b =
-        let one = element_place f a c at_a in
-        let other = element_place f b c at_b in
-        one.1 ∙ ap (λ k. pos (suc k)) (one_place f one.0 other.0 c apart one.2 other.2) ∙ sym other.1
+    from_one_place a b c at_a at_b = search (rules, element_place, one_place)
 
     from_one_start : (i : ℕ) (a b p : ℤ) → end_of_tour f i a ≡ Some p → end_of_tour f i b ≡ Some p
         → a ≡ b
@@ -168,33 +152,10 @@ module _ (f : List ℤ) where
 -- ---- circuits
 
 module _ (f : List ℤ) where
-  pub no_places : are_places (length f) f ≡ false → false ≡ is_circuit f
-  no_places e = sym (ap (λ b. b && all_different (tour f (length f) (pos 1)) && option_map_or (λ p. p =ℤ pos 1) (end_of_tour f (length f) (pos 1)) false) e)
-
-  pub comes_back : are_places (length f) f ≡ true
-      → all_different (tour f (length f) (pos 1)) ≡ false → false ≡ is_circuit f
-  comes_back places same = sym (λ k. places k && same k && option_map_or (λ p. p =ℤ pos 1) (end_of_tour f (length f) (pos 1)) false)
-
   pub comes_to : (p : ℕ) → are_places (length f) f ≡ true
       → end_of_tour f (length f) (pos 1) ≡ Some (pos (p + 1)) → NotBack f (pos 1) (length f)
       → nat_eq p 0 ≡ is_circuit f
-  comes_to p places end ahead =
-      first p ∙ sym ((λ k. places k && all_different (tour f (length f) (pos 1)) && option_map_or (λ q. q =ℤ pos 1) (end k) false) ∙ settled)
-    where
-      first : (p : ℕ) → nat_eq p 0 ≡ (pos (p + 1) =ℤ pos 1)
-      first p = grind (arith, ints, nat_tests)
-
-      and_false : (d : Bool) → (true && d && false) ≡ false
-      and_false true = refl
-      and_false false = refl
-
-      settled : (true && all_different (tour f (length f) (pos 1)) && (pos (p + 1) =ℤ pos 1))
-          ≡ (pos (p + 1) =ℤ pos 1)
-      settled =
-          elim (pos (p + 1) =ℤ pos 1) as (λ b. (pos (p + 1) =ℤ pos 1) ≡ b → (true && all_different (tour f (length f) (pos 1)) && b) ≡ b) [
-            | true ↦ λ same. ap (λ d. true && d && true) (round f (pos 1) (length f) ahead (end ∙ ap Some (same_int (pos (p + 1)) (pos 1) same)))
-            | false ↦ λ _. and_false (all_different (tour f (length f) (pos 1)))
-          ] refl
+  comes_to p places end ahead = grind (arith, ints, nat_tests, round, same_int, and-false)
 
 -- ---- the positions that are moved
 
@@ -212,18 +173,12 @@ module _ (f : List ℤ) (i : ℕ) (x : ℤ) (at : slice_get f i ≡ Some x) wher
       ≡ pos (i + 1) ∷ moved_from (pos ((i + 1) + 1)) (drop (i + 1) f)
   moves e = one_moved ∙ ap (λ b. if b then moved_from (pos ((i + 1) + 1)) (drop (i + 1) f) else (pos (i + 1) ∷ moved_from (pos ((i + 1) + 1)) (drop (i + 1) f))) e
 
-pub none_moved : (f : List ℤ) (i : ℕ) → length f ≤ i → moved_from (pos (i + 1)) (drop i f) ≡ []
-none_moved f i end = ap (moved_from (pos (i + 1))) (none_left f i end)
-
 pub tour_from : (f ms : List ℤ) (p : ℤ) → slice_get ms 0 ≡ Some p
     → is_one_tour f ms ≡ all_different (tour f (length ms) p)
 tour_from f [] p at = cc
 tour_from f (m ∷ ms) p at = ap (λ q. all_different (tour f (length (m ∷ ms)) q)) (same_Some m p at)
 
 module _ (f : List ℤ) where
-  pub no_places' : are_places (length f) f ≡ false → false ≡ is_subcircuit f
-  no_places' e = sym (ap (λ b. b && all_different f && is_one_tour f (moved_from (pos 1) f) && not (nat_eq (length f) 0)) e)
-
   pub no_permutation : are_places (length f) f ≡ true → all_different f ≡ false
       → false ≡ is_subcircuit f
   no_permutation places same = sym (λ k. places k && same k && is_one_tour f (moved_from (pos 1) f) && not (nat_eq (length f) 0))
@@ -231,11 +186,7 @@ module _ (f : List ℤ) where
   pub permutation : are_places (length f) f ≡ true → all_different f ≡ true
       → nat_eq (length f) 0 ≡ false → is_one_tour f (moved_from (pos 1) f) ≡ is_subcircuit f
   permutation places apart some =
-      sym ((λ k. places k && apart k && is_one_tour f (moved_from (pos 1) f) && not (some k)) ∙ and_true (is_one_tour f (moved_from (pos 1) f)))
-    where
-      and_true : (b : Bool) → (b && true) ≡ b
-      and_true true = refl
-      and_true false = refl
+      sym ((λ k. places k && apart k && is_one_tour f (moved_from (pos 1) f) && not (some k)) ∙ and-true (is_one_tour f (moved_from (pos 1) f)))
 
 pub no_positions : (f : List ℤ) → length f ≡ 0 → false ≡ is_subcircuit f
 no_positions [] none = refl

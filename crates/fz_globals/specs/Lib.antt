@@ -1,5 +1,6 @@
 pub mod Tests
 pub mod Held
 pub mod Keys
-pub use Rattle.fz_kernel.specs.of_view
+pub use Rattle.fz_kernel.specs as of_kernel
 pub use Rattle.fz_kernel.specs.of_data
+pub use Rattle.fz_kernel.specs.of_meaning

@@ -1,11 +1,11 @@
 // The indices of the greatest and of the least element.
 ghost use Rattle.std.specs.Prelude.{◌≡◌, ℤ, false, int_le, IfSome, IfNone};
-ghost use Rattle.fz_meaning.specs.Relations.{◌=ℤ◌, index_from, is_index_of_best};
-ghost use Rattle.fz_kernel.specs.of_view.Views.{ints};
+ghost use Rattle.fz_kernel.specs.of_meaning.Relations.{◌=ℤ◌, index_from, is_index_of_best};
+ghost use Rattle.fz_kernel.specs.Views.{ints};
 
 use crate::indices::index_at;
+use fz_kernel::Elements;
 use fz_kernel::arrays::{maximum, minimum};
-use fz_kernel::fz_arguments::Elements;
 
 /// The index, counted from `first`, of the first greatest element; none where there is no element.
 pub fn index_of_maximum(elements: &Elements, first: i64) -> Option<i128>
@@ -30,26 +30,6 @@ pub fn index_of_minimum(elements: &Elements, first: i64) -> Option<i128>
     match minimum(elements) {
         Some(least) => index_of(least, elements, first),
         None => None,
-    }
-}
-
-/// Whether the index, counted from `first`, is that of the first greatest element, if there is any.
-pub fn is_index_of_maximum(elements: &Elements, first: i64, index: i64) -> bool
-    ensures exact { result ≡ is_index_of_best (λ x m. int_le x m) (ints elements.now) first index }
-{
-    match index_of_maximum(elements, first) {
-        Some(best) => i128::from(index) == best,
-        None => false,
-    }
-}
-
-/// Whether the index, counted from `first`, is that of the first least element, if there is any.
-pub fn is_index_of_minimum(elements: &Elements, first: i64, index: i64) -> bool
-    ensures exact { result ≡ is_index_of_best (λ x m. int_le m x) (ints elements.now) first index }
-{
-    match index_of_minimum(elements, first) {
-        Some(best) => i128::from(index) == best,
-        None => false,
     }
 }
 

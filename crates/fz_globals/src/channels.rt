@@ -1,12 +1,12 @@
 // Channelling: each number is the index of the set that has the number's own index.
 ghost use Rattle.std.specs.Prelude.{◌≡◌};
-ghost use Rattle.fz_meaning.specs.Relations.{are_channelled};
-ghost use Rattle.fz_kernel.specs.of_view.Views.{ints, sets};
+ghost use Rattle.fz_kernel.specs.of_meaning.Relations.{are_channelled};
+ghost use Rattle.fz_kernel.specs.Views.{ints, sets};
 ghost use Rattle.fz_globals.specs.Held.{are_held, is_held, size_of_all};
 
 use crate::flags::has;
 use crate::indices::{index_at, place_from};
-use fz_kernel::fz_arguments::Elements;
+use fz_kernel::Elements;
 
 /// Whether each set, by its index from `first_part` on, has exactly the indices, from `first` on,
 /// of the numbers that are that index. It takes no memory.

@@ -2,14 +2,14 @@
 ghost use Rattle.std.specs.Prelude.{◌≡◌, length, pos, IfOk};
 ghost use Rattle.std.specs.List.{filter, list_any};
 ghost use Rattle.std.specs.FinSet as set;
-ghost use Rattle.fz_meaning.specs.Relations.{◌=ℤ◌, ◌=ᴮ◌, all_different, is_among, count_of, count_in, is_nonzero, values_of};
-ghost use Rattle.fz_kernel.specs.of_view.Views.{ints, bools};
+ghost use Rattle.fz_kernel.specs.of_meaning.Relations.{◌=ℤ◌, ◌=ᴮ◌, all_different, is_among, count_of, count_in, is_nonzero, values_of};
+ghost use Rattle.fz_kernel.specs.Views.{ints, bools};
 
 use crate::ordered::{numbers_in_order, values_in_order};
 use fz_base::IntSet;
+use fz_kernel::Elements;
 use fz_kernel::arrays::stands_from;
 use fz_kernel::distinct::all_different;
-use fz_kernel::fz_arguments::Elements;
 use std::alloc::{AllocError, Global};
 
 /// The number of indices with the value.

@@ -3,12 +3,12 @@ ghost use Rattle.std.specs.Prelude.{◌≡◌, int_le, IfOk};
 ghost use Rattle.std.specs.Ordering.{int_cmp};
 ghost use Rattle.std.specs.List.{list_all};
 ghost use Rattle.std.specs.List.Sorted.{IsSorted};
-ghost use Rattle.fz_meaning.specs.Relations.{◌=ℤ◌, is_among, all_both, count_of, counts_are, counts_lie, is_closed};
-ghost use Rattle.fz_kernel.specs.of_view.Views.{ints};
+ghost use Rattle.fz_kernel.specs.of_meaning.Relations.{◌=ℤ◌, is_among, all_both, count_of, counts_are, counts_lie, is_closed};
+ghost use Rattle.fz_kernel.specs.Views.{ints};
 
 use crate::ordered::{count_in_order, numbers_in_order, stands_in_order};
 use crate::testing::{all_pass, both_pass};
-use fz_kernel::fz_arguments::Elements;
+use fz_kernel::Elements;
 use std::alloc::{AllocError, Global};
 
 /// Whether each value of the cover occurs as often as its number says.

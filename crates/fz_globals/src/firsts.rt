@@ -2,11 +2,11 @@
 ghost use Rattle.std.specs.Prelude.{◌≡◌, ◌+◌, ◌<◌, ◌≤◌, ◌+ℤ◌, ◌<ℤ◌, ◌≤ℤ◌, ℕ, ℤ, List, pos, get_or, length, option_map, IfNone, IfOk, IfSome};
 ghost use Rattle.std.specs.Ordering.{int_cmp};
 ghost use Rattle.std.specs.List.Sorted.{IsSorted};
-ghost use Rattle.fz_meaning.specs.Relations.{index_from};
-ghost use Rattle.fz_kernel.specs.of_view.Views.{ints};
+ghost use Rattle.fz_kernel.specs.of_meaning.Relations.{index_from};
+ghost use Rattle.fz_kernel.specs.Views.{ints};
 ghost use Rattle.fz_globals.specs.Keys.{key, AreKeys};
 
-use fz_kernel::fz_arguments::Elements;
+use fz_kernel::Elements;
 use std::alloc::{AllocError, Global};
 
 /// The elements with their indices, each pair as one number (a key), in ascending order.

@@ -2,12 +2,12 @@
 ghost use Rattle.std.specs.Prelude.{◌≡◌, ◌+ℤ◌, ◌-ℤ◌, ◌<◌, pos};
 ghost use Rattle.std.specs.Int.{int_min};
 ghost use Rattle.std.specs.FinSet as number_sets;
-ghost use Rattle.fz_meaning.specs.Relations.{flags_are, is_flagged};
-ghost use Rattle.fz_kernel.specs.of_view.Views.{bools};
+ghost use Rattle.fz_kernel.specs.of_meaning.Relations.{flags_are, is_flagged};
+ghost use Rattle.fz_kernel.specs.Views.{bools};
 
 use crate::indices::index_at;
 use fz_base::IntSet;
-use fz_kernel::fz_arguments::Elements;
+use fz_kernel::Elements;
 
 /// Whether the set is that of the indices, from `first` on, of the Booleans that are true.
 pub fn is_flagged(set: &IntSet, flags: &Elements, first: i64) -> bool

@@ -1,7 +1,7 @@
 //! The relations of global constraints that order, count and arrange, each exactly as
 //! `fz_meaning`'s `Globals` has it, over the elements of arrays under a partial assignment; those
 //! of scheduling and packing are in `fz_scheduling`. An internal crate of `fz_model`: `fz_builtins`
-//! and `fz_eval` use these relations as they use those of `fz_kernel`.
+//! and `fz_model` use these relations as they use those of `fz_kernel`.
 //!
 //! Numbers go in as 64 bits and are computed with exactly: nothing wraps. Relations that sort
 //! numbers take memory.
@@ -25,3 +25,4 @@ mod testing;
 pub mod tours;
 
 pub use fz_kernel;
+pub use fz_kernel::fz_data::fz_meaning;

@@ -1,11 +1,11 @@
 // Elements compared with the next ones, and with their sorted list.
 ghost use Rattle.std.specs.Prelude.{◌≡◌, not, ◌||◌, int_le, int_lt, IfOk};
-ghost use Rattle.fz_meaning.specs.Relations.{◌=ℤ◌, all_neighbours, is_same_list, is_sorted_form};
-ghost use Rattle.fz_kernel.specs.of_view.Views.{ints, bools};
+ghost use Rattle.fz_kernel.specs.of_meaning.Relations.{◌=ℤ◌, all_neighbours, is_same_list, is_sorted_form};
+ghost use Rattle.fz_kernel.specs.Views.{ints, bools};
 
 use crate::ordered::numbers_in_order;
 use crate::testing::neighbours_pass;
-use fz_kernel::fz_arguments::Elements;
+use fz_kernel::Elements;
 use std::alloc::{AllocError, Global};
 
 /// Whether all numbers are equal.

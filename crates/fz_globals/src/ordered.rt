@@ -3,11 +3,11 @@ ghost use Rattle.std.specs.Prelude.{◌≡◌, length, int_le, int_lt, IfOk};
 ghost use Rattle.std.specs.Ordering.{int_cmp};
 ghost use Rattle.std.specs.List.{filter};
 ghost use Rattle.std.specs.List.Sorted.{IsSorted, IsPermutation};
-ghost use Rattle.fz_meaning.specs.Relations.{is_among, count_of, values_of};
-ghost use Rattle.fz_kernel.specs.of_view.Views.{ints};
+ghost use Rattle.fz_kernel.specs.of_meaning.Relations.{is_among, count_of, values_of};
+ghost use Rattle.fz_kernel.specs.Views.{ints};
 
+use fz_kernel::Elements;
 use fz_kernel::arrays::numbers_of;
-use fz_kernel::fz_arguments::Elements;
 use std::alloc::{AllocError, Global};
 
 /// The elements in ascending order.

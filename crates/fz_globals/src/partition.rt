@@ -1,11 +1,11 @@
 // Sets that have no element in common.
 ghost use Rattle.std.specs.Prelude.{◌≡◌, IfOk};
 ghost use Rattle.std.specs.FinSet.{difference};
-ghost use Rattle.fz_meaning.specs.Relations.{are_disjoint, is_partition};
-ghost use Rattle.fz_kernel.specs.of_view.Views.{sets};
+ghost use Rattle.fz_kernel.specs.of_meaning.Relations.{are_disjoint, is_partition};
+ghost use Rattle.fz_kernel.specs.Views.{sets};
 
 use fz_base::{IntSet, SetError};
-use fz_kernel::fz_arguments::Elements;
+use fz_kernel::Elements;
 use std::alloc::{AllocError, Global};
 
 /// Whether the sets have no element in common. It takes no memory.

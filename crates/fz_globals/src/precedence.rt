@@ -2,13 +2,13 @@
 ghost use Rattle.std.specs.Prelude.{◌≡◌, List, Some, ℤ, pos, option_map, IfOk};
 ghost use Rattle.std.specs.Ordering.{int_cmp};
 ghost use Rattle.std.specs.List.Sorted.{IsSorted};
-ghost use Rattle.fz_meaning.specs.Relations.{all_neighbours, precedes, rises_by_one};
-ghost use Rattle.fz_kernel.specs.of_view.Views.{ints};
+ghost use Rattle.fz_kernel.specs.of_meaning.Relations.{all_neighbours, precedes, rises_by_one};
+ghost use Rattle.fz_kernel.specs.Views.{ints};
 ghost use Rattle.fz_globals.specs.Keys.{AreKeys, comes_before};
 
 use crate::firsts::{first_place, keys_in_order};
 use crate::testing::neighbours_pass;
-use fz_kernel::fz_arguments::Elements;
+use fz_kernel::Elements;
 use std::alloc::{AllocError, Global};
 
 // Up to this many numbers in a chain the elements are gone over for each of them, which takes no

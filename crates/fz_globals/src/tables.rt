@@ -1,9 +1,9 @@
 // Rows of tables, which are written one after another.
 ghost use Rattle.std.specs.Prelude.{◌≡◌, ◌+◌, ◌*◌, ◌%◌, ◌≤◌, ◌<◌, false, drop, length, nat_eq, take, IfNone, IfSome};
-ghost use Rattle.fz_meaning.specs.Relations.{◌=ℤ◌, ◌=ᴮ◌, is_row_of, is_same_list};
-ghost use Rattle.fz_kernel.specs.of_view.Views.{bools, ints, slots_of};
+ghost use Rattle.fz_kernel.specs.of_meaning.Relations.{◌=ℤ◌, ◌=ᴮ◌, is_row_of, is_same_list};
+ghost use Rattle.fz_kernel.specs.Views.{bools, ints, slots_of};
 
-use fz_kernel::fz_arguments::Elements;
+use fz_kernel::Elements;
 
 /// Whether the elements are a row of the table; the empty list is none. The test of a row ends at
 /// the first element that differs.

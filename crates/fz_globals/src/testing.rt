@@ -2,11 +2,11 @@
 //! side.
 ghost use Rattle.std.specs.Prelude.{◌≡◌, ℤ, Bool};
 ghost use Rattle.std.specs.List.{list_all};
-ghost use Rattle.fz_meaning.specs.Relations.{all_both, all_neighbours};
-ghost use Rattle.fz_kernel.specs.of_view.Views.{ints};
+ghost use Rattle.fz_kernel.specs.of_meaning.Relations.{all_both, all_neighbours};
+ghost use Rattle.fz_kernel.specs.Views.{ints};
 ghost use Rattle.fz_globals.specs.Tests.{Is, IsOfTwo};
 
-use fz_kernel::fz_arguments::Elements;
+use fz_kernel::Elements;
 
 /// Whether each number passes.
 pub(crate) fn all_pass<F: Fn(i64) -> bool>(elements: &Elements, passes: F) -> bool

@@ -2,12 +2,12 @@
 // list begin with `first`, a position is counted from 0 and is the index less `first`.
 ghost use Rattle.std.specs.Prelude.{◌≡◌, ◌+◌, ◌<◌, ◌≤◌, ◌+ℤ◌, ◌-ℤ◌, ℕ, pos, true, false, [], length, slice_get, IfNone, IfOk, IfSome, Some};
 ghost use Rattle.std.specs.Option.{option_map_or};
-ghost use Rattle.fz_meaning.specs.Relations.{◌=ℤ◌, all_different, element_at, are_inverse, are_places, as_places, end_of_tour, is_circuit, is_one_tour, is_subcircuit, leads_back, lies_between, moved_from, tour};
-ghost use Rattle.fz_kernel.specs.of_view.Views.{ints, slots_of};
+ghost use Rattle.fz_kernel.specs.of_meaning.Relations.{◌=ℤ◌, all_different, element_at, are_inverse, are_places, as_places, end_of_tour, is_circuit, is_one_tour, is_subcircuit, leads_back, lies_between, moved_from, tour};
+ghost use Rattle.fz_kernel.specs.Views.{ints, slots_of};
 
 use crate::indices::{place_from, place_in};
+use fz_kernel::Elements;
 use fz_kernel::arrays::all_elements_different;
-use fz_kernel::fz_arguments::Elements;
 use std::alloc::{AllocError, Global};
 
 /// Whether each list is the inverse of the other. The indices in them begin with `fo` and `go`.

@@ -1,139 +1,147 @@
--- Names that have their printed values as these are taken have them under all later values.
-use Rattle.std.proofs.Common.{◌≡◌, ℕ, suc, zero, ◌<◌, Bool, true, false, not, cond, ◌&&◌, ◌==◌, List, [], ◌∷◌, ◌++◌, length, Option, Some, None, is_none, refl, sym, ap, ◌∙◌, subst, arith, eqb-true}
-use Rattle.std.proofs.Math.Bool.{and_assoc}
-use Rattle.std.specs.List.{AllByRecursion}
-use Rattle.std.specs.Option.{option_map_or, option_or}
+-- What a point gives rests on the values of its own scalars alone.
+use Rattle.std.proofs.Common.{◌≡◌, ◌||◌, ℕ, suc, zero, pos, negsuc, cond, List, [], ◌∷◌, ◌++◌, length, Option, Some, None, refl, sym, ap, subst, subst₂, ◌∙◌, option_map, option_and_then, slice_get, is_none, flat_map, IsSomeAnd, IfSome, IsFalse, IsTrue, arith, ◌⊎◌}
+use Rattle.std.specs.List.{AllByRecursion, list_any}
 use Rattle.fz_base.specs.declared.value.Value.{Value}
-use Rattle.fz_filling.specs.of_model.declared.Term.{Term}
-use Rattle.fz_filling.specs.of_model.declared.Term.TheVariants.{Var, Fixed}
-use Rattle.fz_filling.specs.of_model.Located.{Name, Literal}
-use Rattle.fz_filling.specs.of_model.Names.{literal_value}
-use Rattle.fz_filling.specs.of_model.Partial.{nothing_for}
-use Rattle.fz_filling.specs.of_model.Relations.{same_value, same_values}
-use Rattle.fz_filling.specs.of_model.Meaning.{Place, Model, Partial, find_name, first_some, give, option_cons, value, value_at, values, variables_of}
-use Rattle.fz_filling.specs.of_model.Meaning.Place.{Scalar, Array}
-use Rattle.fz_filling.proofs.of_model.Lists.{all_left, all_map, all_right}
-use Rattle.fz_filling.proofs.of_model.Steps.{value_at_other}
-use Rattle.fz_filling.proofs.of_model.Values.{and_first, and_second, no, same_value_is, value_itself, values_itself}
-use Rattle.fz_filling.specs.of_verdict.BlockFaults.{BlockFault, fault_if, items_fault, literal_fault, printed_fault, value_fault}
-use Rattle.fz_filling.specs.of_verdict.Solutions.{Printed, PrintedValue, printed_values}
-use Rattle.fz_filling.specs.of_verdict.BlockFaults.BlockFaultKind.{UnknownName, WrongLength}
-use Rattle.fz_filling.specs.of_verdict.Solutions.PrintedValue.{OneValue, ArrayOf}
-use Rattle.fz_filling.specs.of_verdict.Filling.{HasAllOf, pairs, pairs_at, printed_scalars, start_from}
-use Rattle.fz_filling.specs.of_verdict.Verdict.{has_printed, printed_fails}
-use Rattle.fz_filling.specs.of_verdict.Verdict.Fault.{PrintedFault}
-use Rattle.fz_filling.proofs.of_verdict.Accepted.{or_none}
-use Rattle.fz_filling.proofs.of_verdict.Chain.{Agrees, value_under}
-use Rattle.fz_judge.specs.Working.{agree_all, has_value, item_scalars, with_all, with_first}
-use Rattle.fz_judge.proofs.Starting.{scalars_more, start_more, starts_with_nothing}
+use Rattle.fz_base.specs.declared.value.Value.TheVariants.{Int}
+use Rattle.fz_search.specs.of_model.Builtins.{Row}
+use Rattle.fz_search.specs.of_model.States.{leaves_128, product_before, known_products, products_leave, sums_leave, terms_at_argument}
+use Rattle.fz_search.specs.of_model.Results.{Result, result_of}
+use Rattle.fz_search.specs.of_model.Builtins.ArgValue.{OneValue, ManyValues}
+use Rattle.fz_search.specs.of_model.Results.Result.{NoResult, Places, UnitTerm}
+use Rattle.fz_search.specs.of_model.declared.Term.{Term}
+use Rattle.fz_search.specs.of_model.declared.Term.TheVariants.{Var, Fixed}
+use Rattle.fz_search.specs.of_model.Meaning.{Argument, Model, Point, Partial, value, values, value_at, give, option_cons, terms_in, argument_value, argument_values, row_of, row_holds, HoldsUnder, inside, as_int}
+use Rattle.fz_search.specs.of_model.Meaning.Place.{Scalar, Array}
+use Rattle.fz_search.specs.of_model.Meaning.Argument.{One, ListOf}
+use Rattle.fz_search.specs.of_model.Meaning.Point.{DomainPoint, DefinitionPoint, ArrayPoint, ConstraintPoint}
+use Rattle.fz_search.proofs.of_model.Lists.{all_left, all_right}
+use Rattle.fz_search.specs.of_model.Steps.{Gives, IsResult, IsTarget, SumsFit, HasUnitCoefficient, terms_of, open_terms}
+use Rattle.fz_judge.specs.Outlooks.{Agree}
 
--- ---- taking a value takes none away
+-- ---- values
 
-given_keeps : (K : Partial) (n : ℕ) (v : Value) (b : Bool) → is_none (value_at K n) ≡ b
-    → HasAllOf K (cond b (give K n v) K)
-given_keeps K n v false e = λ k u at. at
-given_keeps K n v true e = λ k u at. value_at_other K n k v (λ same. none_some (value_at K n) u e (ap (value_at K) (sym same) ∙ at)) ∙ at
-  where
-    none_some : (o : Option Value) (u : Value) → is_none o ≡ true → o ≡ Some u → ⊥
-    none_some None u e at = cc
-    none_some (Some w) u e at = no e
+pub agree_back : (K L : Partial) (ts : List Term) → Agree K L ts → Agree L K ts
+agree_back K L [] h = tt
+agree_back K L (t ∷ ts) h = (sym h.0, agree_back K L ts h.1)
 
-first_keeps : (K : Partial) (q : Term × Value) → HasAllOf K (with_first K q)
-first_keeps K (Var n, v) = given_keeps K n v (is_none (value_at K n)) refl
-first_keeps K (Fixed w, v) = λ k u at. at
+module _ (K L : Partial) where
+  pub values_agree : (ts : List Term) → Agree K L ts → values K ts ≡ values L ts
+  values_agree [] h = refl
+  values_agree (t ∷ ts) h = λ i. option_cons (h.0 i) (values_agree ts h.1 i)
 
-all_keep : (K : Partial) (qs : List (Term × Value)) → HasAllOf K (with_all K qs)
-all_keep K [] = λ k u at. at
-all_keep K (q ∷ qs) = λ k u at. all_keep (with_first K q) qs k u (first_keeps K q k u at)
+  pub open_agree : (ts : List Term) → Agree K L ts → open_terms K ts ≡ open_terms L ts
+  open_agree [] h = refl
+  open_agree (t ∷ ts) h = λ i. cond (is_none (h.0 i)) (t ∷ open_agree ts h.1 i) (open_agree ts h.1 i)
 
--- ---- what agrees has its value
+  agrees_at : (ts : List Term) (i : ℕ) (t : Term) → Agree K L ts → slice_get ts i ≡ Some t
+      → value K t ≡ value L t
+  agrees_at [] i t h e = cc
+  agrees_at (u ∷ ts) zero t h e = let same : u ≡ t = cc in subst (λ z. value K z ≡ value L z) same h.0
+  agrees_at (u ∷ ts) (suc i) t h e = agrees_at ts i t h.1 e
 
-has_is : (K : Partial) (q : Term × Value) → has_value K q ≡ true → Agrees K q
-has_is K q h = (elim (value K q.0) as (λ o. option_map_or (λ v. same_value v q.1) o false ≡ true → o ≡ Some q.1) [ None ↦ λ h. no h | Some v ↦ λ h. ap Some (same_value_is v q.1 h) ]) h
+  left_part : (xs ys : List Term) → Agree K L (xs ++ ys) → Agree K L xs
+  left_part xs ys h = all_left (λ t. value K t ≡ value L t) xs ys h
 
-they_agree : (K : Partial) (qs : List (Term × Value)) → agree_all K qs ≡ true
-    → AllByRecursion (Agrees (with_all K qs)) qs
-they_agree K [] h = tt
-they_agree K (q ∷ qs) h = (
-  value_under (with_first K q) (with_all (with_first K q) qs) (all_keep (with_first K q) qs) q.0 q.1 (has_is (with_first K q) q (and_first (has_value (with_first K q) q) (agree_all (with_first K q) qs) h)),
-  they_agree (with_first K q) qs (and_second (has_value (with_first K q) q) (agree_all (with_first K q) qs) h),
-)
+  right_part : (xs ys : List Term) → Agree K L (xs ++ ys) → Agree K L ys
+  right_part xs ys h = all_right (λ t. value K t ≡ value L t) xs ys h
 
--- a variable has the value that it was given
-pub given_agrees : (K : Partial) (n : ℕ) (v : Value) → n < length K
-    → has_value (give K n v) (Var n, v) ≡ true
-given_agrees K n v h = ap (λ o. option_map_or (λ w. same_value w v) o false) (given_at K n v h) ∙ value_itself v
-  where
-    given_at : (K : Partial) (n : ℕ) (v : Value) → n < length K → value_at (give K n v) n ≡ Some v
-    given_at [] n v h = absurd (omega arith)
-    given_at (o ∷ K) zero v h = refl
-    given_at (o ∷ K) (suc n) v h = given_at K n v (omega arith)
+  argument_agrees : (x : Argument) → Agree K L (terms_in x)
+      → argument_value K x ≡ argument_value L x
+  argument_agrees (One (Scalar k t)) h = ap (option_map OneValue) h.0
+  argument_agrees (One (Array name k ts)) h = ap (option_map ManyValues) (values_agree ts h)
+  argument_agrees (ListOf ps) h = ap (option_map ManyValues) (values_agree (terms_in (ListOf ps)) h)
 
--- ---- one item after another
+  arguments_agree : (xs : List Argument) → Agree K L (flat_map terms_in xs)
+      → argument_values K xs ≡ argument_values L xs
+  arguments_agree [] h = refl
+  arguments_agree (x ∷ xs) h = λ i. option_cons (argument_agrees x (left_part (terms_in x) (flat_map terms_in xs) h) i) (arguments_agree xs (right_part (terms_in x) (flat_map terms_in xs) h) i)
 
-pub agree_append : (K : Partial) (qs rs : List (Term × Value))
-    → agree_all K (qs ++ rs) ≡ (agree_all K qs && agree_all (with_all K qs) rs)
-agree_append K [] rs = refl
-agree_append K (q ∷ qs) rs = ap (λ b. has_value (with_first K q) q && b) (agree_append (with_first K q) qs rs) ∙ sym (and_assoc (has_value (with_first K q) q) (agree_all (with_first K q) qs) (agree_all (with_all (with_first K q) qs) rs))
+  products_agree : (as' bs : List Term) → Agree K L as' → Agree K L bs
+      → known_products K as' bs ≡ known_products L as' bs
+  products_agree [] bs g h = refl
+  products_agree (a ∷ as') [] g h = refl
+  products_agree (a ∷ as') (b ∷ bs) g h = λ i. product_before (option_and_then as_int (g.0 i)) (option_and_then as_int (h.0 i)) (products_agree as' bs g.1 h.1 i)
 
--- the values so far are those of the items so far
-taken : (m : Model) (qs : List (Term × Value))
-    → start_from qs 0 (variables_of m) ≡ with_all (nothing_for m) qs
-taken m qs = start_more [] qs (variables_of m) ∙ ap (λ K. with_all K qs) (sym (starts_with_nothing m))
+  argument_at_agrees : (xs : List Argument) (i : ℕ) → Agree K L (flat_map terms_in xs)
+      → Agree K L (terms_at_argument xs i)
+  argument_at_agrees [] i h = tt
+  argument_at_agrees (x ∷ xs) zero h = left_part (terms_in x) (flat_map terms_in xs) h
+  argument_at_agrees (x ∷ xs) (suc i) h = argument_at_agrees xs i (right_part (terms_in x) (flat_map terms_in xs) h)
 
-pub agree_item_more : (m : Model) (xs : List Printed) (i : Printed) (K : Partial)
-    → K ≡ start_from (printed_scalars m xs) 0 (variables_of m)
-    → agree_all (nothing_for m) (printed_scalars m (xs ++ i ∷ [])) ≡ (agree_all (nothing_for m) (printed_scalars m xs) && agree_all K (item_scalars m i))
-agree_item_more m xs i K before =
-    ap (agree_all (nothing_for m)) (scalars_more m xs i) ∙ agree_append (nothing_for m) (printed_scalars m xs) (item_scalars m i)
-    ∙ ap (λ J. agree_all (nothing_for m) (printed_scalars m xs) && agree_all J (item_scalars m i)) (sym (before ∙ taken m (printed_scalars m xs)))
+  sums_agree : (xs : List Argument) (ps : List (ℕ × ℕ)) → Agree K L (flat_map terms_in xs)
+      → list_any (products_leave K xs) ps ≡ list_any (products_leave L xs) ps
+  sums_agree xs [] h = refl
+  sums_agree xs ((i, j) ∷ ps) h =
+      let products = products_agree (terms_at_argument xs i) (terms_at_argument xs j) (argument_at_agrees xs i h) (argument_at_agrees xs j h) in
+      λ k. leaves_128 (products k) || sums_agree xs ps h k
 
--- ---- and so under the filling
+  -- ---- the parts of a step
 
-scalars_have : (K : Partial) (ts : List Term) (ls : List Literal) → length ls ≡ length ts
-    → AllByRecursion (Agrees K) (pairs ts (printed_values ls))
-    → values K ts ≡ Some (printed_values ls)
-scalars_have K [] [] e h = refl
-scalars_have K [] (l ∷ ls) e h = cc
-scalars_have K (t ∷ ts) [] e h = cc
-scalars_have K (t ∷ ts) (l ∷ ls) e h = let shorter : length ls ≡ length ts = cc in λ i. option_cons (h.0 i) (scalars_have K ts ls shorter h.1 i)
+  unit_agrees : (xs : List Argument) (n : ℕ) → Agree K L (flat_map terms_in xs)
+      → HasUnitCoefficient K xs n → HasUnitCoefficient L xs n
+  unit_agrees xs n h (i, stands, u, beside, is_unit) =
+      (i, stands, u, beside, subst (λ o. (o ≡ Some (Int (pos 1))) ⊎ (o ≡ Some (Int (negsuc 0)))) (agrees_at (terms_at_argument xs 0) i u (argument_at_agrees xs 0 h) beside) is_unit)
 
-place_has : (K : Partial) (x : Name) (p : Place) (v : PrintedValue) → value_fault x p v ≡ None
-    → AllByRecursion (Agrees K) (pairs_at p v) → has_printed K p v ≡ true
-place_has K x (Scalar k t) (OneValue l) e h = ap (λ o. option_map_or (λ v. same_value v (literal_value l.what)) o false) h.0 ∙ value_itself (literal_value l.what)
-place_has K x (Scalar k t) (ArrayOf is ls) e h = cc
-place_has K x (Array y k ts) (OneValue l) e h = cc
-place_has K x (Array y k ts) (ArrayOf is ls) e h =
-    let long : length ls ≡ length ts = as_many (length ls) (length ts) (or_none (fault_if (not (length ls == length ts)) WrongLength x.span) (first_some (literal_fault k) ls) e).0 in
-    ap (λ o. option_map_or (λ vs. same_values vs (printed_values ls)) o false) (scalars_have K ts ls long h) ∙ values_itself (printed_values ls)
-  where
-    as_many : (a b : ℕ) → fault_if (not (a == b)) WrongLength x.span ≡ None → a ≡ b
-    as_many a b e = eqb-true a b ((elim (a == b) as (λ c. fault_if (not c) WrongLength x.span ≡ None → c ≡ true) [ true ↦ λ _. refl | false ↦ λ e. cc ]) e)
+  result_agrees : (xs : List Argument) (n : ℕ) (r : Result) → Agree K L (flat_map terms_in xs)
+      → IsResult K xs n r → IsResult L xs n r
+  result_agrees xs n NoResult h is = is
+  result_agrees xs n (Places ks) h is = is
+  result_agrees xs n UnitTerm h is = unit_agrees xs n h is
 
-item_at : (K : Partial) (i : Printed) (o : Option Place) → ◌≡◌ {A = Option BlockFault} (elim o [ None ↦ Some (record { kind = UnknownName; at = i.name.span }) | Some p ↦ value_fault i.name p i.value ]) None → AllByRecursion (Agrees K) (option_map_or (λ p. pairs_at p i.value) o [])
-    → cond (option_map_or (λ p. has_printed K p i.value) o false) None (Some (PrintedFault i.name.text)) ≡ None
-item_at K i None e h = cc
-item_at K i (Some p) e h = ap (λ b. cond b None (Some (PrintedFault i.name.text))) (place_has K i.name p i.value e h)
+  target_agrees : (p : Point) (n : ℕ) → Agree K L (terms_of p) → IsTarget K p n → IsTarget L p n
+  target_agrees (DomainPoint x k) n h t = t
+  target_agrees (DefinitionPoint x k e) n h t = t
+  target_agrees (ArrayPoint name d ts) n h t = t
+  target_agrees (ConstraintPoint k p) n h (named, is) = (named, by_row (row_of p) is)
+    where
+      by_row : (o : Option Row) → IsSomeAnd o (λ r. IsResult K p.arguments n (result_of r))
+          → IsSomeAnd o (λ r. IsResult L p.arguments n (result_of r))
+      by_row None is = is
+      by_row (Some r) is = result_agrees p.arguments n (result_of r) h is
 
-item_has : (m : Model) (K : Partial) (i : Printed) → printed_fault m i ≡ None
-    → AllByRecursion (Agrees K) (item_scalars m i) → printed_fails m K i ≡ None
-item_has m K i = item_at K i (find_name m i.name.text)
+  sums_fit_agree : (p : Point) → Agree K L (terms_of p) → SumsFit K p → SumsFit L p
+  sums_fit_agree (DomainPoint x k) h s = tt
+  sums_fit_agree (DefinitionPoint x k e) h s = tt
+  sums_fit_agree (ArrayPoint name d ts) h s = tt
+  sums_fit_agree (ConstraintPoint k p) h s = by_row (row_of p) s
+    where
+      by_row : (o : Option Row) → IfSome o (λ r. IsFalse (sums_leave K p.arguments r))
+          → IfSome o (λ r. IsFalse (sums_leave L p.arguments r))
+      by_row None fit = fit
+      by_row (Some r) fit = sym (sums_agree p.arguments r.sums h) ∙ fit
 
-items_have : (m : Model) (K : Partial) (items : List Printed) → items_fault m items ≡ None
-    → AllByRecursion (Agrees K) (printed_scalars m items)
-    → first_some (printed_fails m K) items ≡ None
-items_have m K [] clean h = refl
-items_have m K (i ∷ items) clean h =
-    let each = or_none (printed_fault m i) (items_fault m items) clean in
-    let here : printed_fails m K i ≡ None = item_has m K i each.0 (all_left (Agrees K) (item_scalars m i) (printed_scalars m items) h) in
-    (λ j. option_or (here j) (first_some (printed_fails m K) items)) ∙ items_have m K items each.1 (all_right (Agrees K) (item_scalars m i) (printed_scalars m items) h)
+  holds_agrees : (p : Point) → Agree K L (terms_of p) → HoldsUnder K p → HoldsUnder L p
+  holds_agrees (DomainPoint x k) h q = subst (λ o. IsSomeAnd o (λ v. IsTrue (inside x.domain v))) h.0 q
+  holds_agrees (DefinitionPoint x k e) h q = subst₂ (λ o r. IsSomeAnd o (λ v. IsSomeAnd r (λ w. v ≡ w))) h.0 h.1.0 q
+  holds_agrees (ArrayPoint name d ts) h q = subst (λ o. IsSomeAnd o (λ vs. AllByRecursion (λ v. IsTrue (inside d v)) vs)) (values_agree ts h) q
+  holds_agrees (ConstraintPoint k p) h q = subst (λ o. IsSomeAnd (row_of p) (λ r. IsSomeAnd o (λ vs. IsTrue (row_holds r vs)))) (arguments_agree p.arguments h) q
 
-pub none_fails : (m : Model) (K F : Partial) (items : List Printed) → items_fault m items ≡ None
-    → K ≡ start_from (printed_scalars m items) 0 (variables_of m)
-    → agree_all (nothing_for m) (printed_scalars m items) ≡ true → HasAllOf K F
-    → first_some (printed_fails m F) items ≡ None
-none_fails m K F items clean is agree grows =
-    let qs = printed_scalars m items in
-    let L = with_all (nothing_for m) qs in
-    let under : HasAllOf L F = subst (λ J. HasAllOf J F) (is ∙ taken m qs) grows in
-    items_have m F items clean (all_map (Agrees L) (Agrees F) (λ q h. value_under L F under q.0 q.1 h) qs (they_agree (nothing_for m) qs agree))
+-- ---- one more value
+
+given_at : (K L : Partial) (n k : ℕ) (v : Value) → length K ≡ length L → value_at K k ≡ value_at L k
+    → value_at (give K n v) k ≡ value_at (give L n v) k
+given_at [] [] n k v as_many e = refl
+given_at [] (p ∷ L) n k v as_many e = absurd (omega arith)
+given_at (o ∷ K) [] n k v as_many e = absurd (omega arith)
+given_at (o ∷ K) (p ∷ L) zero zero v as_many e = refl
+given_at (o ∷ K) (p ∷ L) zero (suc k) v as_many e = e
+given_at (o ∷ K) (p ∷ L) (suc n) zero v as_many e = e
+given_at (o ∷ K) (p ∷ L) (suc n) (suc k) v as_many e = given_at K L n k v (omega arith) e
+
+given_agree : (K L : Partial) (n : ℕ) (v : Value) → length K ≡ length L → (ts : List Term)
+    → Agree K L ts → Agree (give K n v) (give L n v) ts
+given_agree K L n v as_many [] h = tt
+given_agree K L n v as_many (Var k ∷ ts) h = (given_at K L n k v as_many h.0, given_agree K L n v as_many ts h.1)
+given_agree K L n v as_many (Fixed w ∷ ts) h = (refl, given_agree K L n v as_many ts h.1)
+
+-- What a point gives it gives wherever its scalars have the same values.
+pub gives_agree : (m : Model) (K L : Partial) (p : Point) (n : ℕ) (v : Value) → length K ≡ length L
+    → Agree K L (terms_of p) → Gives m K p n v → Gives m L p n v
+gives_agree m K L p n v as_many h g = record {
+  target = target_agrees K L p n h g.target;
+  only_open = sym (open_agree K L (terms_of p) h) ∙ g.only_open;
+  of_kind = g.of_kind;
+  within_limits = g.within_limits;
+  sums_fit = sums_fit_agree K L p h g.sums_fit;
+  then_holds = holds_agrees (give K n v) (give L n v) p (given_agree K L n v as_many (terms_of p) h) g.then_holds;
+}

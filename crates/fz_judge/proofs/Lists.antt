@@ -2,9 +2,9 @@
 use Rattle.std.proofs.Common.{◌≡◌, ℕ, zero, suc, ◌+◌, ◌<◌, min, Bool, true, false, List, [], ◌∷◌, map, option_map, length, get_or, take, drop, Option, Some, None, is_some, Result, Ok, Err, IfOk, refl, sym, ap, subst, ◌∙◌, arith}
 use Rattle.std.specs.List.{AllByRecursion}
 use Rattle.std.specs.Option.{option_or}
-use Rattle.fz_filling.specs.of_model.Meaning.{first_some}
-use Rattle.fz_filling.proofs.of_model.ScanSteps.{first_append, whole_at}
-use Rattle.fz_filling.proofs.of_verdict.Accepted.{or_none}
+use Rattle.fz_search.specs.of_model.Meaning.{first_some}
+use Rattle.fz_search.proofs.of_model.ScanSteps.{first_append, whole_at}
+use Rattle.fz_judge.proofs.Accepted.{or_none}
 
 -- at the end of the shorter one, a function that is the same for each empty list is at its end
 pub both_end : {A B R : Type 0} (h : List A → List B → R) (r : R) → ((ys : List B) → h [] ys ≡ r)

@@ -4,14 +4,14 @@ use Rattle.std.proofs.Math.Bool.{and-false}
 use Rattle.std.specs.Option.{option_map_or}
 use Rattle.fz_base.specs.declared.value.Value.{Value}
 use Rattle.fz_base.specs.declared.value.Value.TheVariants.{Set}
-use Rattle.fz_filling.specs.of_model.Relations.{same_value, same_values}
+use Rattle.fz_search.specs.of_model.Relations.{same_value, same_values}
 use Rattle.fz_base.specs.Sets.{NumberSet}
-use Rattle.fz_filling.specs.of_model.Meaning.{Partial, option_cons, value, values}
-use Rattle.fz_filling.specs.of_model.declared.Term.{Term}
-use Rattle.fz_filling.proofs.of_model.Values.{no, same_value_is, value_itself}
-use Rattle.fz_filling.specs.of_model.View.{located_literal}
-use Rattle.fz_filling.specs.of_syntax.declared.Literal as the_literal
-use Rattle.fz_filling.specs.of_verdict.Solutions.{printed_values}
+use Rattle.fz_search.specs.of_model.Meaning.{Partial, option_cons, value, values}
+use Rattle.fz_search.specs.of_model.declared.Term.{Term}
+use Rattle.fz_search.proofs.of_model.Values.{no, same_value_is, value_itself}
+use Rattle.fz_search.specs.of_model.View.{located_literal}
+use Rattle.fz_stream.specs.of_syntax.declared.Literal as the_literal
+use Rattle.fz_judge.specs.Solutions.{printed_values}
 use Rattle.fz_judge.specs.Working.{has_value, have_values}
 
 -- a test that holds exactly for equal values is `same_value`

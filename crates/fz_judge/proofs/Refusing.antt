@@ -4,29 +4,29 @@ use Rattle.std.proofs.Common.{◌≡◌, ◌<◌, ℕ, ◌+◌, ◌≤◌, true,
 use Rattle.std.specs.List.{AllByRecursion}
 use Rattle.std.specs.Option.{option_or}
 use Rattle.fz_base.specs.declared.span.Span.{Span}
-use Rattle.fz_filling.specs.of_model.declared.Kind.{Kind}
-use Rattle.fz_filling.specs.of_model.Located.{Name}
-use Rattle.fz_filling.specs.of_model.Meaning.{Place, Model, find_name, first_some}
-use Rattle.fz_filling.specs.of_model.Meaning.Place.{Scalar, Array}
-use Rattle.fz_filling.specs.of_model.View.{located_literal, located_name}
-use Rattle.fz_filling.specs.of_model.Names.{literal_value}
-use Rattle.fz_filling.specs.of_model.Relations.{kind_of, same_kind}
-use Rattle.fz_filling.specs.of_syntax.declared.Literal as the_literal
-use Rattle.fz_filling.specs.of_syntax.declared.Printed as the_printed
-use Rattle.fz_filling.specs.of_syntax.declared.PrintedValue as the_value
-use Rattle.fz_filling.specs.of_syntax.declared.PrintedValue.TheVariants as printed
-use Rattle.fz_filling.proofs.of_syntax.Standing.{LieBetween, elements_lie, lie_each, lie_in, literal_lies, printed_lies}
-use Rattle.fz_filling.specs.of_syntax.Placed.{ArePlacedIn, placed_items, placed_literal, placed_printed, placed_printed_value}
-use Rattle.fz_filling.specs.of_syntax.Places.{IsSpanWithin}
-use Rattle.fz_filling.specs.of_verdict.Solutions.{Printed, Block}
-use Rattle.fz_filling.specs.of_verdict.BlockFaults.{BlockFault, BlockFaultKind, fault_if, literal_fault, value_fault, printed_fault, items_fault, block_fault, moved}
-use Rattle.fz_filling.specs.of_verdict.BlockFaults.BlockFaultKind.{UnknownName, WrongKind, WrongLength}
-use Rattle.fz_filling.specs.of_verdict.View.{located_printed_value, located_printed, located_items}
+use Rattle.fz_search.specs.of_model.declared.Kind.{Kind}
+use Rattle.fz_search.specs.of_model.Located.{Name}
+use Rattle.fz_search.specs.of_model.Meaning.{Place, Model, find_name, first_some}
+use Rattle.fz_search.specs.of_model.Meaning.Place.{Scalar, Array}
+use Rattle.fz_search.specs.of_model.View.{located_literal, located_name}
+use Rattle.fz_search.specs.of_model.Names.{literal_value}
+use Rattle.fz_search.specs.of_model.Relations.{kind_of, same_kind}
+use Rattle.fz_stream.specs.of_syntax.declared.Literal as the_literal
+use Rattle.fz_stream.specs.of_syntax.declared.Printed as the_printed
+use Rattle.fz_stream.specs.of_syntax.declared.PrintedValue as the_value
+use Rattle.fz_stream.specs.of_syntax.declared.PrintedValue.TheVariants as printed
+use Rattle.fz_stream.proofs.of_syntax.Standing.{LieBetween, elements_lie, lie_each, lie_in, literal_lies, printed_lies}
+use Rattle.fz_stream.specs.of_syntax.Placed.{ArePlacedIn, placed_items, placed_literal, placed_printed, placed_printed_value}
+use Rattle.fz_stream.specs.of_syntax.Places.{IsSpanWithin}
+use Rattle.fz_judge.specs.Solutions.{Printed, Block}
+use Rattle.fz_judge.specs.BlockFaults.{BlockFault, BlockFaultKind, fault_if, literal_fault, value_fault, printed_fault, items_fault, block_fault, moved}
+use Rattle.fz_judge.specs.BlockFaults.BlockFaultKind.{UnknownName, WrongKind, WrongLength}
+use Rattle.fz_judge.specs.BlockView.{located_printed_value, located_printed, located_items}
 use Rattle.fz_judge.specs.declared.error.BlockError.{BlockError}
 use Rattle.fz_judge.specs.declared.error.BlockError.TheVariants as errors
 use Rattle.fz_judge.specs.Judged.{TellsFault, TellsKind}
 use Rattle.fz_judge.specs.Working.{IsPlacedWithin, moved_error}
-use Rattle.fz_filling.proofs.of_model.ScanSteps.{whole_at, first_append}
+use Rattle.fz_search.proofs.of_model.ScanSteps.{whole_at, first_append}
 
 -- ---- what an error tells
 

@@ -5,30 +5,30 @@ use Rattle.std.specs.Prelude.{Bool}
 use Rattle.std.specs.List.{AllByRecursion}
 use Rattle.std.specs.Option.{option_or}
 use Rattle.fz_base.specs.declared.value.Value.{Value}
-use Rattle.fz_filling.specs.of_model.declared.Kind.{Kind}
-use Rattle.fz_filling.specs.of_model.declared.Term.{Term}
-use Rattle.fz_filling.specs.of_model.declared.Term.TheVariants.{Var, Fixed}
-use Rattle.fz_filling.specs.of_model.declared.What.{What}
-use Rattle.fz_filling.specs.of_model.declared.What.TheVariants as whats
-use Rattle.fz_filling.specs.of_model.Kinds.{TermFits, PlaceFits}
-use Rattle.fz_filling.specs.of_model.Located.{Name, Literal}
-use Rattle.fz_filling.specs.of_model.Names.{literal_value}
-use Rattle.fz_filling.specs.of_model.Partial.{nothing_for}
-use Rattle.fz_filling.specs.of_model.Shown.{scalar_terms, what_place}
-use Rattle.fz_filling.specs.of_model.Slots.{scalar_term}
-use Rattle.fz_filling.specs.of_model.Meaning.{Place, Variable, Model, Partial, give, value_at, variables_of, first_some, IsPartial}
-use Rattle.fz_filling.specs.of_model.Meaning.Place.{Scalar, Array}
-use Rattle.fz_filling.specs.of_model.Relations.{kind_of, same_kind}
-use Rattle.fz_filling.proofs.of_model.Lists.{all_map}
-use Rattle.fz_filling.proofs.of_model.Partials.{fits_length, give_fits, has_place}
-use Rattle.fz_filling.proofs.of_model.ScanSteps.{or_assoc, or_nothing}
-use Rattle.fz_filling.proofs.of_model.Scope.{same_kind_is}
-use Rattle.fz_filling.specs.of_verdict.Solutions.{Printed, PrintedValue, printed_values}
-use Rattle.fz_filling.specs.of_verdict.BlockFaults.{literal_fault, fault_if, value_fault}
-use Rattle.fz_filling.specs.of_verdict.Solutions.PrintedValue.{OneValue, ArrayOf}
-use Rattle.fz_filling.specs.of_verdict.BlockFaults.BlockFaultKind.{WrongKind, WrongLength}
-use Rattle.fz_filling.specs.of_verdict.Filling.{pairs, pairs_at, printed_scalars, if_var, first_printed, start_from}
-use Rattle.fz_filling.proofs.of_verdict.Accepted.{or_none, first_none}
+use Rattle.fz_search.specs.of_model.declared.Kind.{Kind}
+use Rattle.fz_search.specs.of_model.declared.Term.{Term}
+use Rattle.fz_search.specs.of_model.declared.Term.TheVariants.{Var, Fixed}
+use Rattle.fz_search.specs.of_model.declared.What.{What}
+use Rattle.fz_search.specs.of_model.declared.What.TheVariants as whats
+use Rattle.fz_search.specs.of_model.Kinds.{TermFits, PlaceFits}
+use Rattle.fz_search.specs.of_model.Located.{Name, Literal}
+use Rattle.fz_search.specs.of_model.Names.{literal_value}
+use Rattle.fz_search.specs.of_model.Partial.{nothing_for}
+use Rattle.fz_search.specs.of_model.Shown.{scalar_terms, what_place}
+use Rattle.fz_search.specs.of_model.Slots.{scalar_term}
+use Rattle.fz_search.specs.of_model.Meaning.{Place, Variable, Model, Partial, give, value_at, variables_of, first_some, IsPartial}
+use Rattle.fz_search.specs.of_model.Meaning.Place.{Scalar, Array}
+use Rattle.fz_search.specs.of_model.Relations.{kind_of, same_kind}
+use Rattle.fz_search.proofs.of_model.Lists.{all_map}
+use Rattle.fz_search.proofs.of_model.Partials.{fits_length, give_fits, has_place}
+use Rattle.fz_search.proofs.of_model.ScanSteps.{or_assoc, or_nothing}
+use Rattle.fz_search.proofs.of_model.Scope.{same_kind_is}
+use Rattle.fz_judge.specs.Solutions.{Printed, PrintedValue, printed_values}
+use Rattle.fz_judge.specs.BlockFaults.{literal_fault, fault_if, value_fault}
+use Rattle.fz_judge.specs.Solutions.PrintedValue.{OneValue, ArrayOf}
+use Rattle.fz_judge.specs.BlockFaults.BlockFaultKind.{WrongKind, WrongLength}
+use Rattle.fz_judge.specs.Filling.{pairs, pairs_at, printed_scalars, if_var, first_printed, start_from}
+use Rattle.fz_judge.proofs.Accepted.{or_none, first_none}
 use Rattle.fz_judge.specs.Working.{HasRoom, IsWithin, terms_of_what, with_first, with_all, item_scalars}
 
 -- ---- one more value

@@ -2,17 +2,17 @@
 use Rattle.std.proofs.Common.{◌≡◌, ℕ, zero, suc, ◌+◌, ◌<◌, true, false, List, [], ◌∷◌, ◌++◌, length, take, drop, Option, Some, None, is_some, option_map, slice_get, refl, sym, ap, ◌∙◌, arith}
 use Rattle.std.specs.List.{list_all}
 use Rattle.std.specs.Option.{option_or}
-use Rattle.fz_filling.specs.of_model.Holding.{is_held, point_holds}
-use Rattle.fz_filling.proofs.of_model.Values.{and_first, and_second}
-use Rattle.fz_filling.specs.of_model.declared.State.{State}
-use Rattle.fz_filling.specs.of_model.declared.State.TheVariants.{Holds, Fails, NoValue, Unknown, TooLarge}
-use Rattle.fz_filling.specs.of_model.Meaning.{Model, Partial, Point, points, first_some, variables_of}
-use Rattle.fz_filling.specs.of_model.States.{PointName, state, shown_point}
-use Rattle.fz_filling.specs.of_verdict.Verdict.{Fault, Reason, fault_at, fault_named, first_unset, point_fails, point_undecided, reason_at, verdict_by}
-use Rattle.fz_filling.specs.of_verdict.Verdict.Verdict.{Violated, Satisfied}
+use Rattle.fz_search.specs.of_model.Holding.{is_held, point_holds}
+use Rattle.fz_search.proofs.of_model.Values.{and_first, and_second}
+use Rattle.fz_search.specs.of_model.declared.State.{State}
+use Rattle.fz_search.specs.of_model.declared.State.TheVariants.{Holds, Fails, NoValue, Unknown, TooLarge}
+use Rattle.fz_search.specs.of_model.Meaning.{Model, Partial, Point, points, first_some, variables_of}
+use Rattle.fz_search.specs.of_model.States.{PointName, state, shown_point}
+use Rattle.fz_judge.specs.Verdict.{Fault, Reason, fault_at, fault_named, first_unset, point_fails, point_undecided, reason_at, verdict_by}
+use Rattle.fz_judge.specs.Verdict.Verdict.{Violated, Satisfied}
 use Rattle.fz_judge.specs.Working.{holds, is_failed, reason_named, with_objective}
-use Rattle.fz_filling.proofs.of_model.Lists.{there_is}
-use Rattle.fz_filling.proofs.of_model.ScanSteps.{first_append, or_nothing}
+use Rattle.fz_search.proofs.of_model.Lists.{there_is}
+use Rattle.fz_search.proofs.of_model.ScanSteps.{first_append, or_nothing}
 use Rattle.fz_judge.proofs.Lists.{or_some}
 
 -- ---- the objective after the points

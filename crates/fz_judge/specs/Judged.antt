@@ -1,13 +1,13 @@
 -- What is judged of a block, and why a block is refused (this project's profile).
 use Rattle.std.specs.Prelude.{◌≡◌, ℤ, IfSome, IsSomeAnd, None, Option, Some, ⊤}
 use Rattle.fz_base.specs.declared.span.Span.{Span}
-use Rattle.fz_filling.specs.of_model.Meaning.{Model, Partial, objective}
-use Rattle.fz_filling.specs.of_verdict.Solutions.{Block}
-use Rattle.fz_filling.specs.of_verdict.BlockFaults.{BlockFault, BlockFaultKind, block_fault}
-use Rattle.fz_filling.specs.of_verdict.BlockFaults.BlockFaultKind.{UnknownName, WrongKind, WrongLength}
-use Rattle.fz_filling.specs.of_verdict.declared.completion.Completion.{Completion}
-use Rattle.fz_filling.specs.of_verdict.Completed.{IsToldBy}
-use Rattle.fz_filling.specs.of_verdict.Verdict.{Verdict, IsFilled, verdict}
+use Rattle.fz_search.specs.of_model.Meaning.{Model, Partial, objective}
+use Rattle.fz_judge.specs.Solutions.{Block}
+use Rattle.fz_judge.specs.BlockFaults.{BlockFault, BlockFaultKind, block_fault}
+use Rattle.fz_judge.specs.BlockFaults.BlockFaultKind.{UnknownName, WrongKind, WrongLength}
+use Rattle.fz_judge.specs.declared.completion.Completion.{Completion}
+use Rattle.fz_judge.specs.Completed.{IsToldBy}
+use Rattle.fz_judge.specs.Verdict.{Verdict, IsFilled, verdict}
 use Rattle.fz_judge.specs.declared.error.BlockError.{BlockError}
 use Rattle.fz_judge.specs.declared.error.BlockError.TheVariants as errors
 

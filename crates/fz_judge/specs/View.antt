@@ -1,5 +1,5 @@
 -- The verdicts of the code as definitions have them: with names as bytes.
-use Rattle.fz_filling.specs.of_verdict.Verdict as plain
+use Rattle.fz_judge.specs.Verdict as plain
 use Rattle.fz_judge.specs.declared.verdict.Fault.{Fault}
 use Rattle.fz_judge.specs.declared.verdict.Fault.TheVariants as faults
 use Rattle.fz_judge.specs.declared.verdict.Reason.{Reason}

@@ -3,27 +3,27 @@
 use Rattle.std.specs.Prelude.{◌≡◌, ℕ, ℤ, ◌<◌, Bool, false, true, cond, ◌&&◌, is_none, List, [], ◌∷◌, length, Option, None, Some, ⊤}
 use Rattle.std.specs.Option.{option_map_or}
 use Rattle.fz_base.specs.declared.value.Value.{Value}
-use Rattle.fz_filling.specs.of_model.declared.State.{State}
-use Rattle.fz_filling.specs.of_model.declared.State.TheVariants.{Holds, Fails, NoValue, Unknown, TooLarge}
-use Rattle.fz_filling.specs.of_model.declared.Term.{Term}
-use Rattle.fz_filling.specs.of_model.declared.Term.TheVariants.{Var, Fixed}
-use Rattle.fz_filling.specs.of_model.declared.What.{What}
-use Rattle.fz_filling.specs.of_model.declared.What.TheVariants as whats
-use Rattle.fz_filling.specs.of_model.Names.{literal_value}
-use Rattle.fz_filling.specs.of_model.Relations.{same_value}
-use Rattle.fz_filling.specs.of_model.Shown.{scalar_terms}
-use Rattle.fz_filling.specs.of_model.Slots.{scalar_term}
-use Rattle.fz_filling.specs.of_model.Meaning.{Model, Partial, IsPartial, give, objective, value, value_at, variables_of, find_name}
-use Rattle.fz_filling.specs.of_model.States.{PointName}
-use Rattle.fz_filling.specs.of_syntax.Places.{IsSpanWithin}
-use Rattle.fz_filling.specs.of_verdict.Solutions.{Block, Printed, PrintedValue, printed_values}
-use Rattle.fz_filling.specs.of_verdict.BlockFaults.{moved}
-use Rattle.fz_filling.specs.of_verdict.Solutions.PrintedValue.{OneValue, ArrayOf}
-use Rattle.fz_filling.specs.of_verdict.Filling.{pairs, pairs_at}
-use Rattle.fz_filling.specs.of_verdict.Verdict.{Fault, Reason, Verdict, verdict, not_known_at, too_large_at, verdict_by}
-use Rattle.fz_filling.specs.of_verdict.Verdict.Verdict.{Satisfied, Violated, Undecided}
-use Rattle.fz_filling.specs.of_verdict.Verdict.Fault.{NotBetter}
-use Rattle.fz_filling.specs.of_verdict.Verdict.Reason.{NoValueFor, NotShownBetter}
+use Rattle.fz_search.specs.of_model.declared.State.{State}
+use Rattle.fz_search.specs.of_model.declared.State.TheVariants.{Holds, Fails, NoValue, Unknown, TooLarge}
+use Rattle.fz_search.specs.of_model.declared.Term.{Term}
+use Rattle.fz_search.specs.of_model.declared.Term.TheVariants.{Var, Fixed}
+use Rattle.fz_search.specs.of_model.declared.What.{What}
+use Rattle.fz_search.specs.of_model.declared.What.TheVariants as whats
+use Rattle.fz_search.specs.of_model.Names.{literal_value}
+use Rattle.fz_search.specs.of_model.Relations.{same_value}
+use Rattle.fz_search.specs.of_model.Shown.{scalar_terms}
+use Rattle.fz_search.specs.of_model.Slots.{scalar_term}
+use Rattle.fz_search.specs.of_model.Meaning.{Model, Partial, IsPartial, give, objective, value, value_at, variables_of, find_name}
+use Rattle.fz_search.specs.of_model.States.{PointName}
+use Rattle.fz_stream.specs.of_syntax.Places.{IsSpanWithin}
+use Rattle.fz_judge.specs.Solutions.{Block, Printed, PrintedValue, printed_values}
+use Rattle.fz_judge.specs.BlockFaults.{moved}
+use Rattle.fz_judge.specs.Solutions.PrintedValue.{OneValue, ArrayOf}
+use Rattle.fz_judge.specs.Filling.{pairs, pairs_at}
+use Rattle.fz_judge.specs.Verdict.{Fault, Reason, Verdict, verdict, not_known_at, too_large_at, verdict_by}
+use Rattle.fz_judge.specs.Verdict.Verdict.{Satisfied, Violated, Undecided}
+use Rattle.fz_judge.specs.Verdict.Fault.{NotBetter}
+use Rattle.fz_judge.specs.Verdict.Reason.{NoValueFor, NotShownBetter}
 use Rattle.fz_judge.specs.declared.error.BlockError.{BlockError}
 use Rattle.fz_judge.specs.declared.error.BlockError.TheVariants as errors
 
@@ -63,11 +63,6 @@ element_pairs ts (ArrayOf is ls) = pairs ts (printed_values ls)
 -- the scalar has the value of the literal
 abbrev pub has_value : Partial → (Term × Value) → Bool
 has_value K q = option_map_or (λ v. same_value v q.1) (value K q.0) false
-
--- each scalar has its value once that is taken
-abbrev pub agree_all : Partial → List (Term × Value) → Bool
-agree_all K [] = true
-agree_all K (q ∷ qs) = has_value (with_first K q) q && agree_all (with_first K q) qs
 
 -- the scalars that an item prints
 abbrev pub item_scalars : Model → Printed → List (Term × Value)

@@ -2,19 +2,19 @@
 
 ghost use Rattle.std.specs.Prelude.{◌≡◌, ℕ, List, map, option_map, slice_get};
 ghost use Rattle.std.specs.Option.{option_map_or};
-ghost use Rattle.fz_filling.specs.of_model.declared.Term.{Term as Held};
-ghost use Rattle.fz_filling.specs.of_model.Meaning.{Place, Variable as DeclaredVariable, first_some};
-ghost use Rattle.fz_filling.specs.of_model.Parts.{variable_view};
-ghost use Rattle.fz_filling.specs.of_model.Shown.{kind_among, scalar_terms, what_place};
-ghost use Rattle.fz_filling.specs.of_model.Slots.{scalar_term};
-ghost use Rattle.fz_filling.specs.of_model.View.{located_literal, located_name};
-ghost use Rattle.fz_filling.specs.of_verdict.BlockFaults.{literal_fault, value_fault};
-ghost use Rattle.fz_filling.specs.of_verdict.View.{located_printed_value};
+ghost use Rattle.fz_search.specs.of_model.declared.Term.{Term as Held};
+ghost use Rattle.fz_search.specs.of_model.Meaning.{Place, Variable as DeclaredVariable, first_some};
+ghost use Rattle.fz_search.specs.of_model.Parts.{variable_view};
+ghost use Rattle.fz_search.specs.of_model.Shown.{kind_among, scalar_terms, what_place};
+ghost use Rattle.fz_search.specs.of_model.Slots.{scalar_term};
+ghost use Rattle.fz_search.specs.of_model.View.{located_literal, located_name};
+ghost use Rattle.fz_judge.specs.BlockFaults.{literal_fault, value_fault};
+ghost use Rattle.fz_judge.specs.BlockView.{located_printed_value};
 ghost use Rattle.fz_judge.specs.Judged.{refusal};
 
 use crate::error::BlockError;
-use fz_filling::fz_model::{Kind, Scalar, Scalars, Variable, What, literal_kind, same_kind};
-use fz_filling::fz_syntax::{Literal, Name, PrintedValue};
+use fz_search::fz_model::{Kind, Scalar, Scalars, Variable, What, literal_kind, same_kind};
+use fz_stream::fz_syntax::{Literal, Name, PrintedValue};
 
 /// A literal of another kind.
 fn literal_fault(kind: Kind, literal: &Literal) -> Option<BlockError>

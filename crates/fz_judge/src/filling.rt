@@ -1,25 +1,26 @@
 //! The filling of a block.
 
-ghost use Rattle.std.specs.Prelude.{◌≡◌, ◌-◌, IfErr, IfOk, IfSome, IsTrue, None, OnOk};
-ghost use Rattle.fz_filling.specs.Courses.{IsCourse};
-ghost use Rattle.fz_filling.specs.Givers.{AreGivers};
-ghost use Rattle.fz_filling.specs.of_model.Meaning.{IsPartial, first_some};
-ghost use Rattle.fz_filling.specs.of_model.Partial.{nothing_for};
-ghost use Rattle.fz_filling.specs.of_stream.Found.{EndsWithin, HasPlaces};
-ghost use Rattle.fz_filling.specs.of_syntax.Places.{IsSpanWithin};
-ghost use Rattle.fz_filling.specs.of_verdict.BlockFaults.{block_fault, items_fault, moved};
-ghost use Rattle.fz_filling.specs.of_verdict.Filling.{printed_scalars, start};
-ghost use Rattle.fz_filling.specs.of_verdict.Verdict.{IsFilled, printed_fails};
-ghost use Rattle.fz_filling.specs.of_verdict.View.{located_block, located_items};
+ghost use Rattle.std.specs.Prelude.{◌≡◌, ◌-◌, IfErr, IfOk, IfSome, None, OnOk};
+ghost use Rattle.fz_judge.specs.Courses.{IsCourse};
+ghost use Rattle.fz_judge.specs.Givers.{AreGivers};
+ghost use Rattle.fz_search.specs.of_model.Meaning.{IsPartial};
+ghost use Rattle.fz_stream.specs.Found.{EndsWithin, HasPlaces};
+ghost use Rattle.fz_stream.specs.of_syntax.Places.{IsSpanWithin};
+ghost use Rattle.fz_judge.specs.BlockFaults.{block_fault, items_fault, moved};
+ghost use Rattle.fz_judge.specs.Filling.{start};
+ghost use Rattle.fz_judge.specs.Verdict.{IsFilled};
+ghost use Rattle.fz_judge.specs.BlockView.{located_block, located_items};
 ghost use Rattle.fz_judge.specs.Judged.{IsBlockRefusal, TellsKind, kind_told};
-ghost use Rattle.fz_judge.specs.Working.{HasRoom, IsPlacedWithin, agree_all, moved_error};
+ghost use Rattle.fz_judge.specs.Working.{HasRoom, IsPlacedWithin, moved_error};
 
+use crate::chain::{fill_in, fill_in_steps};
+use crate::course::Course;
 use crate::error::BlockError;
-use crate::start::{Proposed, nothing_proposed, start};
+use crate::start::{nothing_proposed, start};
+use crate::steps::Giver;
 use fz_base::Span;
-use fz_filling::fz_model::{Model, Partial};
-use fz_filling::fz_stream::Block;
-use fz_filling::{Course, Giver, fill_in, fill_in_steps};
+use fz_search::fz_model::{Model, Partial};
+use fz_stream::Block;
 use std::alloc::Global;
 
 /// The byte range in the stream of one in a block's text.
@@ -46,59 +47,54 @@ fn moved_error(error: BlockError, offset: usize) -> BlockError
     }
 }
 
-/// The values that a block prints, in the memory of a spare proposal where there is one.
+/// The values that a block prints, in the memory of a spare filling where there is one.
 fn started(
     alloc: Global,
     model: &Model<'_>,
     block: &Block<'_>,
-    spare: Option<Box<Proposed>>,
-) -> Result<Box<Proposed>, BlockError>
-    requires room { IfSome spare (λ s. HasRoom model.now s.value.partial) }
-    ensures started { IfOk result (λ s. s.value.partial
+    spare: Option<Box<Partial>>,
+) -> Result<Box<Partial>, BlockError>
+    requires room { IfSome spare (λ s. HasRoom model.now s.value) }
+    ensures started { IfOk result (λ s. s.value
         ≡ start model.now (located_block block.now)) }
     ensures clean { OnOk result (items_fault model.now
         (located_items block.now.items.items) ≡ None) }
-    ensures kinds { IfOk result (λ s. IsPartial model.now s.value.partial) }
-    ensures agrees { IfOk result (λ s. s.value.agrees ≡ agree_all (nothing_for model.now)
-        (printed_scalars model.now (located_items block.now.items.items))) }
+    ensures kinds { IfOk result (λ s. IsPartial model.now s.value) }
     ensures only { IfErr result (λ e. TellsKind e
         (block_fault model.now (located_block block.now))) }
     ensures refused { IfErr result (λ e. HasPlaces block.now → EndsWithin usize.MAX block.now
         → IsBlockRefusal model.now (located_block block.now) e) }
 {
-    let mut proposed = nothing_proposed(alloc, model, spare)?;
-    match start(alloc, model, &block.items, &mut proposed) {
-        Ok(()) => Ok(proposed),
+    let mut partial = nothing_proposed(alloc, model, spare)?;
+    match start(alloc, model, &block.items, &mut partial) {
+        Ok(()) => Ok(partial),
         Err(error) => Err(moved_error(error, block.offset)),
     }
 }
 
 /// The filling of a block, with the propagation order of those before it, in the memory of a spare
-/// proposal where there is one. Where each name has its printed value as it is taken, each has it
-/// under the filling: no value changes any more.
+/// filling where there is one.
 pub(crate) fn filled(
     alloc: Global,
     model: &Model<'_>,
     block: &Block<'_>,
     course: &mut Option<Course>,
-    spare: Option<Box<Proposed>>,
-) -> Result<Box<Proposed>, BlockError>
+    spare: Option<Box<Partial>>,
+) -> Result<Box<Partial>, BlockError>
     requires course { IfSome course.old (IsCourse model.now) }
-    requires room { IfSome spare (λ s. HasRoom model.now s.value.partial) }
+    requires room { IfSome spare (λ s. HasRoom model.now s.value) }
     ensures filled { IfOk result (λ f. IsFilled model.now (located_block block.now)
-        f.value.partial) }
-    ensures kinds { IfOk result (λ f. IsPartial model.now f.value.partial) }
-    ensures agrees { IfOk result (λ f. IsTrue f.value.agrees → first_some
-        (printed_fails model.now f.value.partial) (located_items block.now.items.items) ≡ None) }
+        f.value) }
+    ensures kinds { IfOk result (λ f. IsPartial model.now f.value) }
     ensures only { IfErr result (λ e. TellsKind e
         (block_fault model.now (located_block block.now))) }
     ensures refused { IfErr result (λ e. HasPlaces block.now → EndsWithin usize.MAX block.now
         → IsBlockRefusal model.now (located_block block.now) e) }
     ensures course { IfSome course.new (IsCourse model.now) }
 {
-    let mut proposed = started(alloc, model, block, spare)?;
-    fill_in(alloc, model, &mut proposed.partial, course)?;
-    Ok(proposed)
+    let mut partial = started(alloc, model, block, spare)?;
+    fill_in(alloc, model, &mut partial, course)?;
+    Ok(partial)
 }
 
 /// The filling of a block, as `fill` gives it, and the steps that gave its values, in their order.
@@ -120,9 +116,9 @@ pub fn fill_with_steps(
     ensures refused { IfErr result (λ e. HasPlaces block.now → EndsWithin usize.MAX block.now
         → IsBlockRefusal model.now (located_block block.now) e) }
 {
-    let mut proposed = started(alloc, model, block, None)?;
-    let steps = fill_in_steps(alloc, model, &mut proposed.partial)?;
-    Ok((Box::into_inner(proposed).partial, steps))
+    let mut partial = started(alloc, model, block, None)?;
+    let steps = fill_in_steps(alloc, model, &mut partial)?;
+    Ok((Box::into_inner(partial), steps))
 }
 
 /// The values that follow from the printed ones by forced steps. It goes over the printed items

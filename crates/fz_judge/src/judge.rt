@@ -1,29 +1,28 @@
 //! A judge: blocks, one after another, against a model.
 
-ghost use Rattle.std.specs.Prelude.{◌≡◌, IfErr, IfOk, IfSome, IsTrue, None, option_map};
-ghost use Rattle.fz_filling.specs.of_model.Meaning.{IsPartial, first_some, objective};
-ghost use Rattle.fz_filling.specs.of_model.Overviews.{IsOverview};
-ghost use Rattle.fz_filling.specs.of_stream.Found.{EndsWithin, HasPlaces};
-ghost use Rattle.fz_filling.specs.of_verdict.BlockFaults.{block_fault, items_fault};
-ghost use Rattle.fz_filling.specs.of_verdict.Completed.{IsCompleted};
-ghost use Rattle.fz_filling.specs.of_verdict.Verdict.{objective_fails, printed_fails, verdict, verdict_by};
-ghost use Rattle.fz_filling.specs.of_verdict.Verdict.Verdict.{Undecided};
-ghost use Rattle.fz_filling.specs.of_verdict.View.{located_block, located_items};
+ghost use Rattle.std.specs.Prelude.{◌≡◌, IfErr, IfOk, IfSome, None, option_map};
+ghost use Rattle.fz_search.specs.of_model.Meaning.{IsPartial, objective};
+ghost use Rattle.fz_search.specs.of_model.Overviews.{IsOverview};
+ghost use Rattle.fz_stream.specs.Found.{EndsWithin, HasPlaces};
+ghost use Rattle.fz_judge.specs.BlockFaults.{block_fault, items_fault};
+ghost use Rattle.fz_judge.specs.Completed.{IsCompleted};
+ghost use Rattle.fz_judge.specs.Verdict.{objective_fails, verdict, verdict_by};
+ghost use Rattle.fz_judge.specs.Verdict.Verdict.{Undecided};
+ghost use Rattle.fz_judge.specs.BlockView.{located_block, located_items};
 ghost use Rattle.fz_judge.specs.Judged.{IsBlockRefusal, IsJudged, TellsKind};
 ghost use Rattle.fz_judge.specs.View.{fault_view, reason_view, verdict_view};
 ghost use Rattle.fz_judge.specs.Working.{IsFound, compared, not_shown_better, with_objective};
 
+use crate::completion::Completion;
+use crate::course::Course;
 use crate::error::BlockError;
 use crate::filling::filled;
 use crate::points::{objective, objective_fails, points_verdict};
 use crate::printed::printed_fails;
-use crate::start::Proposed;
 use crate::verdict::{Fault, Reason, Verdict};
-use fz_filling::Course;
-use fz_filling::fz_model::{Model, Overview, Partial};
-use fz_filling::fz_stream::Block;
-use fz_filling::fz_verdict::Completion;
+use fz_search::fz_model::{Model, Overview, Partial};
 use fz_search::{Search, propose};
+use fz_stream::Block;
 use std::alloc::{AllocError, Global};
 
 /// The verdict where the printed names and the points have this one, and the objective may fail.
@@ -45,26 +44,23 @@ fn with_objective<'a>(points: Verdict<'a>, objective: Option<Fault<'a>>) -> Verd
 }
 
 /// The verdict on a block under a partial assignment, and the objective. Every point is evaluated,
-/// and every printed name is compared unless all are known to agree.
+/// and every printed name is compared.
 fn verdict_under<'a>(
     alloc: Global,
     model: &Model<'a>,
     overview: &Overview,
     partial: &Partial,
-    agrees: bool,
     block: &Block<'_>,
     before: Option<i64>,
 ) -> Result<(Verdict<'a>, Option<i64>), AllocError>
     requires overview { IsOverview model.now overview.now }
     requires clean { items_fault model.now (located_items block.now.items.items) ≡ None }
-    requires agrees { IsTrue agrees → first_some (printed_fails model.now partial.now)
-        (located_items block.now.items.items) ≡ None }
     ensures judged { IfOk result (λ r. verdict_view r.0
         ≡ verdict model.now partial.now (located_block block.now) before) }
     ensures objective { IfOk result (λ r. r.1 ≡ objective model.now partial.now) }
 {
     let now = objective(model, partial);
-    if let Some(fault) = printed_fails(alloc, model, partial, agrees, &block.items)? {
+    if let Some(fault) = printed_fails(alloc, model, partial, &block.items)? {
         return Ok((Verdict::Violated(fault), now));
     }
     let points = points_verdict(alloc, model, overview, partial)?;
@@ -79,24 +75,21 @@ fn verdict_over<'a>(
     model: &Model<'a>,
     known: &mut Option<Overview>,
     partial: &Partial,
-    agrees: bool,
     block: &Block<'_>,
     before: Option<i64>,
 ) -> Result<(Verdict<'a>, Option<i64>), AllocError>
     requires overview { IfSome known.old (IsOverview model.now) }
     requires clean { items_fault model.now (located_items block.now.items.items) ≡ None }
-    requires agrees { IsTrue agrees → first_some (printed_fails model.now partial.now)
-        (located_items block.now.items.items) ≡ None }
     ensures judged { IfOk result (λ r. verdict_view r.0
         ≡ verdict model.now partial.now (located_block block.now) before) }
     ensures objective { IfOk result (λ r. r.1 ≡ objective model.now partial.now) }
     ensures overview { IfSome known.new (IsOverview model.now) }
 {
     if let Some(overview) = known {
-        return verdict_under(alloc, model, overview, partial, agrees, block, before);
+        return verdict_under(alloc, model, overview, partial, block, before);
     }
     let overview = known.insert(Overview::new(alloc, model)?);
-    verdict_under(alloc, model, overview, partial, agrees, block, before)
+    verdict_under(alloc, model, overview, partial, block, before)
 }
 
 /// The verdict on a block that is satisfied under its filling, where its objective isn't better
@@ -136,9 +129,9 @@ pub struct Judge<'m, 'a> {
     course: Option<Course>,
     overview: Option<Overview>,
     search: Option<Search>,
-    /// the filling of the block before: the next one takes its memory, and the indices of its
-    /// names; in a box, since it is moved for each block
-    spare: Option<Box<Proposed>>,
+    /// the filling of the block before: the next one takes its memory; in a box, since it is moved
+    /// for each block
+    spare: Option<Box<Partial>>,
 }
 
 impl<'m, 'a> std::marker::Model for Judge<'m, 'a> {
@@ -151,8 +144,8 @@ impl<'m, 'a> std::marker::Model for Judge<'m, 'a> {
     ghost coded = { Prim.hlevel (codes, the_set.the_row.coded) };
 
     ghost use Rattle.std.specs.Prelude.{IfSome};
-    ghost use Rattle.fz_filling.specs.Courses.{IsCourse};
-    ghost use Rattle.fz_filling.specs.of_model.Overviews.{IsOverview};
+    ghost use Rattle.fz_judge.specs.Courses.{IsCourse};
+    ghost use Rattle.fz_search.specs.of_model.Overviews.{IsOverview};
     ghost use Rattle.fz_judge.specs.Working.{HasRoom};
 
     ghost view = { λ j. record {
@@ -164,7 +157,7 @@ impl<'m, 'a> std::marker::Model for Judge<'m, 'a> {
 
     ghost invariant = { λ j. IfSome j.course (IsCourse j.model.now)
         × IfSome j.overview (IsOverview j.model.now)
-        × IfSome j.spare (λ s. HasRoom j.model.now s.value.partial) };
+        × IfSome j.spare (λ s. HasRoom j.model.now s.value) };
 }
 
 impl<'m, 'a> Judge<'m, 'a> {
@@ -271,9 +264,7 @@ impl<'m, 'a> Judge<'m, 'a> {
             return Ok(None);
         };
         let overview = &mut self.overview;
-        let (verdict, now) = verdict_over(
-            alloc, self.model, overview, &found, false, block, self.found,
-        )?;
+        let (verdict, now) = verdict_over(alloc, self.model, overview, &found, block, self.found)?;
         match verdict {
             Verdict::Satisfied => Ok(Some(now)),
             Verdict::Violated(_) | Verdict::Undecided(_) => Ok(None),
@@ -306,19 +297,12 @@ impl<'m, 'a> Judge<'m, 'a> {
     {
         let spare = self.spare.take();
         let filling = filled(alloc, self.model, block, &mut self.course, spare)?;
-        let proposed = &*filling;
-        let (under, now) = verdict_over(
-            alloc,
-            self.model,
-            &mut self.overview,
-            &proposed.partial,
-            proposed.agrees,
-            block,
-            self.before,
-        )?;
+        let partial = &*filling;
+        let overview = &mut self.overview;
+        let (under, now) = verdict_over(alloc, self.model, overview, partial, block, self.before)?;
         let (verdict, found) = match self.completion {
             Completion::Off => (under, now),
-            Completion::On => self.completed(alloc, &proposed.partial, block, under, now)?,
+            Completion::On => self.completed(alloc, partial, block, under, now)?,
         };
         self.before = now;
         self.found = found;

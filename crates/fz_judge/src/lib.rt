@@ -1,21 +1,44 @@
 //! Judging solution blocks against a model, one after another: the fault of a block, its filling,
-//! and the verdict on it. An internal crate of `fz_check`.
+//! and the verdict on it. The filling is the chain of forced steps: those of the block before are
+//! tried first, where they come to the same in any order; one search through the points finds the
+//! rest. An internal crate of `fz_check`.
 //!
-//! Its worked cases are in `tests/cases`.
+//! What a verdict or an accepted stream means for solutions is defined in `specs/`, and told by the
+//! laws in `laws.rt`. The definitions are computed on worked blocks in `proofs/Rows.antt`; worked
+//! cases of the code that meets them are in `tests/cases`.
 #![tactic(auto)]
 
+mod chain;
+mod completion;
+mod course;
 mod error;
 mod faults;
 mod filling;
 mod judge;
+mod laws;
+mod lone;
+mod outlook;
 mod points;
 mod printed;
+mod retrace;
 mod start;
+mod steps;
 mod values;
 mod verdict;
+mod watch;
 
+pub use completion::Completion;
 pub use error::BlockError;
 pub use filling::{fill, fill_with_steps};
-pub use fz_filling::{fz_model, fz_stream, fz_syntax, fz_verdict};
+pub use fz_search::fz_model;
+pub use fz_stream;
+pub use fz_stream::fz_syntax;
 pub use judge::Judge;
+pub use laws::{
+    accepted_are_judged, accepted_have_solutions, blocks_are_bare, completed_keep_verdicts,
+    each_not_better_has_none, each_satisfied_has_one, each_violated_has_none, filling_follows,
+    filling_is_one, filling_is_proposed, not_better_have_none, satisfied_is_solved,
+    violated_have_none,
+};
+pub use steps::Giver;
 pub use verdict::{Fault, Reason, Verdict};

@@ -1,17 +1,17 @@
 //! What fails and what is undecided of a model's points and of the objective.
 
 ghost use Rattle.std.specs.Prelude.{◌≡◌, IfOk, map, option_map};
-ghost use Rattle.fz_filling.specs.of_model.Meaning.{first_some, number_at, objective, points, variables_of};
-ghost use Rattle.fz_filling.specs.of_model.Overviews.{IsOverview};
-ghost use Rattle.fz_filling.specs.of_model.Parts.{goal_view, variable_view};
-ghost use Rattle.fz_filling.specs.of_model.Shown.{point_name};
-ghost use Rattle.fz_filling.specs.of_verdict.Verdict.{fault_named, first_unset, not_known_at, objective_fails, point_fails, point_undecided, too_large_at, verdict_by};
+ghost use Rattle.fz_search.specs.of_model.Meaning.{first_some, number_at, objective, points, variables_of};
+ghost use Rattle.fz_search.specs.of_model.Overviews.{IsOverview};
+ghost use Rattle.fz_search.specs.of_model.Parts.{goal_view, variable_view};
+ghost use Rattle.fz_search.specs.of_model.Shown.{point_name};
+ghost use Rattle.fz_judge.specs.Verdict.{fault_named, first_unset, not_known_at, objective_fails, point_fails, point_undecided, too_large_at, verdict_by};
 ghost use Rattle.fz_judge.specs.View.{fault_view, reason_view, verdict_view};
 ghost use Rattle.fz_judge.specs.Working.{holds, is_failed, reason_named};
 
 use crate::verdict::{Fault, Reason, Verdict};
 use fz_base::Value;
-use fz_filling::fz_model::{
+use fz_search::fz_model::{
     Goal, Model, Overview, Partial, Point, State, Term, Variable, all_hold, state,
 };
 use std::alloc::{AllocError, Global};

@@ -1,25 +1,25 @@
 //! Whether the printed names have their printed values.
 
-ghost use Rattle.std.specs.Prelude.{◌≡◌, ℕ, IfOk, IsTrue, List, None, map, option_map};
-ghost use Rattle.fz_filling.specs.of_model.Meaning.{Place, Variable as DeclaredVariable, first_some};
-ghost use Rattle.fz_filling.specs.of_model.declared.Kind.{Kind as KindOf};
-ghost use Rattle.fz_filling.specs.of_model.Names.{literal_value};
-ghost use Rattle.fz_filling.specs.of_model.declared.Term.TheVariants.{Var};
-ghost use Rattle.fz_filling.specs.of_model.Shown.{scalar_terms, what_place};
-ghost use Rattle.fz_filling.specs.of_model.Slots.{scalar_term};
-ghost use Rattle.fz_filling.specs.of_model.View.{located_literal};
-ghost use Rattle.fz_filling.specs.of_syntax.View.{bare_literal};
-ghost use Rattle.fz_filling.specs.of_verdict.BlockFaults.{items_fault, printed_fault};
-ghost use Rattle.fz_filling.specs.of_verdict.Solutions.{printed_values};
-ghost use Rattle.fz_filling.specs.of_verdict.Verdict.{has_printed, printed_fails};
-ghost use Rattle.fz_filling.specs.of_verdict.View.{located_items, located_printed, located_printed_value};
+ghost use Rattle.std.specs.Prelude.{◌≡◌, ℕ, IfOk, List, None, map, option_map};
+ghost use Rattle.fz_search.specs.of_model.Meaning.{Place, Variable as DeclaredVariable, first_some};
+ghost use Rattle.fz_search.specs.of_model.declared.Kind.{Kind as KindOf};
+ghost use Rattle.fz_search.specs.of_model.Names.{literal_value};
+ghost use Rattle.fz_search.specs.of_model.declared.Term.TheVariants.{Var};
+ghost use Rattle.fz_search.specs.of_model.Shown.{scalar_terms, what_place};
+ghost use Rattle.fz_search.specs.of_model.Slots.{scalar_term};
+ghost use Rattle.fz_search.specs.of_model.View.{located_literal};
+ghost use Rattle.fz_stream.specs.of_syntax.View.{bare_literal};
+ghost use Rattle.fz_judge.specs.BlockFaults.{items_fault, printed_fault};
+ghost use Rattle.fz_judge.specs.Solutions.{printed_values};
+ghost use Rattle.fz_judge.specs.Verdict.{has_printed, printed_fails};
+ghost use Rattle.fz_judge.specs.BlockView.{located_items, located_printed, located_printed_value};
 ghost use Rattle.fz_judge.specs.View.{fault_view};
 ghost use Rattle.fz_judge.specs.Working.{has_value, have_values};
 
 use crate::values::{is_number, is_of_literal, is_set, is_truth};
 use crate::verdict::Fault;
-use fz_filling::fz_model::{Model, Partial, Scalar, Scalars, What, scalar_at};
-use fz_filling::fz_syntax::{Literal, Printed, PrintedValue};
+use fz_search::fz_model::{Model, Partial, Scalar, Scalars, What, scalar_at};
+use fz_stream::fz_syntax::{Literal, Printed, PrintedValue};
 use std::alloc::{AllocError, Global};
 
 /// Whether the variable of a number has the value of the literal.
@@ -153,24 +153,17 @@ fn item_fails<'a>(
     }
 }
 
-/// The fault of the first printed item whose name has another value than the printed one. Where all
-/// are known to agree, nothing is compared.
+/// The fault of the first printed item whose name has another value than the printed one.
 pub(crate) fn printed_fails<'a>(
     alloc: Global,
     model: &Model<'a>,
     partial: &Partial,
-    agrees: bool,
     items: &[Printed<'_>],
 ) -> Result<Option<Fault<'a>>, AllocError>
     requires clean { items_fault model.now (located_items items.now) ≡ None }
-    requires agrees { IsTrue agrees
-        → first_some (printed_fails model.now partial.now) (located_items items.now) ≡ None }
     ensures { IfOk result (λ o. option_map fault_view o
         ≡ first_some (printed_fails model.now partial.now) (located_items items.now)) }
 {
-    if agrees {
-        return Ok(None);
-    }
     for item in items {
         let fault = item_fails(alloc, model, partial, item)?;
         if fault.is_some() {

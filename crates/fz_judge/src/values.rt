@@ -2,13 +2,13 @@
 //! made.
 
 ghost use Rattle.std.specs.Prelude.{◌≡◌, IfOk};
-ghost use Rattle.fz_filling.specs.of_model.Names.{literal_value};
-ghost use Rattle.fz_filling.specs.of_model.Relations.{same_value};
-ghost use Rattle.fz_filling.specs.of_syntax.View.{bare_literal_kind};
+ghost use Rattle.fz_search.specs.of_model.Names.{literal_value};
+ghost use Rattle.fz_search.specs.of_model.Relations.{same_value};
+ghost use Rattle.fz_stream.specs.of_syntax.View.{bare_literal_kind};
 
 use fz_base::{IntSet, Value};
-use fz_filling::fz_model::literal_value;
-use fz_filling::fz_syntax::LiteralKind;
+use fz_search::fz_model::literal_value;
+use fz_stream::fz_syntax::LiteralKind;
 use std::alloc::{AllocError, Global};
 
 /// Whether a number is the literal's value.

@@ -2,7 +2,7 @@
 use Rattle.std.proofs.Common.{◌≡◌, ℕ, zero, suc, ◌+◌, ◌-◌, ◌<◌, ◌≤◌, Bool, true, false, ◌&&◌, List, ◌∷◌, drop, length, sym, ap, ap₂, ◌∙◌, arith}
 use Rattle.std.specs.List.{list_all}
 use Rattle.std.proofs.lemmas.List.{drop_all}
-use Rattle.fz_meaning.specs.Relations.{all_pairs}
+use Rattle.fz_data.specs.of_meaning.Relations.{all_pairs}
 use Rattle.fz_kernel.specs.Indices.{all_from, all_pairs_from}
 
 -- ---- a loop

@@ -10,8 +10,8 @@ use Rattle.std.proofs.lemmas.Bool.Decides.{Decides-int_eq}
 use Rattle.std.proofs.lemmas.List.Recursion.{is_count_by}
 use Rattle.std.proofs.lemmas.List.Sorted.{sum_by-IsPermutation}
 use Rattle.fz_base.proofs.Numbers.{not_below}
-use Rattle.fz_meaning.specs.Relations.{◌=ℤ◌, all_different, is_among}
-use Rattle.fz_meaning.proofs.Values.{no, no', and_first, and_second, and_both, same_int, int_itself}
+use Rattle.fz_data.specs.of_meaning.Relations.{◌=ℤ◌, all_different, is_among}
+use Rattle.fz_data.proofs.of_meaning.Values.{no, no', and_first, and_second, and_both, same_int, int_itself}
 use Rattle.fz_kernel.proofs.Left.{next}
 
 -- how often the number is listed

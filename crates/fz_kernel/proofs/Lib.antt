@@ -1,4 +1,3 @@
-pub mod SetRelations
 pub mod Different
 pub mod Left
 pub mod Added
@@ -6,5 +5,10 @@ pub mod Best
 pub mod Passed
 pub mod Read
 pub mod Between
-pub use Rattle.fz_arguments.proofs as of_view
-pub use Rattle.fz_arguments.proofs.of_data
+pub mod Kept
+pub mod Shapes
+pub mod Ready
+pub mod Sums
+pub mod Standing
+pub use Rattle.fz_data.proofs as of_data
+pub use Rattle.fz_data.proofs.of_meaning

@@ -1,3 +1,6 @@
 pub mod Indices
-pub use Rattle.fz_arguments.specs as of_view
-pub use Rattle.fz_arguments.specs.of_data
+pub mod Given
+pub mod Views
+pub mod Arguments
+pub use Rattle.fz_data.specs as of_data
+pub use Rattle.fz_data.specs.of_meaning

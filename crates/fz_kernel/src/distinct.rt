@@ -2,7 +2,7 @@
 ghost use Rattle.std.specs.Prelude.{◌≡◌};
 ghost use Rattle.std.specs.Ordering.{int_cmp};
 ghost use Rattle.std.specs.List.Sorted.{IsSorted};
-ghost use Rattle.fz_meaning.specs.Relations.{all_different};
+ghost use Rattle.fz_data.specs.of_meaning.Relations.{all_different};
 
 /// Whether no two of the numbers are equal. It sorts them, in `n log n` steps and without memory.
 pub fn all_different(numbers: &mut [i64]) -> bool

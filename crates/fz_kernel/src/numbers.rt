@@ -1,9 +1,10 @@
 // Integers: the exact results of the builtins' arithmetic.
 ghost use Rattle.std.specs.Prelude.{◌≡◌, pos, ◌+ℤ◌, ◌*ℤ◌, int_div, int_rem, unsigned_abs, IfSome, IfNone};
 ghost use Rattle.std.specs.Int.{int_min, int_max};
-ghost use Rattle.fz_meaning.specs.Relations.{as_number};
+ghost use Rattle.fz_data.specs.of_meaning.Relations.{as_number};
 
 /// The sum, which always fits in 128 bits.
+#[inline(always)]
 pub fn sum(a: i64, b: i64) -> i128
     ensures exact { result ≡ a +ℤ b }
 {
@@ -11,6 +12,7 @@ pub fn sum(a: i64, b: i64) -> i128
 }
 
 /// The product, which always fits in 128 bits.
+#[inline(always)]
 pub fn product(a: i64, b: i64) -> i128
     ensures exact { result ≡ a *ℤ b }
 {
@@ -18,6 +20,7 @@ pub fn product(a: i64, b: i64) -> i128
 }
 
 /// The absolute value: up to 2^63.
+#[inline(always)]
 pub fn absolute(a: i64) -> i128
     ensures exact { result ≡ pos (unsigned_abs a) }
 {
@@ -25,6 +28,7 @@ pub fn absolute(a: i64) -> i128
 }
 
 /// The lesser of the two.
+#[inline(always)]
 pub fn least(a: i64, b: i64) -> i64
     ensures exact { result ≡ int_min a b }
 {
@@ -32,6 +36,7 @@ pub fn least(a: i64, b: i64) -> i64
 }
 
 /// The greater of the two.
+#[inline(always)]
 pub fn greatest(a: i64, b: i64) -> i64
     ensures exact { result ≡ int_max a b }
 {
@@ -39,6 +44,7 @@ pub fn greatest(a: i64, b: i64) -> i64
 }
 
 /// The quotient, rounded toward zero: up to 2^63. None where the divisor is 0.
+#[inline(always)]
 pub fn quotient(a: i64, b: i64) -> Option<i128>
     ensures exact { IfSome result (λ q. q ≡ int_div a b) }
     ensures none { IfNone result (b ≡ pos 0) }
@@ -52,6 +58,7 @@ pub fn quotient(a: i64, b: i64) -> Option<i128>
 
 /// The remainder of the division that rounds toward zero: it has the sign of `a`. None where the
 /// divisor is 0.
+#[inline(always)]
 pub fn remainder(a: i64, b: i64) -> Option<i128>
     ensures exact { IfSome result (λ r. r ≡ int_rem a b) }
     ensures none { IfNone result (b ≡ pos 0) }
@@ -64,6 +71,7 @@ pub fn remainder(a: i64, b: i64) -> Option<i128>
 }
 
 /// 1 for true and 0 for false.
+#[inline(always)]
 pub fn number_of_truth(truth: bool) -> i64
     ensures exact { result ≡ as_number truth }
 {

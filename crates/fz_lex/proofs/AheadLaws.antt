@@ -6,7 +6,7 @@ use Rattle.std.specs.List.{position_or_len, AllByRecursion}
 use Rattle.std.proofs.lemmas.List.{length-drop, append-nil, get_or_past}
 use Rattle.std.proofs.lemmas.Bool.{eqb-true, eqb-false, cases_Bool, cases_lt, ltb-true, ltb-false}
 use Rattle.std.proofs.lemmas.Int.{ints}
-use Rattle.fz_lex.specs.Token.{is_blank, is_line_feed, TokenValue, Word, Whole, FloatText, StringText, Marked}
+use Rattle.fz_lex.specs.Token.{is_blank, is_line_feed, TokenValue, Whole}
 use Rattle.fz_lex.specs.Lexing.{SpannedToken, CutBetween, nothing, blank, comment, spelling, IsWholeComment, IsLongestSpelling, LexesToSpanned, most_bytes, IsWithinLimit, IsTokenWithinLimit, AreWithinLimit, LexesWithinLimits}
 use Rattle.fz_lex.specs.View.{NothingBegins, spanned, IsSpelledAtSpan, IsLexicalFault}
 use Rattle.fz_lex.specs.Found.{AreInOrder, NextFrom, FaultFrom, IsScanned, IsScanFault}
@@ -15,13 +15,13 @@ use Rattle.fz_lex.specs.Ahead.{comma_at, gap_from, is_whole_within, is_within, t
 use Rattle.fz_lex.specs.Left.{first_and}
 use Rattle.fz_lex.specs.declared.token.Token.{Token}
 use Rattle.fz_lex.specs.declared.error.SyntaxError.{SyntaxError}
-use Rattle.fz_lex.specs.declared.error.SyntaxError.TheVariants.{TooLong, BadByte, TooLarge, Float, Syntax, TooDeep, TooMany, Memory}
+use Rattle.fz_lex.specs.declared.error.SyntaxError.TheVariants.{BadByte, TooLarge}
 use Rattle.fz_lex.proofs.Laws.{found_is_longest, longest_is_positive, none_begins}
 use Rattle.fz_lex.proofs.Next.{comma_cut}
 use Rattle.fz_lex.proofs.Cuts.{at_place, cut_then, cut_forward, cut_continues, cut_stays, cut_ordered, in_order_upto, comment_positive, no_cut_from, no_limit_from}
 use Rattle.fz_lex.proofs.Texts.{cut_spelled}
 use Rattle.fz_base.specs.declared.span.Span.{Span}
-use Rattle.fz_lex.proofs.Lexed.{all_right, only_fault}
+use Rattle.fz_lex.proofs.Lexed.{all_right, only_fault, fault_placed}
 
 -- why nothing more is read from an offset on
 pub data IsStop (source : List ℕ) (place : ℕ) : Type 0 where
@@ -143,20 +143,14 @@ whole_outside (pos n) h w = let l = ltb-false n (2 ^ 63) h in omega (arith, ints
 whole_outside (negsuc n) h w = let l = ltb-false n (2 ^ 63) h in omega (arith, ints, w.0)
 
 token_within : (t : TokenValue) → is_within t ≡ true → IsTokenWithinLimit t
-token_within (Word text) h = tt
 token_within (Whole z) h = whole_within z h
-token_within (FloatText text) h = tt
-token_within (StringText text) h = tt
-token_within (Marked m) h = tt
+token_within _ h = tt
 
 -- a token outside the limit stops the list
 stop_at_token : (source : List ℕ) (start n : ℕ) (t : TokenValue) → start < length source
     → IsLongestSpelling (drop start source) n t → is_within t ≡ false → IsStop source start
-stop_at_token source start n (Word text) h l o = absurd (cc o)
 stop_at_token source start n (Whole z) h l o = at_large n z h l (whole_outside z o)
-stop_at_token source start n (FloatText text) h l o = absurd (cc o)
-stop_at_token source start n (StringText text) h l o = absurd (cc o)
-stop_at_token source start n (Marked m) h l o = absurd (cc o)
+stop_at_token source start n _ h l o = absurd (cc o)
 
 -- what is found behind the gap, and the tokens from its end on
 ahead_at : (source : List ℕ) (place start : ℕ) (rest : ℕ → List SpannedToken) (stop : ℕ → ℕ)
@@ -257,14 +251,9 @@ large_ahead source place span f =
 
 pub ahead_fault : (source : List ℕ) (place : ℕ) (e : SyntaxError) → place ≤ length source
     → FaultFrom source place e → tokens_ahead source place ≡ []
-ahead_fault source place TooLong h f = absurd f
 ahead_fault source place (BadByte span) h f = ahead_same source place _ _ h (bad_ahead source place span f)
 ahead_fault source place (TooLarge span) h f = ahead_same source place _ _ h (large_ahead source place span f)
-ahead_fault source place (Float span) h f = absurd f
-ahead_fault source place (Syntax span) h f = absurd f
-ahead_fault source place (TooDeep span) h f = absurd f
-ahead_fault source place (TooMany span) h f = absurd f
-ahead_fault source place Memory h f = absurd f
+ahead_fault source place _ h f = absurd f
 
 -- what a reader has left after a step of the lexer: the tokens ahead of where the lexer was
 pub step_leaves : (source : List ℕ) (place end : ℕ) (r : Result (Unit {0}) SyntaxError)
@@ -297,16 +286,11 @@ end_scanned source place end h same n =
 pub fault_scanned : (source : List ℕ) (place : ℕ) (e : SyntaxError) → place ≤ length source
     → stop_ahead source place ≡ stop_ahead source 0 → FaultFrom source place e
     → IsLexicalFault source e
-fault_scanned source place TooLong h same f = absurd f
 fault_scanned source place (BadByte span) h same f =
     (tokens_ahead source 0, cut_to source span.start (sym same ∙ stop_same source place _ _ h (bad_ahead source place span f)), numbers_to source, f.1, f.2)
 fault_scanned source place (TooLarge span) h same f =
     (tokens_ahead source 0, f.0, f.1, cut_to source span.start (sym same ∙ stop_same source place _ _ h (large_ahead source place span f)), numbers_to source, f.3, f.4, f.5)
-fault_scanned source place (Float span) h same f = absurd f
-fault_scanned source place (Syntax span) h same f = absurd f
-fault_scanned source place (TooDeep span) h same f = absurd f
-fault_scanned source place (TooMany span) h same f = absurd f
-fault_scanned source place Memory h same f = absurd f
+fault_scanned source place _ h same f = absurd f
 
 -- the tokens of a source, up to its first fault, follow one another
 pub ahead_in_order : (source : List ℕ) → AreInOrder 0 (length source) (tokens_ahead source 0)
@@ -345,3 +329,9 @@ pub scanned_numbers : (source : List ℕ) (r : Result (Unit {0}) SyntaxError)
     → OnOk r (IsScanned source) → OnOk r (AreWithinLimit (tokens_ahead source 0))
 scanned_numbers source (Err e) s = s
 scanned_numbers source (Ok v) s = numbers_to source
+
+-- what follows from what a scan of the whole text answers
+pub ruleset of_scan = (scanned_lexed, scanned_lexes, scanned_numbers, only_scanned, fault_placed)
+
+-- what is so of the tokens ahead
+pub ruleset of_ahead = (ahead_in_order, ahead_spelled)

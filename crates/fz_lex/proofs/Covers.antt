@@ -143,8 +143,6 @@ not_based (x ∷ (y ∷ rest)) c letter base tail d l n =
 -- where a number in another base begins, there is only one decimal digit
 based_short : (b after : List ℕ) (letter base : ℕ) → AreDigits 10 b → is_digit letter 10 ≡ false
     → is_based letter base (b ++ after) ≡ true → length b ≤ 1
-based_short [] after letter base d l h = omega arith
-based_short (x ∷ []) after letter base d l h = omega arith
 based_short (x ∷ (y ∷ rest)) after letter base d l h =
     let parts = and_parts (is_digit x 10) (is_digit y 10 && list_all (λ b. is_digit b 10) rest) d.1 in
     let second = (and_parts (is_digit y 10) (list_all (λ b. is_digit b 10) rest) parts.1).0 in
@@ -152,6 +150,7 @@ based_short (x ∷ (y ∷ rest)) after letter base d l h =
     let e = eqb-true y letter (and_parts (eqb y letter) (is_digit (get_or (rest ++ after) 0 0) base) tests.1).0 in
     let f = rw e at second in
     absurd (cc f)
+based_short _ after letter base d l h = omega arith
 
 based_ends : (b after : List ℕ) (letter base : ℕ) → AreDigits 10 b → is_digit letter 10 ≡ false
     → is_word_byte letter ≡ true → is_based letter base (b ++ after) ≡ true → EndsNumber after → ⊥
@@ -279,9 +278,9 @@ exponent_no_digit : (exponent after : List ℕ) → IsExponent exponent
 exponent_no_digit exponent after e =
     ⊎_elim (λ f. rw f refl) (λ f. rw f refl) (exponent_first exponent after e)
 
-no_fraction : (c : ℕ) (tail : List ℕ) → c ≢ 46 → fraction_len (c ∷ tail) ≡ 0
+pub fraction_of_byte : (c : ℕ) (tail : List ℕ) → c ≢ 46 → fraction_len (c ∷ tail) ≡ 0
 unfolding fraction_len
-no_fraction c tail n = rw (ne_eqb c 46 n) refl
+fraction_of_byte c tail n = rw (ne_eqb c 46 n) refl
 
 pointed_covers : (before digits exponent after : List ℕ) → AreDigits 10 before → AreDigits 10 digits
     → (exponent ≡ []) ⊎ IsExponent exponent → NumberCovers
@@ -332,7 +331,7 @@ scaled_covers before (c ∷ cs) after d e =
     let not_point : c ≢ 46 = λ z. absurd (⊎_elim (λ f. omega arith) (λ f. omega arith) first) in
     let not_x : c ≢ 120 = λ z. absurd (⊎_elim (λ f. omega arith) (λ f. omega arith) first) in
     let not_o : c ≢ 111 = λ z. absurd (⊎_elim (λ f. omega arith) (λ f. omega arith) first) in
-    let zero_there = no_fraction c (cs ++ after) not_point in
+    let zero_there = fraction_of_byte c (cs ++ after) not_point in
     let scale = exponent_covers (c ∷ cs) after e in
     let positive = exponent_positive (c ∷ cs) e in
     let len = length-append before (c ∷ cs) in

@@ -9,7 +9,7 @@ use Rattle.std.specs.List.{prefix_len, list_all}
 use Rattle.std.specs.Char.{is_digit}
 use Rattle.fz_lex.specs.Token.{is_word_start, is_word_byte, TokenValue, Word, Whole, FloatText, StringText, Marked, Spells, IsWordText, IsStringText, WritesWhole, unsigned, negative, IsFloatText, unsigned_float, negative_float, mark_text}
 use Rattle.fz_lex.specs.declared.token.Mark.{Mark}
-use Rattle.fz_lex.specs.declared.token.Mark.TheVariants.{OpenParen, CloseParen, OpenBracket, CloseBracket, OpenBrace, CloseBrace, Comma, Semicolon, Colon, ColonColon, Equals, DotDot}
+use Rattle.fz_lex.specs.declared.token.Mark.TheVariants.{Colon, ColonColon, DotDot}
 use Rattle.fz_lex.proofs.Runs.{chosen, prefix_all, prefix_covers}
 use Rattle.fz_lex.proofs.Fronts.{front_natural, front_negative}
 use Rattle.fz_lex.specs.Lexing.{IsLongestSpelling}
@@ -256,28 +256,19 @@ colon_covers after =
 mark_covers : (m : Mark) (after : List ℕ)
     → Covers (Marked m) (mark_text m) after (front_of (mark_text m ++ after))
 unfolding front_of mark_front
-mark_covers OpenParen after = record { token = Marked OpenParen; len = 1; is = refl; long = omega arith; same = λ e. refl; ends = λ e. refl }
-mark_covers CloseParen after = record { token = Marked CloseParen; len = 1; is = refl; long = omega arith; same = λ e. refl; ends = λ e. refl }
-mark_covers OpenBracket after = record { token = Marked OpenBracket; len = 1; is = refl; long = omega arith; same = λ e. refl; ends = λ e. refl }
-mark_covers CloseBracket after = record { token = Marked CloseBracket; len = 1; is = refl; long = omega arith; same = λ e. refl; ends = λ e. refl }
-mark_covers OpenBrace after = record { token = Marked OpenBrace; len = 1; is = refl; long = omega arith; same = λ e. refl; ends = λ e. refl }
-mark_covers CloseBrace after = record { token = Marked CloseBrace; len = 1; is = refl; long = omega arith; same = λ e. refl; ends = λ e. refl }
-mark_covers Comma after = record { token = Marked Comma; len = 1; is = refl; long = omega arith; same = λ e. refl; ends = λ e. refl }
-mark_covers Semicolon after = record { token = Marked Semicolon; len = 1; is = refl; long = omega arith; same = λ e. refl; ends = λ e. refl }
 mark_covers Colon after = colon_covers after
 mark_covers ColonColon after = record { token = Marked ColonColon; len = 2; is = refl; long = omega arith; same = λ e. refl; ends = λ e. refl }
-mark_covers Equals after = record { token = Marked Equals; len = 1; is = refl; long = omega arith; same = λ e. refl; ends = λ e. refl }
 mark_covers DotDot after = record { token = Marked DotDot; len = 2; is = refl; long = omega arith; same = λ e. refl; ends = λ e. refl }
+mark_covers m after = record { token = Marked m; len = 1; is = refl; long = omega arith; same = λ e. refl; ends = λ e. refl }
 
 pub front_covers : (t : TokenValue) (b after : List ℕ) → Spells t b
     → Covers t b after (front_of (b ++ after))
-front_covers (Word text) [] after h = absurd h.1
 front_covers (Word text) (x ∷ xs) after h = subst (λ y. Covers (Word y) (x ∷ xs) after (front_of (x ∷ (xs ++ after)))) h.0 (word_covers x xs after h.1)
 front_covers (Whole z) b after h = whole_covers z b after h
 front_covers (FloatText text) b after h = subst (λ y. Covers (FloatText y) b after (front_of (b ++ after))) h.0 (float_text_covers b after h.1)
-front_covers (StringText text) [] after h = absurd h.1
 front_covers (StringText text) (x ∷ xs) after h = subst (λ y. Covers (StringText y) (x ∷ xs) after (front_of (x ∷ (xs ++ after)))) h.0 (string_text_covers x xs after h.1)
 front_covers (Marked m) b after h = subst (λ y. Covers (Marked m) y after (front_of (y ++ after))) (sym h) (mark_covers m after)
+front_covers _ [] after h = absurd h.1
 
 covers_take : (bytes : List ℕ) (t : TokenValue) (n : ℕ) → n ≤ length bytes → Spells t (take n bytes)
     → Covers t (take n bytes) (drop n bytes) (front_of bytes)

@@ -7,9 +7,9 @@ use Rattle.fz_lex.specs.View.{IsLexicalFault, IsPlacedWithin, all_spanned}
 use Rattle.fz_lex.specs.Found.{IsLexed}
 use Rattle.fz_lex.specs.declared.token.Token.{Token}
 use Rattle.fz_lex.specs.declared.error.SyntaxError.{SyntaxError}
-use Rattle.fz_lex.specs.declared.error.SyntaxError.TheVariants.{TooLong, BadByte, TooLarge, Float, Syntax, TooDeep, TooMany, Memory}
+use Rattle.fz_lex.specs.declared.error.SyntaxError.TheVariants.{TooLong, BadByte, TooLarge, Memory}
 use Rattle.fz_lex.proofs.Laws.{longest_is_positive}
-use Rattle.fz_lex.proofs.Cuts.{cut_once, cut_continues, no_cut_from, no_limit_from}
+use Rattle.fz_lex.proofs.Cuts.{cut_once, cut_continues, no_cut_from, no_limit_from, cut_ordered}
 
 pub all_right : {X : Type 0} (P : X → Type 0) (xs ys : List X) → AllByRecursion P (xs ++ ys)
     → AllByRecursion P ys
@@ -35,11 +35,8 @@ only_fault source T h (TooLarge span) f =
     let d = cut_continues f.3 h.lexes (omega arith) in
     let all : AreWithinLimit (f.0 ++ d.rest) = subst AreWithinLimit d.is h.numbers in
     absurd (no_limit_from f.1 f.2 d.cut byte l f.6 (all_right (λ t. IsTokenWithinLimit t.token) f.0 d.rest all))
-only_fault source T h (Float span) f = absurd f
-only_fault source T h (Syntax span) f = absurd f
-only_fault source T h (TooDeep span) f = absurd f
-only_fault source T h (TooMany span) f = absurd f
 only_fault source T h Memory f = refl
+only_fault source T h _ f = absurd f
 
 pub fault_placed : (source : List ℕ) (e : SyntaxError) → IsLexicalFault source e
     → IsPlacedWithin (length source) e
@@ -51,8 +48,8 @@ fault_placed source (TooLarge span) f =
     let l = f.5 in
     let positive = longest_is_positive _ _ _ l in
     (omega arith, omega (arith, l.within, positive, length-drop span.start source))
-fault_placed source (Float span) f = absurd f
-fault_placed source (Syntax span) f = absurd f
-fault_placed source (TooDeep span) f = absurd f
-fault_placed source (TooMany span) f = absurd f
 fault_placed source Memory f = tt
+fault_placed source _ f = absurd f
+
+-- what follows from the tokens that were found
+pub ruleset of_tokens = (cut_ordered, only_tokens, only_fault, fault_placed)

@@ -12,7 +12,7 @@ use Rattle.fz_lex.specs.declared.token.TokenKind.{TokenKind}
 use Rattle.fz_lex.specs.declared.token.TokenKind.TheVariants as kinds
 use Rattle.fz_lex.specs.declared.scanner.Front.TheVariants.{Found, OutsideLimit, Nothing}
 use Rattle.fz_lex.specs.declared.error.SyntaxError.{SyntaxError}
-use Rattle.fz_lex.specs.declared.error.SyntaxError.TheVariants.{TooLong, BadByte, TooLarge, Float, Syntax, TooDeep, TooMany, Memory}
+use Rattle.fz_lex.specs.declared.error.SyntaxError.TheVariants.{TooLong, BadByte, TooLarge, Memory}
 use Rattle.fz_lex.proofs.Laws.{found_is_longest, longest_is_positive, none_begins}
 use Rattle.fz_lex.proofs.Fronts.{comma_front}
 use Rattle.fz_lex.proofs.Cuts.{gap_then_token, cut_then, cut_forward, at_place}
@@ -85,38 +85,29 @@ comma_cut source place h b =
 pub fault_after : (source : List ℕ) (place : ℕ) (before : List SpannedToken)
     → CutUpTo source place before → AreWithinLimit before → (e : SyntaxError)
     → FaultFrom source place e → IsLexicalFault source e
-fault_after source place before c w TooLong f = absurd f
 fault_after source place before c w (BadByte span) f = (before ++ [], cut_then c f.0, rw append-nil w, f.1, f.2)
 fault_after source place before c w (TooLarge span) f = (before ++ [], f.0, f.1, cut_then c f.2, rw append-nil w, f.3, f.4, f.5)
-fault_after source place before c w (Float span) f = absurd f
-fault_after source place before c w (Syntax span) f = absurd f
-fault_after source place before c w (TooDeep span) f = absurd f
-fault_after source place before c w (TooMany span) f = absurd f
-fault_after source place before c w Memory f = absurd f
+fault_after source place before c w _ f = absurd f
 
 pub fault_is_no_memory : (source : List ℕ) (place : ℕ) (e : SyntaxError) → FaultFrom source place e
     → e ≢ Memory
-fault_is_no_memory source place TooLong f m = absurd f
 fault_is_no_memory source place (BadByte span) f m = cc m
 fault_is_no_memory source place (TooLarge span) f m = cc m
-fault_is_no_memory source place (Float span) f m = absurd f
-fault_is_no_memory source place (Syntax span) f m = absurd f
-fault_is_no_memory source place (TooDeep span) f m = absurd f
-fault_is_no_memory source place (TooMany span) f m = absurd f
-fault_is_no_memory source place Memory f m = absurd f
+fault_is_no_memory source place _ f m = absurd f
 
 pub fault_is_no_length : (source : List ℕ) (place : ℕ) (e : SyntaxError) → FaultFrom source place e
     → e ≢ TooLong
-fault_is_no_length source place TooLong f m = absurd f
 fault_is_no_length source place (BadByte span) f m = cc m
 fault_is_no_length source place (TooLarge span) f m = cc m
-fault_is_no_length source place (Float span) f m = absurd f
-fault_is_no_length source place (Syntax span) f m = absurd f
-fault_is_no_length source place (TooDeep span) f m = absurd f
-fault_is_no_length source place (TooMany span) f m = absurd f
-fault_is_no_length source place Memory f m = absurd f
+fault_is_no_length source place _ f m = absurd f
 
 pub all_push : {X : Type 0} (P : X → Type 0) (xs : List X) (x : X) → AllByRecursion P xs → P x
     → AllByRecursion P (xs ++ x ∷ [])
 all_push P [] x h p = (p, tt)
 all_push P (y ∷ ys) x h p = (h.0, all_push P ys x h.1 p)
+
+-- what a fault is not
+pub ruleset of_fault = (fault_is_no_memory, fault_is_no_length)
+
+-- what follows from the front that was found
+pub ruleset of_found = (found_within, found_cut, found_limit, found_moves)

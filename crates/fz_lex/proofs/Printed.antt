@@ -7,14 +7,14 @@ use Rattle.std.specs.Char.{is_digit, digit_value}
 use Rattle.std.specs.Fmt.{signed_decimal}
 use Rattle.std.specs.Str.Parse.{AllDigits, digits_value_after}
 use Rattle.std.proofs.lemmas.Fmt.{decimal_is_IsNumeral}
-use Rattle.std.proofs.lemmas.Bool.{and_from, ne_eqb}
+use Rattle.std.proofs.lemmas.Bool.{and_from}
 use Rattle.std.proofs.lemmas.Bool.Decides.{nat_tests}
 use Rattle.std.proofs.lemmas.Int.{ints}
 use Rattle.fz_lex.specs.Token.{is_word_byte, TokenValue, Word, Whole, FloatText, StringText, Marked, IsWordText, IsFloatText, IsStringText, WritesNatural, decimal as decimal_digits, WritesWhole, unsigned, negative, mark_text}
 use Rattle.fz_lex.specs.Lexing.{IsWithinLimit}
 use Rattle.fz_lex.specs.Scan.{fraction_len}
 use Rattle.fz_lex.specs.declared.token.Mark.{Mark}
-use Rattle.fz_lex.proofs.Covers.{EndsNumber}
+use Rattle.fz_lex.proofs.Covers.{EndsNumber, fraction_of_byte}
 use Rattle.fz_lex.proofs.Laws.{EndsMark}
 use Rattle.fz_lex.proofs.Joined.{Joins, gap, text}
 
@@ -42,14 +42,6 @@ signed_decimal_writes (pos n) h = unsigned n (decimal_writes n (omega (arith, in
 signed_decimal_writes (negsuc n) h = negative (decimal (suc n)) (suc n) refl (decimal_writes (suc n) (omega (arith, ints, h.0))) refl
 
 -- ---- What ends a word, a number or a float: the end, a byte of neither word nor point, or `..`.
-
-fraction_of_byte : (b : ℕ) (rest : List ℕ) → b ≢ 46 → fraction_len (b ∷ rest) ≡ 0
-unfolding fraction_len
-fraction_of_byte b rest n = rw (ne_eqb b 46 n) refl
-
-pub ends_at_end : EndsNumber []
-unfolding fraction_len
-ends_at_end = record { no_word = refl; no_fraction = refl }
 
 pub ends_at_byte : (b : ℕ) (rest : List ℕ) → is_word_byte b ≡ false → b ≢ 46 → EndsNumber (b ∷ rest)
 ends_at_byte b rest w n = record { no_word = w; no_fraction = fraction_of_byte b rest n }

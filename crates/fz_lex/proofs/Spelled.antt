@@ -289,9 +289,8 @@ one_byte (x ∷ rest) b m e h t = record { positive = omega arith; within = omeg
 
 two_bytes : (bytes : List ℕ) (b c : ℕ) (m : Mark) → get_or bytes 0 0 ≡ b → get_or bytes 1 0 ≡ c
     → 0 < b → 0 < c → mark_text m ≡ b ∷ (c ∷ []) → MarkAt bytes m 2
-two_bytes [] b c m e f h k t = absurd (omega arith)
-two_bytes (x ∷ []) b c m e f h k t = absurd (omega arith)
 two_bytes (x ∷ (y ∷ rest)) b c m e f h k t = record { positive = omega arith; within = omega arith; text = ap (λ z. z ∷ (y ∷ [])) e ∙ (ap (λ z. b ∷ (z ∷ [])) f ∙ sym t) }
+two_bytes _ b c m e f h k t = absurd (omega arith)
 
 same_mark : (bytes : List ℕ) (m : Mark) (n : ℕ) (p : Mark × ℕ) → MarkAt bytes m n
     → Some (m, n) ≡ Some p → MarkAt bytes p.0 p.1

@@ -2,18 +2,16 @@
 -- its span says, the text that is in it is one of its kind, and a source has one list of tokens.
 use Rattle.std.proofs.Common.{◌≡◌, ℕ, ◌-◌, ◌≤◌, List, [], ◌∷◌, ◌++◌, length, take, drop, slice_range, map, sym, ap, ◌∙◌, subst, arith}
 use Rattle.std.specs.List.{AllByRecursion}
-use Rattle.fz_lex.specs.Token.{TokenValue, Word, Whole, FloatText, StringText, Marked, Spells, IsTokenText, IsWordText, IsFloatText, IsStringText}
+use Rattle.fz_lex.specs.Token.{TokenValue, Word, FloatText, StringText, Spells, IsTokenText, IsWordText, IsFloatText, IsStringText}
 use Rattle.fz_lex.specs.Lexing.{SpannedToken, CutBetween, nothing, blank, comment, spelling, LexesToSpanned, most_bytes, IsTokenWithinLimit, IsTextOfTokens}
 use Rattle.fz_lex.specs.AnyLength.{LexesTo, LexesWithNumbersInLimit}
 use Rattle.fz_lex.specs.View.{IsSpelledAtSpan}
-use Rattle.fz_lex.proofs.Cuts.{cut_once}
 
 pub spelled_text : (t : TokenValue) (b : List ℕ) → Spells t b → IsTokenText t
 spelled_text (Word text) b s = subst IsWordText s.0 s.1
-spelled_text (Whole z) b s = tt
 spelled_text (FloatText text) b s = subst IsFloatText s.0 s.1
 spelled_text (StringText text) b s = subst IsStringText s.0 s.1
-spelled_text (Marked m) b s = tt
+spelled_text _ b s = tt
 
 pub cut_spelled : {source : List ℕ} {p r : ℕ} {T : List SpannedToken} → CutBetween source p r T
     → AllByRecursion (IsSpelledAtSpan source) T
@@ -36,10 +34,6 @@ pub words_are_words : (source : List ℕ) (tokens : List SpannedToken) → Lexes
     → AllByRecursion (λ t. IsTokenText t.token) tokens
 words_are_words source tokens l = cut_texts l
 
-pub tokens_are_spelled : (source : List ℕ) (tokens : List SpannedToken)
-    → LexesToSpanned source tokens → AllByRecursion (IsSpelledAtSpan source) tokens
-tokens_are_spelled source tokens l = cut_spelled l
-
 -- a fact of each token of a list with spans is one of each token of the list without them, and the
 -- other way round
 pub all_values : (P : TokenValue → Type 0) (tokens : List SpannedToken)
@@ -60,14 +54,6 @@ all_left P [] ys h = tt
 all_left P (x ∷ xs) ys h = (h.0, all_left P xs ys h.1)
 
 -- ---- A source has one list of tokens.
-
-pub spans_once : (source : List ℕ) (S T : List SpannedToken) → LexesToSpanned source S
-    → LexesToSpanned source T → S ≡ T
-spans_once source S T l k = cut_once l k
-
-pub lexes_once : (source : List ℕ) (S T : List TokenValue) → LexesTo source S → LexesTo source T
-    → S ≡ T
-lexes_once source S T l k = sym l.2 ∙ (ap (map (λ t. t.token)) (spans_once source l.0 k.0 l.1 k.1) ∙ k.2)
 
 pub lexed_texts : (source : List ℕ) (tokens : List TokenValue) → LexesTo source tokens
     → AllByRecursion IsTokenText tokens

@@ -18,6 +18,7 @@ use fz_base::Span;
 ///
 /// # Errors
 /// Those of `lex`, but never `Memory`.
+#[tactic(auto, using(crate::proofs::AheadLaws::of_scan))]
 pub fn check_tokens(source: &[u8]) -> Result<(), SyntaxError>
     // The source lexes to the tokens ahead of its first byte, within the limits.
     ensures found { OnOk result (LexesWithinLimits source.now (tokens_ahead source.now 0)) }
@@ -35,6 +36,7 @@ pub fn check_tokens(source: &[u8]) -> Result<(), SyntaxError>
 }
 
 /// Goes over the rest of a text.
+#[tactic(auto, using(crate::proofs::AheadLaws::fault_scanned, crate::proofs::Next::of_fault))]
 fn scan(mut lexer: Lexer<'_>) -> Result<(), SyntaxError>
     ensures found { OnOk result (IsScanned lexer.entry.source.now) }
     ensures refused { IfErr result (IsScanFault lexer.entry.source.now) }
@@ -59,6 +61,7 @@ pub struct Listed<'a> {
 
 impl<'a> Tokens<'a> {
     /// All tokens of a text.
+    #[tactic(auto, using(crate::proofs::AheadLaws::of_ahead))]
     pub fn new(source: &'a [u8]) -> Tokens<'a>
         ensures source { source_of result ≡ source.now }
         ensures all { left result ≡ tokens_ahead source.now 0 }
@@ -113,6 +116,7 @@ impl<'a> Tokens<'a> {
     ///
     /// # Errors
     /// The leftmost of `BadByte` and `TooLarge`, wherever it is. No other error comes.
+    #[tactic(auto, using(crate::proofs::AheadLaws::of_scan))]
     pub fn finish(self) -> Result<(), SyntaxError>
         // The whole text lexes to the tokens ahead of its first byte, with numbers within the
         // limit.

@@ -60,6 +60,7 @@ pub(crate) struct Lexer<'a> {
 impl<'a> Lexer<'a> {
     /// Takes the comma, where one is the next byte, and gives its byte range.
     #[inline(always)]
+    #[tactic(auto, using(crate::proofs::AheadLaws::ahead_comma))]
     pub(crate) fn eat_comma(&mut self) -> Option<Span>
         ensures source { self.new.source.now ≡ self.old.source.now }
         ensures comma { IfSome result (λ s. (s.start ≡ self.old.place)
@@ -79,6 +80,7 @@ impl<'a> Lexer<'a> {
 
     /// Takes the token of this kind and length that begins at an offset.
     #[inline(always)]
+    #[tactic(auto, using(crate::proofs::Next::of_found))]
     fn take(&mut self, start: usize, kind: TokenKind, len: usize) -> Token<'a>
         requires within { start ≤ length self.old.source.now }
         requires gap { CutBetween self.old.source.now self.old.place start [] }
@@ -156,6 +158,7 @@ impl<'a> Lexer<'a> {
     }
 }
 
+#[tactic(auto, using(crate::proofs::Next::fault_after))]
 fn tokens<'a>(alloc: Global, source: &'a [u8]) -> Result<Vec<Token<'a>>, SyntaxError>
     ensures found { IfOk result (λ tokens. IsLexed source.now tokens.items) }
     ensures refused { IfErr result (IsLexicalFault source.now) }
@@ -176,6 +179,7 @@ fn tokens<'a>(alloc: Global, source: &'a [u8]) -> Result<Vec<Token<'a>>, SyntaxE
 /// `TooLong` where the text has more than 16,777,216 bytes; else the leftmost of `BadByte`, a byte
 /// at which nothing begins, and `TooLarge`, an integer outside 64 bits; `Memory` where memory runs
 /// out. No other error comes.
+#[tactic(auto, using(crate::proofs::Lexed::of_tokens))]
 pub fn lex<'a>(alloc: Global, source: &'a [u8]) -> Result<Vec<Token<'a>>, SyntaxError>
     // What is given is what the source lexes to, within the limits.
     ensures found { IfOk result (λ tokens. LexesWithinLimits source.now

@@ -247,6 +247,7 @@ fn may_go_on(byte: u8) -> bool
 /// An integer without a sign that is small, where its decimal digits and the byte after them show
 /// that it is one.
 #[inline(always)]
+#[tactic(auto, using(crate::proofs::Short::short_is))]
 fn short_number(bytes: &[u8]) -> Option<DigitRun>
     ensures is { IfSome result (λ run. scan.number_front bytes.now
         ≡ record { natural = Some run.value; len = run.len }) }

@@ -1,7 +1,7 @@
 -- In each row of the table an argument that `defines_var` may fill is determined by the others: two
 -- values of it with which the row holds are equal. Of `int_lin_eq` this is said of one element of
 -- the second array with the coefficient 1 or -1.
-use Rattle.std.proofs.Common.{◌≡◌, ℕ, suc, zero, ℤ, pos, negsuc, ◌+ℤ◌, ◌*ℤ◌, neg_ℤ, Bool, true, false, not, ◌&&◌, ◌||◌, cond, List, [], ◌∷◌, ◌++◌, map, length, find, Option, Some, None, refl, sym, ap, subst, ◌∙◌, arith, int_le, int_div, int_rem, unsigned_abs, ◌⊎◌, inl, inr}
+use Rattle.std.proofs.Common.{◌≡◌, ℕ, suc, zero, ℤ, pos, negsuc, ◌+ℤ◌, ◌*ℤ◌, neg_ℤ, Bool, true, false, not, ◌&&◌, ◌||◌, cond, List, [], ◌∷◌, ◌++◌, map, length, find, Option, Some, None, refl, sym, ap, subst, ◌∙◌, arith, int_le, int_div, int_rem, unsigned_abs, ◌⊎◌, rules}
 use Rattle.std.specs.Prelude.{⊤}
 use Rattle.std.proofs.lemmas.Int.{ints}
 use Rattle.std.proofs.Math.IntN.{*ℤ_comm, *ℤ-one, *ℤ-negsuc}
@@ -9,6 +9,8 @@ use Rattle.std.specs.List.{AllByRecursion, list_any, list_all}
 use Rattle.std.specs.Option.{option_map_or}
 use Rattle.std.specs.Int.{int_min, int_max}
 use Rattle.std.specs.FinSet as sets
+use Rattle.std.proofs.lemmas.Bool.Decides.{nat_tests}
+use Rattle.std.proofs.lemmas.Grind.{common_steps}
 use Rattle.fz_meaning.specs.Relations.{◌=ℤ◌, ◌=ᴮ◌, ◌=ˢ◌, products, total, as_number, is_among, element_at, where_true, count_in, count_of, index_from, is_index_of_best, values_of}
 use Rattle.fz_meaning.specs.Builtins.{Shape, Of, Plain, Test, Row, base_rows, builtins, implied, reified, row_at, rows, rows_with_forms, with_bool, with_truth}
 use Rattle.fz_meaning.specs.Builtins.Shape.{ScalarOf, ArrayOf}
@@ -76,26 +78,13 @@ set_both' : (x y z : NumberSet) → (z =ˢ x) ≡ true → (z =ˢ y) ≡ true �
 set_both' x y z d e = sym (same_set_is z x d) ∙ same_set_is z y e
 
 not_both : (x y z : Bool) → not (x =ᴮ z) ≡ true → not (y =ᴮ z) ≡ true → x ≡ y
-not_both true true z d e = refl
-not_both false false z d e = refl
-not_both true false true d e = no d
-not_both true false false d e = no e
-not_both false true true d e = no e
-not_both false true false d e = no d
+not_both x y z d e = grind (arith, common_steps, no)
 
 not_both' : (x y z : Bool) → not (z =ᴮ x) ≡ true → not (z =ᴮ y) ≡ true → x ≡ y
-not_both' true true z d e = refl
-not_both' false false z d e = refl
-not_both' true false true d e = no d
-not_both' true false false d e = no e
-not_both' false true true d e = no e
-not_both' false true false d e = no d
+not_both' x y z d e = grind (arith, common_steps, no)
 
 number_both : (x y : Bool) (n : ℤ) → (n =ℤ as_number x) ≡ true → (n =ℤ as_number y) ≡ true → x ≡ y
-number_both true true n d e = refl
-number_both false false n d e = refl
-number_both true false n d e = let h : pos 1 ≡ pos 0 = sym (same_int n (pos 1) d) ∙ same_int n (pos 0) e in cc
-number_both false true n d e = let h : pos 0 ≡ pos 1 = sym (same_int n (pos 0) d) ∙ same_int n (pos 1) e in cc
+number_both x y n d e = grind (arith, common_steps, same_int)
 
 -- one element
 element_both : {A : Type 0} (same : A → A → Bool) → ((x y z : A) → same z x ≡ true → same z y ≡ true
@@ -117,10 +106,7 @@ module _ (below : ℤ → ℤ → Bool) (antisymmetric : (x y : ℤ) → below x
 
   extreme_both : (b : List ℤ) (x y : ℤ) → (is_among x b && list_all (λ z. below z x) b) ≡ true
       → (is_among y b && list_all (λ z. below z y) b) ≡ true → x ≡ y
-  extreme_both b x y d e =
-      antisymmetric x y
-      (each_at x b (and_first (is_among x b) _ d) (λ z. below z y) (and_second (is_among y b) _ e))
-      (each_at y b (and_first (is_among y b) _ e) (λ z. below z x) (and_second (is_among x b) _ d))
+  extreme_both b x y d e = search (rules, each_at, and_first, and_second)
 
   -- the index of the best
   any_found : (p : ℤ → Bool) (b : List ℤ) → list_any p b ≡ true
@@ -158,12 +144,11 @@ sum_at : (as' bs : List ℤ) (a x : ℤ) (cs ds : List ℤ) → length as' ≡ l
     → total (products (as' ++ a ∷ cs) (bs ++ x ∷ ds))
     ≡ total (products as' bs) +ℤ ((a *ℤ x) +ℤ total (products cs ds))
 sum_at [] [] a x cs ds e = omega (arith, ints)
-sum_at [] (b ∷ bs) a x cs ds e = absurd (omega arith)
-sum_at (b ∷ as') [] a x cs ds e = absurd (omega arith)
 sum_at (b ∷ as') (d ∷ bs) a x cs ds e =
     let same : length as' ≡ length bs = omega arith in
     let rest : total (products (as' ++ a ∷ cs) (bs ++ x ∷ ds)) ≡ total (products as' bs) +ℤ ((a *ℤ x) +ℤ total (products cs ds)) = sum_at as' bs a x cs ds same in
     ap (λ t. (b *ℤ d) +ℤ t) rest ∙ plus_assoc (b *ℤ d) (total (products as' bs)) ((a *ℤ x) +ℤ total (products cs ds))
+sum_at _ _ a x cs ds e = absurd (omega arith)
 
 one_times : (x : ℤ) → pos 1 *ℤ x ≡ x
 unfolding lib.IntN.one
@@ -174,14 +159,7 @@ unfolding lib.IntN.one
 less_one_times x = *ℤ_comm (negsuc 0) x ∙ *ℤ-negsuc x 0 ∙ ap neg_ℤ (*ℤ-one x)
 
 times_unit : (a x y p q : ℤ) → IsUnit a → p +ℤ ((a *ℤ x) +ℤ q) ≡ p +ℤ ((a *ℤ y) +ℤ q) → x ≡ y
-times_unit a x y p q (inl u) e =
-    let h : p +ℤ ((pos 1 *ℤ x) +ℤ q) ≡ p +ℤ ((pos 1 *ℤ y) +ℤ q) = subst (λ b. p +ℤ ((b *ℤ x) +ℤ q) ≡ p +ℤ ((b *ℤ y) +ℤ q)) u e in
-    let k : p +ℤ (x +ℤ q) ≡ p +ℤ (y +ℤ q) = rw (one_times x, one_times y) at h in
-    omega (arith, ints)
-times_unit a x y p q (inr u) e =
-    let h : p +ℤ ((negsuc 0 *ℤ x) +ℤ q) ≡ p +ℤ ((negsuc 0 *ℤ y) +ℤ q) = subst (λ b. p +ℤ ((b *ℤ x) +ℤ q) ≡ p +ℤ ((b *ℤ y) +ℤ q)) u e in
-    let k : p +ℤ (neg_ℤ x +ℤ q) ≡ p +ℤ (neg_ℤ y +ℤ q) = rw (less_one_times x, less_one_times y) at h in
-    omega (arith, ints)
+times_unit a x y p q h e = grind (arith, ints, nat_tests, one_times, neg_ℤ, less_one_times)
 
 term_both : DeterminesTerm (ArrayOf IntKind ∷ ArrayOf IntKind ∷ ScalarOf IntKind ∷ [])
     (λ a b c. total (products a b) =ℤ c)

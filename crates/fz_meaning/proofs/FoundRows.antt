@@ -1,8 +1,10 @@
 -- Each builtin is found by its names, and has its row.
-use Rattle.std.proofs.Common.{◌≡◌, ◌≢◌, ◌<◌, ◌≤◌, ◌+◌, ℕ, get_or, drop, Bool, true, false, ◌&&◌, ◌||◌, cond, eq-eqb, List, [], ◌∷◌, ◌++◌, map, find, flat_map, length, Option, Some, None, refl, sym, ap, subst, ◌∙◌}
+use Rattle.std.proofs.Common.{◌≡◌, ◌≢◌, ◌<◌, ◌≤◌, ◌+◌, ℕ, get_or, drop, Bool, true, false, ◌&&◌, ◌||◌, cond, eq-eqb, List, [], ◌∷◌, ◌++◌, map, find, flat_map, length, Option, Some, None, refl, sym, ap, subst, ◌∙◌, arith, rules}
 use Rattle.std.specs.List.{list_all, list_any}
 use Rattle.std.specs.Prelude.{IfNone, bytes_eq, codes, option_map, option_and_then, ◌==◌}
 use Rattle.std.proofs.lemmas.List.{at_drop_more, at_drop_all}
+use Rattle.std.proofs.lemmas.Bool.{and_parts}
+use Rattle.std.proofs.lemmas.Grind.{common_steps}
 use Rattle.fz_meaning.specs.Builtins.{Row, base_rows, builtins, is_named, row_at}
 use Rattle.fz_meaning.specs.Results.{first_name}
 use Rattle.fz_meaning.specs.Meaning.{Posted, fits, row_of}
@@ -11,7 +13,7 @@ use Rattle.fz_meaning.specs.declared.builtin.Builtin.TheVariants.{IntEq}
 use Rattle.fz_meaning.specs.declared.known.Form.{Form}
 use Rattle.fz_meaning.specs.declared.known.Known.{Known}
 use Rattle.fz_meaning.specs.Known.{HasTruth, form_at, known_row, names_of, named_so_long, row_named, suffix_of}
-use Rattle.fz_meaning.proofs.Named.{and_both, same_name, find_filter, row_named_form, row_named_base, row_of_is}
+use Rattle.fz_meaning.proofs.Named.{same_name, find_filter, row_named_form, row_named_base, row_of_is}
 
 -- the builtin of a name
 abbrev pub called : List ℕ → Builtin → Bool
@@ -31,8 +33,8 @@ all_found : (t q : Builtin → Bool) (bs : List Builtin) (b : Builtin) → list_
 all_found t q [] b h e = cc
 all_found t q (d ∷ bs) b h e =
     elim (t d) as (λ c. cond c (Some d) (find t bs) ≡ Some b → q b ≡ true) [
-      | true ↦ λ e. let same : d ≡ b = cc in subst (λ z. q z ≡ true) same (and_both (q d) _ h).0
-      | false ↦ λ e. all_found t q bs b (and_both (q d) _ h).1 e
+      | true ↦ λ e. let same : d ≡ b = cc in subst (λ z. q z ≡ true) same (and_parts (q d) _ h).0
+      | false ↦ λ e. all_found t q bs b (and_parts (q d) _ h).1 e
     ] e
 
 pub each_builtin : (q : Builtin → Bool) → list_all q builtins ≡ true → (b : Builtin) → q b ≡ true
@@ -69,12 +71,7 @@ find_name x (b ∷ bs) = among_own x b (row_at b).names (flat_map names_of bs) �
 -- a name is looked for among those of its length only
 named_alike : (x : List ℕ) (es : List (List ℕ × Builtin))
     → find (λ e. is_for x e && (length e.0 == length x)) es ≡ find (is_for x) es
-named_alike x [] = refl
-named_alike x (e ∷ es) =
-    (elim (is_for x e) as (λ c. is_for x e ≡ c → cond (c && (length e.0 == length x)) (Some e) (find (λ d. is_for x d && (length d.0 == length x)) es) ≡ cond c (Some e) (find (is_for x) es)) [
-      | true ↦ λ same. ap (λ c. cond c (Some e) (find (λ d. is_for x d && (length d.0 == length x)) es)) (eq-eqb (length e.0) (length x) (ap length (same_name e.0 x same)))
-      | false ↦ λ _. named_alike x es
-    ]) refl
+named_alike x es = grind (arith, common_steps, eq-eqb, same_name)
 
 pub find_by_length : (x : List ℕ)
     → builtin_in (find (is_for x) (named_so_long (length x))) ≡ find (called x) builtins
@@ -123,16 +120,7 @@ module _ (x : List ℕ) (o : Option Builtin) (is : o ≡ find (called x) builtin
   form_is : (f : Form) → HasTruth f → row_named (x ++ suffix_of f)
       ≡ option_map (λ b. form_at f (row_at b))
       (option_and_then (λ b. cond (row_at b).has_forms (Some b) None) o)
-  form_is f h =
-      row_named_form f h x
-      ∙ ap (λ q. option_map (form_at f) (option_and_then (λ r. cond r.has_forms (Some r) None) q)) found_row
-      ∙ ap (option_map (form_at f)) (option_step (λ r. r.has_forms) o)
-      ∙ twice (option_and_then (λ b. cond (row_at b).has_forms (Some b) None) o)
-    where
-      twice : (q : Option Builtin) → option_map (form_at f) (option_map row_at q)
-          ≡ option_map (λ b. form_at f (row_at b)) q
-      twice None = refl
-      twice (Some b) = refl
+  form_is f h = search (rules, row_named_form, found_row, option_step)
 
   abbrev with_forms : Form → Option Builtin → Option Row
   with_forms f q = option_map (λ b. form_at f (row_at b)) (option_and_then (λ b. cond (row_at b).has_forms (Some b) None) q)

@@ -1,11 +1,12 @@
 -- What the model of a tree looks up in all declarations is known from the earlier ones, where those
 -- have no fault.
-use Rattle.std.proofs.Common.{◌≡◌, ℕ, suc, pos, ◌+◌, Bool, true, false, not, cond, ◌||◌, List, [], ◌∷◌, ◌++◌, length, Option, Some, None, refl, ap, subst, ◌∙◌, find, filter, one-add}
+use Rattle.std.proofs.Common.{◌≡◌, ℕ, suc, pos, ◌+◌, Bool, true, false, not, cond, ◌||◌, List, [], ◌∷◌, ◌++◌, length, Option, Some, None, refl, ap, subst, ◌∙◌, find, filter, one-add, arith, rules}
 use Rattle.std.specs.List.{list_any, position_or_len}
 use Rattle.std.specs.Option.{option_or, option_map_or}
 use Rattle.std.proofs.lemmas.List.Elements.{filter-append}
 use Rattle.std.proofs.lemmas.List.Folds.{find-append}
 use Rattle.std.proofs.lemmas.Slice.Eq.{bytes_eq-Decides}
+use Rattle.std.proofs.lemmas.Grind.{common_steps}
 use Rattle.fz_base.specs.declared.span.Span.{Span}
 use Rattle.fz_base.specs.declared.value.Value.TheVariants.{Int}
 use Rattle.fz_meaning.specs.declared.kind.Kind.{Kind}
@@ -60,10 +61,7 @@ next_number ds = length (scalar_variables ds)
 
 length_more : {A : Type 0} (xs : List A) (b : Bool) (x : A)
     → length (xs ++ cond b (x ∷ []) []) ≡ cond b (suc (length xs)) (length xs)
-length_more [] true x = refl
-length_more [] false x = refl
-length_more (y ∷ xs) true x = ap suc (length_more xs true x)
-length_more (y ∷ xs) false x = ap suc (length_more xs false x)
+length_more xs b x = grind (arith, common_steps)
 
 pub next_number_more : (before : List Decl) (d : Decl) → next_number (before ++ d ∷ [])
     ≡ cond (is_scalar_variable d) (suc (next_number before)) (next_number before)
@@ -109,8 +107,7 @@ pub number_here : (before : List Decl) (d : Decl) (rest : List Decl)
     → declares before d.name.text ≡ false → is_scalar_variable d ≡ true
     → number_of (before ++ d ∷ rest) d.name.text ≡ next_number before
 number_here before d rest new is =
-    ap (position_or_len (named_as d.name.text)) (scalars_append before (d ∷ rest) ∙ ap (λ b. scalar_variables before ++ cond b (d ∷ scalar_variables rest) (scalar_variables rest)) is)
-    ∙ position_right (named_as d.name.text) (scalar_variables before) d (scalar_variables rest) (none_among (named_as d.name.text) is_scalar_variable before new) (own_name d)
+    search (rules, scalars_append, position_right, none_among, own_name)
 
 -- ---- terms
 

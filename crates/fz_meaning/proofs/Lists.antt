@@ -2,6 +2,7 @@
 -- index.
 use Rattle.std.proofs.Common.{◌≡◌, ℕ, suc, zero, ◌+◌, ◌<◌, List, [], ◌∷◌, ◌++◌, length, Some, refl, subst, take, drop, slice_get, arith}
 use Rattle.std.specs.List.{AllByRecursion, enumerate_from}
+use Rattle.std.proofs.lemmas.Grind.{common_steps}
 
 -- ---- lists
 
@@ -22,15 +23,11 @@ all_left P (x ∷ xs) ys h = (h.0, all_left P xs ys h.1)
 
 pub all_drop : {A : Type 0} (P : A → Type 0) (k : ℕ) (xs : List A) → AllByRecursion P xs
     → AllByRecursion P (drop k xs)
-all_drop P zero xs h = h
-all_drop P (suc k) [] h = tt
-all_drop P (suc k) (x ∷ xs) h = all_drop P k xs h.1
+all_drop P k xs h = grind (arith, common_steps)
 
 pub all_take : {A : Type 0} (P : A → Type 0) (k : ℕ) (xs : List A) → AllByRecursion P xs
     → AllByRecursion P (take k xs)
-all_take P zero xs h = tt
-all_take P (suc k) [] h = tt
-all_take P (suc k) (x ∷ xs) h = (h.0, all_take P k xs h.1)
+all_take P k xs h = grind (arith, common_steps)
 
 pub all_enumerated : {A : Type 0} (P : A → Type 0) (i : ℕ) (xs : List A) → AllByRecursion P xs
     → AllByRecursion (λ q. P q.1) (enumerate_from i xs)

@@ -1,6 +1,6 @@
 -- The rows of the table by name: no two base rows share one, none ends in `_reif` or `_imp`, and each
 -- reified form has its base row's names with one of these appended.
-use Rattle.std.proofs.Common.{◌≡◌, ◌≢◌, ℕ, Bool, true, false, true≢false, not, ◌&&◌, cond, List, [], ◌∷◌, ◌++◌, ◌||◌, map, filter, find, length, drop, Option, Some, None, refl, sym, ap, subst, ◌∙◌, arith}
+use Rattle.std.proofs.Common.{◌≡◌, ◌≢◌, ℕ, Bool, true, false, true≢false, not, ◌&&◌, cond, List, [], ◌∷◌, ◌++◌, ◌||◌, map, filter, find, length, drop, Option, Some, None, refl, sym, ap, subst, ◌∙◌, rules}
 use Rattle.std.specs.Prelude.{◌==◌, codes, bytes_eq, option_map, option_and_then, ◌-◌}
 use Rattle.std.specs.List.{list_all, list_any}
 use Rattle.std.specs.Option.{option_or}
@@ -8,6 +8,7 @@ use Rattle.std.proofs.lemmas.List.{append_cancel_right, drop_at, length-append}
 use Rattle.std.proofs.lemmas.List.Folds.{find-append}
 use Rattle.std.proofs.lemmas.Bool.Decides.{same_from_decides}
 use Rattle.std.proofs.lemmas.Slice.Eq.{bytes_eq-Decides}
+use Rattle.std.proofs.lemmas.Bool.{and_parts, not-true}
 use Rattle.fz_meaning.specs.Builtins.{Row, base_rows, builtins, implied, is_named, reified, row_at, rows, rows_with_forms}
 use Rattle.fz_meaning.specs.declared.known.Form.{Form}
 use Rattle.fz_meaning.specs.declared.known.Form.TheVariants.{Base, Reified, Implied}
@@ -25,9 +26,14 @@ equal_names x y e = (bytes_eq-Decides x y).1 e
 -- the same suffix on both names makes no difference
 pub suffix_drops : (x y s : List ℕ) → bytes_eq (x ++ s) (y ++ s) ≡ bytes_eq x y
 suffix_drops x y s =
-    same_from_decides (bytes_eq (x ++ s) (y ++ s)) (bytes_eq x y)
-    ((λ e. append_cancel_right x y s (same_name (x ++ s) (y ++ s) e), λ e. equal_names (x ++ s) (y ++ s) (ap (λ z. z ++ s) e)))
-    (bytes_eq-Decides x y)
+    search (
+      rules,
+      same_from_decides,
+      append_cancel_right,
+      same_name,
+      equal_names,
+      bytes_eq-Decides,
+    )
 
 suffixes_drop : (x s : List ℕ) (ns : List (List ℕ))
     → list_any (λ n. bytes_eq n (x ++ s)) (map (λ n. n ++ s) ns) ≡ list_any (λ n. bytes_eq n x) ns
@@ -55,21 +61,12 @@ abbrev pub apart : List Row → Bool
 apart [] = true
 apart (r ∷ rs) = list_all (none_named rs) r.names && apart rs
 
-not_true : (b : Bool) → not b ≡ true → b ≡ false
-not_true true e = cc
-not_true false e = refl
-
-pub and_both : (b c : Bool) → (b && c) ≡ true → (b ≡ true) × (c ≡ true)
-and_both true true e = (refl, refl)
-and_both true false e = cc
-and_both false c e = cc
-
 -- what holds of each name holds of the one that is meant
 of_named : (q : List ℕ → Bool) (x : List ℕ) (ns : List (List ℕ))
     → list_any (λ n. bytes_eq n x) ns ≡ true → list_all q ns ≡ true → q x ≡ true
 of_named q x [] e h = cc
 of_named q x (n ∷ ns) e h =
-    let parts = and_both (q n) _ h in
+    let parts = and_parts (q n) _ h in
     (elim (bytes_eq n x) as (λ b. bytes_eq n x ≡ b → (b || list_any (λ n. bytes_eq n x) ns) ≡ true → q x ≡ true) [
       | true ↦ λ same _. subst (λ y. q y ≡ true) (same_name n x same) parts.0
       | false ↦ λ _ e. of_named q x ns e parts.1
@@ -80,16 +77,16 @@ module _ {A : Type 0} where
       → find t xs ≡ None
   find_none t [] h = refl
   find_none t (x ∷ xs) h =
-      let parts = and_both (not (t x)) _ h in
-      rw (not_true (t x) parts.0) (find_none t xs parts.1)
+      let parts = and_parts (not (t x)) _ h in
+      rw (not-true (t x) parts.0) (find_none t xs parts.1)
 
   -- what fails of the name fails with more asked
   pub find_none_and : (t u : A → Bool) (xs : List A) → list_all (λ x. not (t x)) xs ≡ true
       → find (λ x. t x && u x) xs ≡ None
   find_none_and t u [] h = refl
   find_none_and t u (x ∷ xs) h =
-      let parts = and_both (not (t x)) _ h in
-      rw (not_true (t x) parts.0) (find_none_and t u xs parts.1)
+      let parts = and_parts (not (t x)) _ h in
+      rw (not-true (t x) parts.0) (find_none_and t u xs parts.1)
 
   pub find_filter : (t u : A → Bool) (xs : List A)
       → find t (filter u xs) ≡ find (λ x. t x && u x) xs
@@ -107,7 +104,7 @@ pub find_apart : (x : List ℕ) (u : Row → Bool) (rs : List Row) → apart rs 
     ≡ option_and_then (λ r. cond (u r) (Some r) None) (find (is_named x) rs)
 find_apart x u [] h = refl
 find_apart x u (r ∷ rs) h =
-    let parts = and_both (list_all (none_named rs) r.names) (apart rs) h in
+    let parts = and_parts (list_all (none_named rs) r.names) (apart rs) h in
     (elim (is_named x r) as (λ b. is_named x r ≡ b → cond (b && u r) (Some r) (find (λ s. is_named x s && u s) rs) ≡ option_and_then (λ s. cond (u s) (Some s) None) (cond b (Some r) (find (is_named x) rs))) [
       | true ↦ λ e. let none : none_named rs x ≡ true = of_named (none_named rs) x r.names e parts.0 in
           (elim (u r) as (λ c. cond c (Some r) (find (λ s. is_named x s && u s) rs) ≡ cond c (Some r) None) [ true ↦ refl | false ↦ find_none_and (is_named x) u rs none ])
@@ -154,9 +151,7 @@ ends_in suffix x = bytes_eq (drop (length x - length suffix) x) suffix
 
 ends_there : (suffix front : List ℕ) → ends_in suffix (front ++ suffix) ≡ true
 unfolding ends_in
-ends_there suffix front =
-    let at_end : length front ≡ length (front ++ suffix) - length suffix = simp length-append (omega arith) in
-    equal_names _ suffix (drop_at front suffix (length (front ++ suffix) - length suffix) at_end)
+ends_there suffix front = search (rules, length-append, equal_names, drop_at)
 
 pub no_front : (suffix x end : List ℕ) → end ≡ drop (length x - length suffix) x
     → bytes_eq end suffix ≡ false → (front : List ℕ) → x ≡ front ++ suffix → ⊥
@@ -170,9 +165,9 @@ none_ends_so : (suffix : List ℕ) (rs : List Row) → none_end_in suffix rs ≡
     → (front : List ℕ) → none_named rs (front ++ suffix) ≡ true
 none_ends_so suffix [] h front = refl
 none_ends_so suffix (r ∷ rs) h front =
-    let parts = and_both (list_all (λ n. not (ends_in suffix n)) r.names) _ h in
+    let parts = and_parts (list_all (λ n. not (ends_in suffix n)) r.names) _ h in
     (elim (is_named (front ++ suffix) r) as (λ b. is_named (front ++ suffix) r ≡ b → (not b && list_all (λ s. not (is_named (front ++ suffix) s)) rs) ≡ true) [
-      | true ↦ λ e. absurd (true≢false (sym (ends_there suffix front) ∙ not_true (ends_in suffix (front ++ suffix)) (of_named (λ n. not (ends_in suffix n)) (front ++ suffix) r.names e parts.0)))
+      | true ↦ λ e. absurd (true≢false (sym (ends_there suffix front) ∙ not-true (ends_in suffix (front ++ suffix)) (of_named (λ n. not (ends_in suffix n)) (front ++ suffix) r.names e parts.0)))
       | false ↦ λ e. none_ends_so suffix rs parts.1 front
     ]) refl
 
@@ -192,9 +187,8 @@ last (x ∷ y ∷ ys) = last (y ∷ ys)
 
 last_behind : (xs : List ℕ) (y : ℕ) (ys : List ℕ) → last (xs ++ y ∷ ys) ≡ last (y ∷ ys)
 unfolding last
-last_behind [] y ys = refl
-last_behind (x ∷ []) y ys = refl
 last_behind (x ∷ z ∷ zs) y ys = last_behind (z ∷ zs) y ys
+last_behind _ y ys = refl
 
 pub other_suffix : (x y : List ℕ) → x ++ codes "_imp" ≢ y ++ codes "_reif"
 unfolding last

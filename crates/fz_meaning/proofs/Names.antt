@@ -1,16 +1,14 @@
 -- In declarations without a fault: which declaration a name has, its number, and what the model
 -- finds by it.
-use Rattle.std.proofs.Common.{◌≡◌, ℕ, suc, Bool, true, false, cond, ◌&&◌, ◌||◌, List, [], ◌∷◌, ◌++◌, map, Option, Some, None, refl, sym, ap, subst, ◌∙◌, find, append_assoc, option_map, bytes_eq}
+use Rattle.std.proofs.Common.{◌≡◌, ℕ, suc, Bool, true, false, cond, ◌||◌, List, [], ◌∷◌, ◌++◌, map, Option, Some, None, refl, sym, ap, subst, ◌∙◌, find, append_assoc, option_map, bytes_eq, arith}
 use Rattle.std.specs.Prelude.{⊤}
 use Rattle.std.specs.List.{list_any}
 use Rattle.std.specs.Option.{option_or}
 use Rattle.std.proofs.lemmas.List.Folds.{list_any-append}
-use Rattle.fz_meaning.specs.declared.term.Term.TheVariants.{Var, Fixed}
+use Rattle.std.proofs.lemmas.Grind.{common_steps}
 use Rattle.fz_meaning.specs.Located.{Decl, LocatedTree}
 use Rattle.fz_meaning.specs.Meaning.{Declared, numbered, numbered_from, name_of, place_named, place_if_named, find_name, first_some}
-use Rattle.fz_meaning.specs.Meaning.Declared.{Parameter, ScalarVariable, ArrayOfVariables}
-use Rattle.fz_meaning.specs.Meaning.Place.{Scalar, Array}
-use Rattle.fz_meaning.specs.Names.{HasNoFault, declares, declaration, named_as, parts, kind_of_base, is_scalar, is_scalar_variable, scalar_variables, number_of, scalar_variable_number, literal_of, scalar_term, term_of, place_of_declared, definition_of, declared_of, variable_declared, domain_of, model_of, decl_fault, decls_fault}
+use Rattle.fz_meaning.specs.Names.{HasNoFault, declares, declaration, named_as, is_scalar_variable, scalar_variables, number_of, scalar_variable_number, place_of_declared, declared_of, model_of, decl_fault, decls_fault}
 use Rattle.fz_meaning.proofs.Values.{no}
 use Rattle.fz_meaning.proofs.KnownNames.{not_found, number_here, next_number, next_number_more, has_name, none_among, any_among}
 use Rattle.fz_meaning.proofs.ScanSteps.{first_none, second_none, is_new, declarations_clean}
@@ -44,13 +42,7 @@ numbered_after all before (d ∷ ds) = numbered_decl all before d ∷ numbered_a
 numbered_next : (n : ℕ) (all : List Decl) (d : Decl) (qs : List Declared)
     → numbered_from n (declared_of all d ∷ qs)
     ≡ (n, declared_of all d) ∷ numbered_from (cond (is_scalar_variable d) (suc n) n) qs
-numbered_next n all d qs =
-    elim d.is_var as (λ b. numbered_from n (cond b (cond (is_scalar d) (ScalarVariable (variable_declared d) (definition_of all d.value)) (ArrayOfVariables d.name.text (kind_of_base d.base) (domain_of d.base) (map (term_of all) (parts d.value)))) (Parameter d.name.text (place_of_declared all d)) ∷ qs)
-    ≡ (n, cond b (cond (is_scalar d) (ScalarVariable (variable_declared d) (definition_of all d.value)) (ArrayOfVariables d.name.text (kind_of_base d.base) (domain_of d.base) (map (term_of all) (parts d.value)))) (Parameter d.name.text (place_of_declared all d))) ∷ numbered_from (cond (b && is_scalar d) (suc n) n) qs) [
-      | false ↦ refl
-      | true ↦ elim (is_scalar d) as (λ c. numbered_from n (cond c (ScalarVariable (variable_declared d) (definition_of all d.value)) (ArrayOfVariables d.name.text (kind_of_base d.base) (domain_of d.base) (map (term_of all) (parts d.value))) ∷ qs)
-          ≡ (n, cond c (ScalarVariable (variable_declared d) (definition_of all d.value)) (ArrayOfVariables d.name.text (kind_of_base d.base) (domain_of d.base) (map (term_of all) (parts d.value)))) ∷ numbered_from (cond c (suc n) n) qs) [ true ↦ refl | false ↦ refl ]
-    ]
+numbered_next n all d qs = grind (arith, common_steps)
 
 numbered_by : (all before ds : List Decl)
     → numbered_from (next_number before) (map (declared_of all) ds) ≡ numbered_after all before ds
@@ -67,26 +59,13 @@ numbered_is t = numbered_by t.decls [] t.decls
 -- ---- what the model finds by a name
 
 pub declared_name : (all : List Decl) (d : Decl) → name_of (declared_of all d) ≡ d.name.text
-declared_name all d =
-    elim d.is_var as (λ b. name_of (cond b (cond (is_scalar d) (ScalarVariable (variable_declared d) (definition_of all d.value)) (ArrayOfVariables d.name.text (kind_of_base d.base) (domain_of d.base) (map (term_of all) (parts d.value)))) (Parameter d.name.text (place_of_declared all d))) ≡ d.name.text) [
-      | false ↦ refl
-      | true ↦ elim (is_scalar d) as (λ c. name_of (cond c (ScalarVariable (variable_declared d) (definition_of all d.value)) (ArrayOfVariables d.name.text (kind_of_base d.base) (domain_of d.base) (map (term_of all) (parts d.value)))) ≡ d.name.text) [ true ↦ refl | false ↦ refl ]
-    ]
+declared_name all d = grind (arith, common_steps)
 
 -- what the declared name stands for in the model is what the declaration stands for
 pub place_named_is : (n : ℕ) (all : List Decl) (d : Decl)
     → (is_scalar_variable d ≡ true → number_of all d.name.text ≡ n)
     → place_named n (declared_of all d) ≡ place_of_declared all d
-place_named_is n all d h =
-    (elim d.is_var as (λ b. d.is_var ≡ b → place_named n (cond b (cond (is_scalar d) (ScalarVariable (variable_declared d) (definition_of all d.value)) (ArrayOfVariables d.name.text (kind_of_base d.base) (domain_of d.base) (map (term_of all) (parts d.value)))) (Parameter d.name.text (place_of_declared all d))) ≡ place_of_declared all d) [
-      | false ↦ λ _. refl
-      | true ↦ λ is_var. (elim (is_scalar d) as (λ c. is_scalar d ≡ c → place_named n (cond c (ScalarVariable (variable_declared d) (definition_of all d.value)) (ArrayOfVariables d.name.text (kind_of_base d.base) (domain_of d.base) (map (term_of all) (parts d.value)))) ≡ cond c (Scalar (kind_of_base d.base) (scalar_term all d)) (Array d.name.text (kind_of_base d.base) (map (term_of all) (parts d.value)))) [
-        | true ↦ λ scalar.
-            let number : number_of all d.name.text ≡ n = h (ap (λ b. b && is_scalar d) is_var ∙ scalar) in
-            ap (Scalar (kind_of_base d.base)) (ap Var (sym number) ∙ sym (ap (λ b. cond b (Var (number_of all d.name.text)) (Fixed (literal_of d.value))) is_var))
-        | false ↦ λ _. refl
-      ]) refl
-    ]) refl
+place_named_is n all d h = grind (arith, common_steps)
 
 find_numbered : (all before ds : List Decl) → before ++ ds ≡ all → AreNew before ds → (x : List ℕ)
     → first_some (place_if_named x) (numbered_after all before ds)
@@ -156,14 +135,5 @@ variable_number ds (Some d) = cond (is_scalar_variable d) (Some (number_of ds d.
 
 pub number_by_name : (ds : List Decl) → AreNew [] ds → (x : List ℕ)
     → scalar_variable_number ds x ≡ variable_number ds (declaration ds x)
-number_by_name ds new x = by_declaration (declaration ds x) refl
-  where
-    by_declaration : (o : Option Decl) → declaration ds x ≡ o
-        → cond (declares (scalar_variables ds) x) (Some (number_of ds x)) None
-        ≡ variable_number ds o
-    by_declaration None e = ap (λ b. cond b (Some (number_of ds x)) None) (none_among (named_as x) is_scalar_variable ds (not_found (named_as x) ds e))
-    by_declaration (Some d) e =
-        (elim (is_scalar_variable d) as (λ b. is_scalar_variable d ≡ b → cond (declares (scalar_variables ds) x) (Some (number_of ds x)) None ≡ cond b (Some (number_of ds d.name.text)) None) [
-          | true ↦ λ is. ap (λ b. cond b (Some (number_of ds x)) None) (any_among (named_as x) is_scalar_variable ds d e is) ∙ ap (λ n. Some (number_of ds n)) (sym (has_name ds x d e))
-          | false ↦ λ is. ap (λ b. cond b (Some (number_of ds x)) None) (only_scalar [] ds new x d refl e is)
-        ]) refl
+number_by_name ds new x =
+    grind (arith, common_steps, none_among, not_found, any_among, has_name, only_scalar)

@@ -8,9 +8,8 @@ use Rattle.fz_meaning.specs.Relations.{kind_of}
 
 pub fits_length : (xs : List Variable) (K : Partial) → FitVariables xs K → length K ≡ length xs
 fits_length [] [] h = refl
-fits_length [] (o ∷ K) h = absurd h
-fits_length (x ∷ xs) [] h = absurd h
 fits_length (x ∷ xs) (o ∷ K) h = ap suc (fits_length xs K h.1)
+fits_length _ _ h = absurd h
 
 in_range : (xs : List Variable) (K : Partial) (n : ℕ) (k : Kind) → FitVariables xs K
     → option_map (λ x. x.kind) (slice_get xs n) ≡ Some k → n < length K
@@ -31,15 +30,13 @@ nothing_fits (x ∷ xs) = (tt, nothing_fits xs)
 pub give_fits : (xs : List Variable) (K : Partial) (n : ℕ) (v : Value) → FitVariables xs K
     → option_map (λ x. x.kind) (slice_get xs n) ≡ Some (kind_of v) → FitVariables xs (give K n v)
 give_fits [] [] n v h e = cc
-give_fits [] (o ∷ K) n v h e = absurd h
-give_fits (x ∷ xs) [] n v h e = absurd h
 give_fits (x ∷ xs) (o ∷ K) zero v h e = let same : kind_of v ≡ x.kind = cc in (same, h.1)
 give_fits (x ∷ xs) (o ∷ K) (suc n) v h e = (h.0, give_fits xs K n v h.1 e)
+give_fits _ _ n v h e = absurd h
 
 pub less_fits : (xs : List Variable) (K : Partial) (n : ℕ) → FitVariables xs K
     → FitVariables xs (slice_set K n None)
 less_fits [] [] n h = h
-less_fits [] (o ∷ K) n h = absurd h
-less_fits (x ∷ xs) [] n h = absurd h
 less_fits (x ∷ xs) (o ∷ K) zero h = (tt, h.1)
 less_fits (x ∷ xs) (o ∷ K) (suc n) h = (h.0, less_fits xs K n h.1)
+less_fits _ _ n h = absurd h

@@ -1,5 +1,6 @@
 -- The located tree without its byte ranges is the plain tree of the parser's tree.
-use Rattle.std.proofs.Common.{◌≡◌, List, [], ◌∷◌, map, Option, Some, None, option_map, refl, ap}
+use Rattle.std.proofs.Common.{◌≡◌, List, [], ◌∷◌, map, Option, Some, None, option_map, refl, ap, arith, rules}
+use Rattle.std.proofs.lemmas.Grind.{common_steps}
 use Rattle.fz_syntax.specs.Offering.{TreeItems, bare_all, items_of_tree}
 use Rattle.fz_syntax.specs.View as plain
 use Rattle.fz_syntax.specs.declared.Ast.{Ast}
@@ -10,7 +11,6 @@ use Rattle.fz_syntax.specs.declared.Decl as the_decl
 use Rattle.fz_syntax.specs.declared.Expr as the_expr
 use Rattle.fz_syntax.specs.declared.Expr.TheVariants as exprs
 use Rattle.fz_syntax.specs.declared.Goal as the_goal
-use Rattle.fz_syntax.specs.declared.Goal.TheVariants as goals
 use Rattle.fz_syntax.specs.Tree as tree
 use Rattle.fz_meaning.specs.Located.{bare_basic, bare_expr, bare_decl, bare_constraint, bare_goal, bare_of}
 use Rattle.fz_meaning.specs.View.{located_basic, located_expr, located_value, located_decl, located_constraint, located_goal, located, located_all}
@@ -40,17 +40,10 @@ constraint_is : (c : the_constraint.Constraint)
 constraint_is c = λ i. record { name = c.name.text.now; args = map_twice bare_expr located_expr plain.bare_expr expr_is c.args.items i; notes = plain.bare_notes c.notes.items }
 
 goal_is : (g : the_goal.Goal) → bare_goal (located_goal g) ≡ plain.bare_goal g
-goal_is goals.Satisfy = refl
-goal_is (goals.Minimize b) = ap tree.Minimize (basic_is b)
-goal_is (goals.Maximize b) = ap tree.Maximize (basic_is b)
+goal_is g = grind (arith, common_steps, basic_is)
 
 pub all_are_bare : (t : TreeItems) → bare_of (located_all t) ≡ bare_all t
-all_are_bare t = λ i. record {
-  predicates = map plain.bare_predicate t.predicates;
-  decls = map_twice bare_decl located_decl plain.bare_decl decl_is t.decls i;
-  constraints = map_twice bare_constraint located_constraint plain.bare_constraint constraint_is t.constraints i;
-  solve = record { notes = plain.bare_notes t.solve.notes.items; goal = goal_is t.solve.goal i };
-}
+all_are_bare t = search (rules, map_twice, decl_is, constraint_is, goal_is)
 
 pub located_is_bare : (a : Ast) → bare_of (located a) ≡ plain.bare a
 located_is_bare a = all_are_bare (items_of_tree a)

@@ -3,10 +3,10 @@
 use Rattle.std.proofs.Common.{◌≡◌, ℕ, suc, List, [], ◌∷◌, ◌++◌, length, Option, Some, None, refl, ap, subst, ◌∙◌, option_map, slice_get, flat_map, arith, append_assoc, length-append}
 use Rattle.std.specs.Prelude.{⊤}
 use Rattle.std.specs.List.{AllByRecursion}
+use Rattle.std.proofs.lemmas.Grind.{common_steps}
 use Rattle.fz_meaning.specs.Meaning.{Variable, Declared, Posted, Model, Point, points, variables_of, variable_of, numbered_from, numbered, declared_points, definition_points, array_points, constraint_points}
 use Rattle.fz_meaning.specs.declared.term.Term.{Term}
 use Rattle.fz_meaning.specs.declared.term.Domain.{Domain}
-use Rattle.fz_meaning.specs.declared.term.Domain.TheVariants.{All, Within, Among}
 use Rattle.fz_meaning.specs.Meaning.Declared.{Parameter, ScalarVariable, ArrayOfVariables}
 use Rattle.fz_meaning.specs.Meaning.Point.{DomainPoint, DefinitionPoint, ArrayPoint, ConstraintPoint}
 use Rattle.fz_meaning.proofs.Lists.{all_append, all_map}
@@ -14,7 +14,7 @@ use Rattle.fz_meaning.proofs.Steps.{PointFits}
 
 -- ---- each point fits its model
 
-slice_get_at : {A : Type 0} (xs ys : List A) (y : A) → slice_get (xs ++ y ∷ ys) (length xs) ≡ Some y
+pub slice_get_at : {A : Type 0} (xs ys : List A) (y : A) → slice_get (xs ++ y ∷ ys) (length xs) ≡ Some y
 slice_get_at [] ys y = refl
 slice_get_at (x ∷ xs) ys y = slice_get_at xs ys y
 
@@ -31,9 +31,7 @@ definition_fits xs x n (Some e) = (tt, tt)
 
 array_fits : (xs : List Variable) (name : List ℕ) (d : Domain) (ts : List Term)
     → AllByRecursion (FitsIn xs) (array_points name d ts)
-array_fits xs name All ts = tt
-array_fits xs name (Within lo hi) ts = (tt, tt)
-array_fits xs name (Among s) ts = (tt, tt)
+array_fits xs name d ts = grind (arith, common_steps)
 
 declared_fit : (before : List Variable) (n : ℕ) (ds : List Declared) → length before ≡ n
     → AllByRecursion (FitsIn (before ++ flat_map variable_of ds))
@@ -56,10 +54,7 @@ constraints_fit xs n [] = tt
 constraints_fit xs n (p ∷ ps) = (tt, constraints_fit xs (suc n) ps)
 
 as_fits : (m : Model) (p : Point) → FitsIn (variables_of m) p → PointFits m p
-as_fits m (DomainPoint x n) h = h
-as_fits m (DefinitionPoint x n e) h = tt
-as_fits m (ArrayPoint name d ts) h = tt
-as_fits m (ConstraintPoint k p) h = tt
+as_fits m p h = grind (arith, common_steps)
 
 pub points_fit : (m : Model) → AllByRecursion (PointFits m) (points m)
 points_fit m =

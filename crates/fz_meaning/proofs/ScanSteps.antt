@@ -1,6 +1,6 @@
 -- Steps of loops: what is met first in a list of which a part was read, and one more declaration,
 -- constraint or part.
-use Rattle.std.proofs.Common.{◌≡◌, ℕ, ◌+◌, ◌<◌, Bool, true, false, cond, List, [], ◌∷◌, ◌++◌, map, length, get_or, take, drop, Option, Some, None, refl, sym, ap, ◌∙◌, flat_map, append_assoc, add-one, drop-cons}
+use Rattle.std.proofs.Common.{◌≡◌, ℕ, ◌+◌, ◌<◌, Bool, true, false, cond, List, [], ◌∷◌, ◌++◌, map, length, get_or, take, drop, Option, Some, None, refl, sym, ap, ◌∙◌, flat_map, append_assoc, add-one, drop-cons, rules}
 use Rattle.std.specs.Option.{option_or}
 use Rattle.std.proofs.lemmas.List.{take-append-drop, map-append, append-nil}
 use Rattle.std.proofs.Math.Seq.{take-suc}
@@ -94,9 +94,7 @@ decls_one_more before d none here = decls_append [] before (d ∷ []) ∙ both_n
 pub decls_stop : (before : List Decl) (d : Decl) (rest : List Decl) (f : Fault)
     → decls_fault [] before ≡ None → decl_fault before d ≡ Some f
     → decls_fault [] (before ++ d ∷ rest) ≡ Some f
-decls_stop before d rest f none here =
-    decls_append [] before (d ∷ rest) ∙ ap (λ o. option_or o (option_or (decl_fault before d) (decls_fault (before ++ d ∷ []) rest))) none
-    ∙ ap (λ o. option_or o (decls_fault (before ++ d ∷ []) rest)) here
+decls_stop before d rest f none here = search (rules, decls_append)
 
 -- the same in a loop over the code's declarations, whose logical value is `g x`
 pub decls_stops : {A : Type 0} (g : A → Decl) (xs : List A) (i : ℕ) (x : A) (f : Fault)
@@ -124,16 +122,12 @@ constraint_by_arguments known c = first_flat (part_fault known None) (λ e. part
 
 pub in_constraints : (t : LocatedTree) (f : Fault) → decls_fault [] t.decls ≡ None
     → constraints_fault t.decls t.constraints ≡ Some f → first_fault t ≡ Some f
-in_constraints t f none e =
-    ap (λ o. option_or o (option_or (constraints_fault t.decls t.constraints) (goal_fault t.decls t.solve.goal))) none
-    ∙ ap (λ o. option_or o (goal_fault t.decls t.solve.goal)) e
+in_constraints t f none e = search rules
 
 pub in_goal : (t : LocatedTree) (f : Fault) → decls_fault [] t.decls ≡ None
     → constraints_fault t.decls t.constraints ≡ None → goal_fault t.decls t.solve.goal ≡ Some f
     → first_fault t ≡ Some f
-in_goal t f none here e =
-    ap (λ o. option_or o (option_or (constraints_fault t.decls t.constraints) (goal_fault t.decls t.solve.goal))) none
-    ∙ ap (λ o. option_or o (goal_fault t.decls t.solve.goal)) here ∙ e
+in_goal t f none here e = search rules
 
 pub nowhere : (t : LocatedTree) → decls_fault [] t.decls ≡ None
     → constraints_fault t.decls t.constraints ≡ None → goal_fault t.decls t.solve.goal ≡ None
@@ -144,6 +138,4 @@ pub declarations_clean : (t : LocatedTree) → first_fault t ≡ None → decls_
 declarations_clean t e = first_none (decls_fault [] t.decls) (option_or (constraints_fault t.decls t.constraints) (goal_fault t.decls t.solve.goal)) e
 
 pub goal_clean : (t : LocatedTree) → first_fault t ≡ None → goal_fault t.decls t.solve.goal ≡ None
-goal_clean t e =
-    second_none (constraints_fault t.decls t.constraints) (goal_fault t.decls t.solve.goal)
-    (second_none (decls_fault [] t.decls) (option_or (constraints_fault t.decls t.constraints) (goal_fault t.decls t.solve.goal)) e)
+goal_clean t e = search (rules, second_none)

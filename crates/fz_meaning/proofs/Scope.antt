@@ -1,17 +1,16 @@
 -- In a tree without faults the objective is an integer.
-use Rattle.std.proofs.Common.{◌≡◌, ℕ, pos, Bool, true, false, cond, ◌&&◌, List, [], ◌∷◌, ◌++◌, map, Option, Some, None, refl, sym, ap, subst, ◌∙◌, option_map, slice_get, flat_map, find, ◌⊎◌, inl, inr, filter}
+use Rattle.std.proofs.Common.{◌≡◌, ℕ, pos, Bool, true, false, cond, ◌&&◌, List, [], ◌∷◌, ◌++◌, map, Option, Some, None, refl, sym, ap, subst, ◌∙◌, option_map, slice_get, flat_map, find, ◌⊎◌, filter, arith}
 use Rattle.std.specs.Prelude.{⊤}
 use Rattle.std.specs.List.{AllByRecursion}
-use Rattle.std.specs.Option.{option_map_or}
 use Rattle.fz_meaning.specs.Relations.{kind_of, same_kind}
 use Rattle.fz_meaning.specs.Located.{Basic, Decl, Expr, Goal, Literal, LocatedTree}
-use Rattle.fz_meaning.specs.Located.Basic.{Lit, Named}
-use Rattle.fz_meaning.specs.Located.Expr.{One, Several}
+use Rattle.fz_meaning.specs.Located.Basic.{Lit}
 use Rattle.fz_meaning.specs.Located.Goal.{Satisfy, Minimize, Maximize}
 use Rattle.fz_meaning.specs.Names.FaultKind.{WrongKind}
-use Rattle.fz_meaning.specs.Names.{HasNoFault, part_fault, parts_fault, decl_fault, decls_fault, goal_fault, declaration, named_as, is_scalar, is_scalar_variable, scalar_variables, number_of, scalar_term, term_of, literal_value, literal_of, kind_of_base, parts, declared_of, variable_declared, model_of, aim_of, definition_of, domain_of, place_of_declared}
+use Rattle.fz_meaning.specs.Names.{HasNoFault, part_fault, parts_fault, decl_fault, decls_fault, goal_fault, declaration, named_as, is_scalar, is_scalar_variable, scalar_variables, number_of, term_of, literal_value, literal_of, kind_of_base, parts, declared_of, variable_declared, model_of, aim_of, definition_of, domain_of, place_of_declared}
 use Rattle.std.proofs.lemmas.List.Folds.{find_at}
 use Rattle.std.proofs.lemmas.Option.{slice_get-map}
+use Rattle.std.proofs.lemmas.Grind.{common_steps}
 use Rattle.fz_meaning.specs.Meaning.{Declared, variable_of, Aim, Model}
 use Rattle.fz_meaning.specs.declared.term.Term.TheVariants.{Var, Fixed}
 use Rattle.fz_meaning.specs.declared.term.Term.{Term}
@@ -22,7 +21,7 @@ use Rattle.fz_meaning.proofs.KnownNames.{clean_name, has_name, parts_clean, pass
 use Rattle.fz_meaning.proofs.ScanSteps.{first_none, second_none, declarations_clean, goal_clean}
 use Rattle.fz_base.specs.declared.value.Value.TheVariants.{Int}
 use Rattle.fz_meaning.specs.declared.kind.Kind.{Kind}
-use Rattle.fz_meaning.specs.declared.kind.Kind.TheVariants.{Int as IntKind, Bool as BoolKind, Set as SetKind}
+use Rattle.fz_meaning.specs.declared.kind.Kind.TheVariants.{Int as IntKind}
 
 -- ---- the kind of a scalar
 
@@ -40,15 +39,7 @@ abbrev pub AimsAtNumber : Model → Type 0
 AimsAtNumber m = HasNumberKind m m.aim
 
 pub same_kind_is : (j k : Kind) → same_kind j k ≡ true → j ≡ k
-same_kind_is IntKind IntKind e = refl
-same_kind_is IntKind BoolKind e = no e
-same_kind_is IntKind SetKind e = no e
-same_kind_is BoolKind IntKind e = no e
-same_kind_is BoolKind BoolKind e = refl
-same_kind_is BoolKind SetKind e = no e
-same_kind_is SetKind IntKind e = no e
-same_kind_is SetKind BoolKind e = no e
-same_kind_is SetKind SetKind e = refl
+same_kind_is j k e = grind (arith, common_steps, no)
 
 -- ---- the first scalar variable of a name
 
@@ -106,11 +97,7 @@ HasLiteralKind d = (kind_of (literal_of d.value) ≡ kind_of_base d.base) ⊎ (l
 literal_kind : (before : List Decl) (k : Kind) (v : Option Expr)
     → parts_fault before (Some k) (parts v) ≡ None
     → (kind_of (literal_of v) ≡ k) ⊎ (literal_of v ≡ Int (pos 0))
-literal_kind before k None e = inr refl
-literal_kind before k (Some (Several bs)) e = inr refl
-literal_kind before k (Some (One (Named x))) e = inr refl
-literal_kind before k (Some (One (Lit l))) e =
-    inl (literal_is_of before k l (first_none (part_fault before (Some k) (Lit l)) None e))
+literal_kind before k v e = grind (arith, common_steps, literal_is_of, first_none)
 
 literal_kinds : (before ds : List Decl) → decls_fault before ds ≡ None
     → AllByRecursion HasLiteralKind ds
@@ -125,33 +112,24 @@ literal_kinds before (d ∷ ds) e =
 module _ (t : LocatedTree) (clean : decls_fault [] t.decls ≡ None) where
   objective_kind : (b : Basic) → part_fault t.decls (Some IntKind) b ≡ None
       → kind_of_term (model_of t) (term_of t.decls b) ≡ Some IntKind
-  objective_kind (Lit l) e = ap Some (literal_is_of t.decls IntKind l e)
-  objective_kind (Named x) e =
-      let (d, found, is) = clean_name IntKind (declaration t.decls x.text) x.span e in
-      let scalar : is_scalar d ≡ true =
-      and_first (is_scalar d) (same_kind (kind_of_base d.base) IntKind) is in
-      let is_int : kind_of_base d.base ≡ IntKind = same_kind_is (kind_of_base d.base) IntKind
-      (and_second (is_scalar d) (same_kind (kind_of_base d.base) IntKind) is) in
-      ap (λ o. kind_of_term (model_of t)
-      (option_map_or (scalar_term t.decls) o (Fixed (Int (pos 0))))) found
-      ∙ (elim d.is_var as (λ b. d.is_var ≡ b → kind_of_term (model_of t)
-      (cond b (Var (number_of t.decls d.name.text)) (Fixed (literal_of d.value))) ≡ Some IntKind) [
-        | true ↦ λ is_var.
-            ap (λ n. kind_at (model_of t) (number_of t.decls n)) (has_name t.decls x.text d found)
-            ∙ kind_of_number t x.text d found (ap (λ b. b && is_scalar d) is_var ∙ scalar)
-            ∙ ap Some is_int
-        | false ↦ λ _.
-            elim (at_found HasLiteralKind _ t.decls d (literal_kinds [] t.decls clean) found) [
-              | inl e ↦ ap Some (e ∙ is_int)
-              | inr e ↦ ap (λ v. Some (kind_of v)) e
-            ]
-      ]) refl
+  objective_kind b e =
+      grind (
+        arith,
+        common_steps,
+        literal_is_of,
+        clean_name,
+        and_first,
+        same_kind_is,
+        and_second,
+        has_name,
+        kind_of_number,
+        at_found,
+        literal_kinds,
+      )
 
   in_goal : (g : Goal) → goal_fault t.decls g ≡ None
       → HasNumberKind (model_of t) (aim_of t.decls g)
-  in_goal Satisfy e = tt
-  in_goal (Minimize b) e = objective_kind b (first_none (part_fault t.decls (Some IntKind) b) None e)
-  in_goal (Maximize b) e = objective_kind b (first_none (part_fault t.decls (Some IntKind) b) None e)
+  in_goal g e = grind (arith, common_steps, objective_kind, first_none)
 
 -- A tree without faults aims at a number.
 pub sound_aims : (t : LocatedTree) → HasNoFault t → AimsAtNumber (model_of t)

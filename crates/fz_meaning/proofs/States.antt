@@ -1,17 +1,16 @@
 -- What the states of a point say of it: where the state is that it holds, the point holds; and what
 -- fails has the values that show it.
-use Rattle.std.proofs.Common.{◌≡◌, Bool, true, false, not, cond, ◌||◌, List, [], ◌∷◌, Option, Some, None, refl, sym, ap, subst, IsTrue, IsSomeAnd}
+use Rattle.std.proofs.Common.{◌≡◌, Bool, true, false, not, cond, ◌||◌, List, [], ◌∷◌, Option, Some, None, refl, sym, subst, IsTrue, IsSomeAnd, arith}
 use Rattle.std.specs.List.{AllByRecursion, list_any}
 use Rattle.std.specs.Option.{option_map_or}
+use Rattle.std.proofs.lemmas.Grind.{common_steps}
 use Rattle.fz_base.specs.declared.value.Value.{Value}
-use Rattle.fz_meaning.specs.declared.state.State.TheVariants.{Holds, Fails, TooLarge}
-use Rattle.fz_meaning.specs.Relations.{same_value}
+use Rattle.fz_meaning.specs.declared.state.State.TheVariants.{Holds, Fails}
 use Rattle.fz_meaning.specs.Builtins.{Row, ArgValue}
-use Rattle.fz_meaning.specs.Meaning.{Argument, Point, Partial, value, values, value_at, argument_values, row_of, row_holds, inside, HoldsUnder}
-use Rattle.fz_meaning.specs.States.{sums_leave, state, judged, judged_by, both, state_of_values, state_of_row, is_outside}
+use Rattle.fz_meaning.specs.Meaning.{Argument, Point, Partial, value, values, row_holds, inside, HoldsUnder}
+use Rattle.fz_meaning.specs.States.{state, judged, judged_by, both, state_of_values, is_outside}
 use Rattle.fz_meaning.specs.declared.term.Term.{Term}
 use Rattle.fz_meaning.specs.declared.term.Domain.{Domain}
-use Rattle.fz_meaning.specs.Meaning.Point.{DomainPoint, DefinitionPoint, ArrayPoint, ConstraintPoint}
 use Rattle.fz_meaning.proofs.Values.{no', same_value_is}
 use Rattle.fz_meaning.proofs.Steps.{option_cons_parts}
 
@@ -40,33 +39,25 @@ judged_fails t (Some a) e = (a, refl, judged_false (t a) e)
 
 pub both_some : (o p : Option Value) (x : Value × Value) → both o p ≡ Some x
     → (o ≡ Some x.0) × (p ≡ Some x.1)
-both_some None p x e = cc
-both_some (Some a) None x e = cc
-both_some (Some a) (Some b) x e = let pair : ◌≡◌ {A = Value × Value} (a, b) x = cc in (ap (λ z. Some z.0) pair, ap (λ z. Some z.1) pair)
+both_some o p x e = grind (arith, common_steps)
 
 -- ---- the arguments of a constraint
 
 pub row_state_holds : (K : Partial) (xs : List Argument) (r : Row) (o : Option (List ArgValue))
     → state_of_values K xs r o ≡ Holds
     → (vs : List ArgValue) × (o ≡ Some vs) × (row_holds r vs ≡ true)
-row_state_holds K xs r None e = cc
-row_state_holds K xs r (Some vs) e =
-    (vs, refl, (elim (sums_leave K xs r) as (λ b. cond b TooLarge (judged (row_holds r vs)) ≡ Holds → row_holds r vs ≡ true) [ true ↦ λ e. cc | false ↦ λ e. judged_true (row_holds r vs) e ]) e)
+row_state_holds K xs r o e = grind (arith, common_steps, judged_true)
 
 pub row_state_fails : (K : Partial) (xs : List Argument) (r : Row) (o : Option (List ArgValue))
     → state_of_values K xs r o ≡ Fails
     → (vs : List ArgValue) × (o ≡ Some vs) × (row_holds r vs ≡ false)
-row_state_fails K xs r None e = cc
-row_state_fails K xs r (Some vs) e =
-    (vs, refl, (elim (sums_leave K xs r) as (λ b. cond b TooLarge (judged (row_holds r vs)) ≡ Fails → row_holds r vs ≡ false) [ true ↦ λ e. cc | false ↦ λ e. judged_false (row_holds r vs) e ]) e)
+row_state_fails K xs r o e = grind (arith, common_steps, judged_false)
 
 -- ---- the elements of an array
 
 array_holds : (b : Bool) (o : Option (List Value)) → cond b Fails (judged_by (λ vs. true) o) ≡ Holds
     → (b ≡ false) × ((vs : List Value) × (o ≡ Some vs))
-array_holds true o e = cc
-array_holds false None e = cc
-array_holds false (Some vs) e = (refl, (vs, refl))
+array_holds b o e = grind (arith, common_steps)
 
 neither_of : (b c : Bool) → (not b || c) ≡ false → (b ≡ true) × (c ≡ false)
 neither_of true c e = (refl, e)
@@ -85,18 +76,15 @@ each_inside K d (t ∷ ts) vs none e =
 -- ---- a point whose state is that it holds
 
 pub point_holds : (K : Partial) (p : Point) → state K p ≡ Holds → HoldsUnder K p
-point_holds K (DomainPoint x n) s =
-    let (u, at, in') = judged_holds (inside x.domain) (value_at K n) s in
-    intro (λ v. IsTrue (inside x.domain v)) (value_at K n) u at in'
-point_holds K (DefinitionPoint x n e) s =
-    let (z, is, equal) = judged_holds (λ (v, w). same_value v w) (both (value_at K n) (value K e)) s in
-    let (l, r) = both_some (value_at K n) (value K e) z is in
-    intro (λ v. IsSomeAnd (value K e) (λ w. v ≡ w)) (value_at K n) z.0 l (intro (λ w. z.0 ≡ w) (value K e) z.1 r (same_value_is z.0 z.1 equal))
-point_holds K (ArrayPoint name d ts) s =
-    let (none, some) = array_holds (list_any (is_outside K d) ts) (values K ts) s in
-    intro (λ vs. AllByRecursion (λ v. IsTrue (inside d v)) vs) (values K ts) some.0 some.1 (each_inside K d ts some.0 none some.1)
-point_holds K (ConstraintPoint k p) s =
-    elim (row_of p) as (λ o. state_of_row K p.arguments o ≡ Holds → IsSomeAnd o (λ r. IsSomeAnd (argument_values K p.arguments) (λ vs. IsTrue (row_holds r vs)))) [
-      | None ↦ λ s. cc
-      | Some r ↦ λ s. let (vs, are, passed) = row_state_holds K p.arguments r (argument_values K p.arguments) s in intro (λ vs. IsTrue (row_holds r vs)) (argument_values K p.arguments) vs are passed
-    ] s
+point_holds K p s =
+    grind (
+      arith,
+      common_steps,
+      judged_holds,
+      intro,
+      both_some,
+      same_value_is,
+      array_holds,
+      each_inside,
+      row_state_holds,
+    )

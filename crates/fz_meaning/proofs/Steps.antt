@@ -1,19 +1,21 @@
 -- A forced step's value is the only one with which its point holds.
-use Rattle.std.proofs.Common.{◌≡◌, ℕ, suc, zero, ℤ, pos, negsuc, Bool, true, false, cond, List, [], ◌∷◌, ◌++◌, length, filter, Option, Some, None, refl, sym, ap, subst, subst₂, ◌∙◌, option_map, slice_get, is_none, flat_map, ◌⊎◌, inl, inr, IsSomeAnd, Contains, IsTrue, arith, ◌&&◌}
+use Rattle.std.proofs.Common.{◌≡◌, ℕ, suc, zero, ℤ, pos, negsuc, Bool, true, false, cond, List, [], ◌∷◌, ◌++◌, length, filter, Option, Some, None, refl, sym, ap, subst, subst₂, ◌∙◌, option_map, slice_get, is_none, flat_map, ◌⊎◌, inl, inr, IsSomeAnd, Contains, IsTrue, arith, ◌&&◌, rules}
 use Rattle.std.specs.Prelude.{⊤}
 use Rattle.std.specs.List.{AllByRecursion}
 use Rattle.std.specs.Option.{option_map_or}
+pub use Rattle.std.proofs.lemmas.List.Elements.{filter-append}
+use Rattle.std.proofs.lemmas.Grind.{common_steps}
 use Rattle.fz_meaning.specs.Relations.{kind_of}
 use Rattle.fz_meaning.specs.Builtins.{Shape, Of, Plain, Test, Row, is_named, rows, passes, read, plain, plain_list, plain_and, ArgValue}
 use Rattle.fz_meaning.specs.Builtins.Shape.{ScalarOf, ArrayOf}
-use Rattle.fz_meaning.specs.Builtins.ArgValue.{OneValue, ManyValues}
+use Rattle.fz_meaning.specs.Builtins.ArgValue.{OneValue}
 use Rattle.fz_meaning.specs.Results.{Result, result_of}
 use Rattle.fz_meaning.specs.Results.Result.{NoResult, Places, UnitTerm}
-use Rattle.fz_meaning.specs.Meaning.{Argument, Variable, Model, Point, Partial, value, values, value_at, give, option_cons, terms_in, argument_value, argument_values, row_of, row_holds, HoldsUnder, inside, fits as fits_row}
+use Rattle.fz_meaning.specs.Meaning.{Argument, Variable, Model, Point, Partial, value, values, value_at, give, option_cons, terms_in, argument_value, argument_values, row_of, row_holds, HoldsUnder, fits as fits_row}
 use Rattle.fz_meaning.specs.declared.term.Term.{Term}
 use Rattle.fz_meaning.specs.declared.term.Term.TheVariants.{Var, Fixed}
-use Rattle.fz_meaning.specs.Meaning.Place.{Scalar, Array}
-use Rattle.fz_meaning.specs.Meaning.Argument.{One, ListOf}
+use Rattle.fz_meaning.specs.Meaning.Place.{Scalar}
+use Rattle.fz_meaning.specs.Meaning.Argument.{One}
 use Rattle.fz_meaning.specs.Meaning.Point.{DomainPoint, DefinitionPoint, ArrayPoint, ConstraintPoint}
 use Rattle.fz_meaning.specs.Steps.{Gives, IsResult, HasUnitCoefficient, HasOneNumber, kind_at}
 use Rattle.fz_meaning.proofs.Values.{no, no'}
@@ -26,17 +28,14 @@ use Rattle.fz_meaning.specs.declared.kind.Kind.TheVariants.{Int as IntKind, Bool
 -- ---- one more value
 
 pub value_at_given : (K : Partial) (n : ℕ) (v u : Value) → value_at (give K n v) n ≡ Some u → u ≡ v
-value_at_given [] n v u e = cc
-value_at_given (o ∷ K) zero v u e = cc
 value_at_given (o ∷ K) (suc n) v u e = value_at_given K n v u e
+value_at_given _ n v u e = cc
 
 pub value_at_other : (K : Partial) (n k : ℕ) (v : Value) → (k ≡ n → ⊥)
     → value_at (give K n v) k ≡ value_at K k
-value_at_other [] n k v h = refl
 value_at_other (o ∷ K) zero zero v h = absurd (h refl)
-value_at_other (o ∷ K) zero (suc k) v h = refl
-value_at_other (o ∷ K) (suc n) zero v h = refl
 value_at_other (o ∷ K) (suc n) (suc k) v h = value_at_other K n k v (λ e. h (ap suc e))
+value_at_other _ n k v h = refl
 
 -- ---- lists
 
@@ -47,15 +46,6 @@ pub filter-none : {A : Type 0} (p : A → Bool) (x : A) (xs : List A) → filter
     → (p x ≡ false) × (filter p xs ≡ [])
 filter-none p x xs e =
     elim (p x) as (λ b. cond b (x ∷ filter p xs) (filter p xs) ≡ [] → (b ≡ false) × (filter p xs ≡ [])) [ true ↦ λ e. cc | false ↦ λ e. (refl, e) ] e
-
-pub filter-append : {A : Type 0} (p : A → Bool) (xs ys : List A)
-    → filter p (xs ++ ys) ≡ filter p xs ++ filter p ys
-filter-append p [] ys = refl
-filter-append p (x ∷ xs) ys =
-    elim (p x) as (λ b. cond b (x ∷ filter p (xs ++ ys)) (filter p (xs ++ ys)) ≡ cond b (x ∷ filter p xs) (filter p xs) ++ filter p ys) [
-      | true ↦ ap (λ zs. x ∷ zs) (filter-append p xs ys)
-      | false ↦ filter-append p xs ys
-    ]
 
 filter-head : {A : Type 0} (p : A → Bool) (xs ys : List A) (y : A) → filter p xs ≡ y ∷ ys
     → p y ≡ true
@@ -100,9 +90,7 @@ module _ (K : Partial) (n : ℕ) (none : value_at K n ≡ None) (v : Value) wher
 
   pub argument_keeps : (x : Argument) → filter (is_open K) (terms_in x) ≡ []
       → argument_value (give K n v) x ≡ argument_value K x
-  argument_keeps (One (Scalar k t)) e = ap (option_map OneValue) (term_keeps t (filter-none (is_open K) t [] e).0)
-  argument_keeps (One (Array name k ts)) e = ap (option_map ManyValues) (terms_keep ts e)
-  argument_keeps (ListOf ps) e = ap (option_map ManyValues) (terms_keep (terms_in (ListOf ps)) e)
+  argument_keeps x e = grind (arith, common_steps, option_map, term_keeps, filter-none, terms_keep)
 
   pub arguments_keep : (xs : List Argument) → filter (is_open K) (flat_map terms_in xs) ≡ []
       → argument_values (give K n v) xs ≡ argument_values K xs
@@ -121,13 +109,12 @@ pub record Passes (K : Partial) (ss : List Shape) (t : Test ss) (xs : List Argum
 both_at : (ss : List Shape) (t u : Test ss) (P : Type 0) → Both ss t u P → (vs : List ArgValue)
     → passes ss t vs ≡ true → passes ss u vs ≡ true → P
 both_at [] t u P h [] d e = h d e
-both_at [] t u P h (v ∷ vs) d e = no d
-both_at (s ∷ ss) t u P h [] d e = no d
 both_at (s ∷ ss) t u P h (v ∷ vs) d e =
     elim (read s v) as (λ o. option_map_or (λ x. passes ss (t x) vs) o false ≡ true → option_map_or (λ x. passes ss (u x) vs) o false ≡ true → P) [
       | None ↦ λ d e. no d
       | Some x ↦ λ d e. both_at ss (t x) (u x) P (h x) vs d e
     ] d e
+both_at _ t u P h _ d e = no d
 
 -- the first argument's value, read, and the others
 pub record First (K : Partial) (s : Shape) (ss : List Shape) (t : Of s → Test ss) (x : Argument) (xs : List Argument) : Type 0 where
@@ -140,19 +127,11 @@ pub record First (K : Partial) (s : Shape) (ss : List Shape) (t : Of s → Test 
 pub option_cons_parts : {A : Type 0} (o : Option A) (os : Option (List A)) (xs : List A)
     → option_cons o os ≡ Some xs → (x : A) × (ys : List A) × (o ≡ Some x) × (os ≡ Some ys)
     × (xs ≡ x ∷ ys)
-option_cons_parts None os xs e = cc
-option_cons_parts (Some x) None xs e = cc
-option_cons_parts (Some x) (Some ys) xs e = let same : x ∷ ys ≡ xs = cc in (x, ys, refl, refl, sym same)
+option_cons_parts o os xs e = grind (arith, common_steps)
 
 first_of : (K : Partial) (s : Shape) (ss : List Shape) (t : Of s → Test ss) (x : Argument)
     (xs : List Argument) → Passes K (s ∷ ss) t (x ∷ xs) → First K s ss t x xs
-first_of K s ss t x xs h =
-    let (a, vs, is, are, cons) = option_cons_parts (argument_value K x) (argument_values K xs) h.arguments h.are in
-    let passed : option_map_or (λ y. passes ss (t y) vs) (read s a) false ≡ true = subst (λ ws. passes (s ∷ ss) t ws ≡ true) cons h.passed in
-    (elim (read s a) as (λ o. read s a ≡ o → option_map_or (λ y. passes ss (t y) vs) o false ≡ true → First K s ss t x xs) [
-      | None ↦ λ _ d. no d
-      | Some y ↦ λ r d. record { argument = a; is = is; read_as = y; reads = r; others = record { arguments = vs; are = are; passed = d } }
-    ]) refl passed
+first_of K s ss t x xs h = grind (arith, common_steps, option_cons_parts, no)
 
 no_more : (K : Partial) (s : Shape) (ss : List Shape) (t : Test (s ∷ ss)) → Passes K (s ∷ ss) t []
     → ⊥
@@ -166,25 +145,16 @@ back SetKind s = Set s
 
 plain_back : (k : Kind) (v : Value) (y : Plain k) → plain k v ≡ Some y → v ≡ back k y
 plain_back IntKind (Int n) y e = let h : n ≡ y = cc in ap Int h
-plain_back IntKind (Truth b) y e = cc
-plain_back IntKind (Set s) y e = cc
-plain_back BoolKind (Int n) y e = cc
 plain_back BoolKind (Truth b) y e = let h : b ≡ y = cc in ap Truth h
-plain_back BoolKind (Set s) y e = cc
-plain_back SetKind (Int n) y e = cc
-plain_back SetKind (Truth b) y e = cc
 plain_back SetKind (Set s) y e = let h : s ≡ y = cc in ap Set h
+plain_back _ _ y e = cc
 
 same_some : {A : Type 0} {x y : A} {o p : Option A} → o ≡ Some x → p ≡ Some y → o ≡ p → x ≡ y
 same_some d e h = cc
 
 variable_argument : (K : Partial) (n : ℕ) (v : Value) (k : Kind) (a : ArgValue)
     → argument_value (give K n v) (One (Scalar k (Var n))) ≡ Some a → a ≡ OneValue v
-variable_argument K n v k a e =
-    elim (value_at (give K n v) n) as (λ o. value_at (give K n v) n ≡ o → option_map OneValue o ≡ Some a → a ≡ OneValue v) [
-      | None ↦ λ _ e. cc
-      | Some u ↦ λ h e. let same : u ≡ v = value_at_given K n v u h in let is : OneValue u ≡ a = cc in sym is ∙ ap OneValue same
-    ] refl e
+variable_argument K n v k a e = grind (arith, common_steps, option_map, value_at_given)
 
 -- ---- where the variable, by itself, is an argument that may be filled
 
@@ -270,17 +240,11 @@ record FirstInt (K : Partial) (t : Term) (ts : List Term) (ns : List ℤ) : Type
 plain_and_parts : (o : Option ℤ) (os : Option (List ℤ)) (ns : List ℤ)
     → plain_and IntKind o os ≡ Some ns
     → (n : ℤ) × (ms : List ℤ) × (o ≡ Some n) × (os ≡ Some ms) × (ns ≡ n ∷ ms)
-plain_and_parts None os ns e = cc
-plain_and_parts (Some n) None ns e = cc
-plain_and_parts (Some n) (Some ms) ns e = let same : n ∷ ms ≡ ns = cc in (n, ms, refl, refl, sym same)
+plain_and_parts o os ns e = grind (arith, common_steps)
 
 first_int : (K : Partial) (t : Term) (ts : List Term) (ns : List ℤ) → AreInts K (t ∷ ts) ns
     → FirstInt K t ts ns
-first_int K t ts ns h =
-    let (v, vs, is, have, cons) = option_cons_parts (value K t) (values K ts) h.are h.have in
-    let reads : plain_and IntKind (plain IntKind v) (plain_list IntKind vs) ≡ Some ns = subst (λ ws. plain_list IntKind ws ≡ Some ns) cons h.reads in
-    let (n, ms, first, others, splits) = plain_and_parts (plain IntKind v) (plain_list IntKind vs) ns reads in
-    record { first = n; others = ms; is = is ∙ ap Some (plain_back IntKind v n first); splits = splits; are = record { are = vs; have = have; reads = others } }
+first_int K t ts ns h = search (rules, option_cons_parts, plain_and_parts, plain_back)
 
 pub map_some : {A B : Type 0} (f : A → B) (o : Option A) (y : B) → option_map f o ≡ Some y
     → (x : A) × (o ≡ Some x) × (f x ≡ y)
@@ -289,16 +253,7 @@ map_some f (Some x) y e = (x, refl, cc)
 
 are_ints : (K : Partial) (x : Argument) (a : ArgValue) (ns : List ℤ) → argument_value K x ≡ Some a
     → read (ArrayOf IntKind) a ≡ Some ns → AreInts K (terms_in x) ns
-are_ints K (One (Scalar k t)) a ns e r =
-    let (v, _, is) = map_some OneValue (value K t) a e in
-    let none : read (ArrayOf IntKind) (OneValue v) ≡ Some ns = subst (λ b. read (ArrayOf IntKind) b ≡ Some ns) (sym is) r in
-    cc
-are_ints K (One (Array name k ts)) a ns e r =
-    let (vs, have, is) = map_some ManyValues (values K ts) a e in
-    record { are = vs; have = have; reads = subst (λ b. read (ArrayOf IntKind) b ≡ Some ns) (sym is) r }
-are_ints K (ListOf ps) a ns e r =
-    let (vs, have, is) = map_some ManyValues (values K (terms_in (ListOf ps))) a e in
-    record { are = vs; have = have; reads = subst (λ b. read (ArrayOf IntKind) b ≡ Some ns) (sym is) r }
+are_ints K x a ns e r = grind (arith, common_steps, map_some)
 
 -- the numbers up to an index, the one there, and those after it
 record SplitAt (ns : List ℤ) (i : ℕ) (n : ℤ) : Type 0 where
@@ -430,9 +385,7 @@ module _ (K : Partial) (n : ℕ) (none : value_at K n ≡ None) (v w : Value) wh
 
 all_at : {A : Type 0} (P : A → Type 0) (xs : List A) (x : A) → AllByRecursion P xs → Contains xs x
     → P x
-all_at P [] x h (k, below, is) = absurd (omega arith)
-all_at P (y ∷ ys) x h (zero, below, is) = subst P is h.0
-all_at P (y ∷ ys) x h (suc k, below, is) = all_at P ys x h.1 (k, omega arith, is)
+all_at P xs x h k = grind (arith, common_steps)
 
 module _ (K : Partial) (n : ℕ) (none : value_at K n ≡ None) (v w : Value) where
   result_determined : (ss : List Shape) (t : Test ss) (xs : List Argument) (r : Result)
@@ -454,10 +407,7 @@ some_of P (Some x) h = (x, refl, h)
 pub definition_sides : (K : Partial) (x : Variable) (n : ℕ) (e : Term)
     → HoldsUnder K (DefinitionPoint x n e)
     → (u : Value) × (value_at K n ≡ Some u) × (value K e ≡ Some u)
-definition_sides K x n e h =
-    let (a, left, rest) = some_of (λ v. IsSomeAnd (value K e) (λ w. v ≡ w)) (value_at K n) h in
-    let (b, right, same) = some_of (λ w. a ≡ w) (value K e) rest in
-    (a, left, right ∙ ap Some (sym same))
+definition_sides K x n e h = search (rules, some_of)
 
 module _ (K : Partial) (n : ℕ) (none : value_at K n ≡ None) (v w : Value) where
   sides_determined : (x : Variable) (k : ℕ) (e : Term)
@@ -493,24 +443,14 @@ PointFits m (DomainPoint x n) = kind_at m n ≡ Some x.kind
 PointFits m _ = ⊤
 
 pub as_number_of : (v : Value) → kind_of v ≡ IntKind → (a : ℤ) × (v ≡ Int a)
-as_number_of (Int a) e = (a, refl)
-as_number_of (Truth b) e = cc
-as_number_of (Set s) e = cc
+as_number_of v e = grind (arith, common_steps)
 
 -- two values with which the domain of one number holds
 number_determined : (K : Partial) (n : ℕ) (x : Variable) (v w : Value) → HasOneNumber x.domain
     → kind_of v ≡ IntKind → kind_of w ≡ IntKind
     → HoldsUnder (give K n v) (DomainPoint x n) → HoldsUnder (give K n w) (DomainPoint x n) → v ≡ w
-number_determined K n x v w (number, is) v_int w_int p q =
-    let (u, u_at, u_in) = some_of (λ z. IsTrue (inside x.domain z)) (value_at (give K n v) n) p in
-    let (t, t_at, t_in) = some_of (λ z. IsTrue (inside x.domain z)) (value_at (give K n w) n) q in
-    let (a, v_is) = as_number_of v v_int in
-    let (b, w_is) = as_number_of w w_int in
-    let u_is : u ≡ Int a = value_at_given K n v u u_at ∙ v_is in
-    let t_is : t ≡ Int b = value_at_given K n w t t_at ∙ w_is in
-    let a_is : a ≡ number = (is a).0 (subst (λ z. inside x.domain z ≡ true) u_is u_in) in
-    let b_is : b ≡ number = (is b).0 (subst (λ z. inside x.domain z ≡ true) t_is t_in) in
-    v_is ∙ ap Int (a_is ∙ sym b_is) ∙ sym w_is
+number_determined K n x v w h v_int w_int p q =
+    search (rules, some_of, as_number_of, value_at_given)
 
 row_passes : (K : Partial) (xs : List Argument) (r : Row)
     → IsSomeAnd (argument_values K xs) (λ vs. IsTrue (row_holds r vs))

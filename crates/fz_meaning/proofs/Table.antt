@@ -1,5 +1,6 @@
 -- What is declared, told from what it stands for.
-use Rattle.std.proofs.Common.{◌≡◌, true, false, cond, ◌&&◌, List, ℕ, map, refl}
+use Rattle.std.proofs.Common.{◌≡◌, true, false, cond, ◌&&◌, List, ℕ, map, refl, arith}
+use Rattle.std.proofs.lemmas.Grind.{common_steps}
 use Rattle.fz_meaning.specs.declared.kind.Kind.{Kind}
 use Rattle.fz_meaning.specs.declared.term.Term.{Term}
 use Rattle.fz_meaning.specs.Relations.{same_kind}
@@ -18,18 +19,10 @@ term_or_array ds k d =
 pub scalar_by_place : (ds : List Decl) (d : Decl) (j : Kind) (t : Term)
     → place_of_declared ds d ≡ Scalar j t
     → (is_scalar d ≡ true) × (kind_of_base d.base ≡ j) × (scalar_term ds d ≡ t)
-scalar_by_place ds d j t e =
-    elim (is_scalar d) as (λ b. cond b (Scalar (kind_of_base d.base) (scalar_term ds d)) (Array d.name.text (kind_of_base d.base) (map (term_of ds) (parts d.value))) ≡ Scalar j t → (b ≡ true) × (kind_of_base d.base ≡ j) × (scalar_term ds d ≡ t)) [
-      | true ↦ λ e. (refl, cc, cc)
-      | false ↦ λ e. cc
-    ] e
+scalar_by_place ds d j t e = grind (arith, common_steps)
 
 -- what stands for an array is one
 pub array_by_place : (ds : List Decl) (d : Decl) (x : List ℕ) (j : Kind) (ts : List Term)
     → place_of_declared ds d ≡ Array x j ts → (is_scalar d ≡ false) × (d.name.text ≡ x)
     × (kind_of_base d.base ≡ j) × (map (term_of ds) (parts d.value) ≡ ts)
-array_by_place ds d x j ts e =
-    elim (is_scalar d) as (λ b. cond b (Scalar (kind_of_base d.base) (scalar_term ds d)) (Array d.name.text (kind_of_base d.base) (map (term_of ds) (parts d.value))) ≡ Array x j ts → (b ≡ false) × (d.name.text ≡ x) × (kind_of_base d.base ≡ j) × (map (term_of ds) (parts d.value) ≡ ts)) [
-      | true ↦ λ e. cc
-      | false ↦ λ e. (refl, cc, cc, cc)
-    ] e
+array_by_place ds d x j ts e = grind (arith, common_steps)

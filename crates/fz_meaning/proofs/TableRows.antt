@@ -47,13 +47,12 @@ passes_form : (says : Bool → Bool → Bool) (ss : List Shape) (t : Test ss) (v
     (r : Bool) → AreRead ss vs → passes (with_bool ss) (with_truth says ss t)
     (vs ++ OneValue (Truth r) ∷ []) ≡ says r (passes ss t vs)
 passes_form says [] t [] r h = refl
-passes_form says [] t (v ∷ vs) r h = absurd h
-passes_form says (s ∷ ss) t [] r h = absurd h
 passes_form says (s ∷ ss) t (v ∷ vs) r h =
     (elim (read s v) as (λ o. IsSome o → option_map_or (λ x. passes (with_bool ss) (with_truth says ss (t x)) (vs ++ OneValue (Truth r) ∷ [])) o false ≡ says r (option_map_or (λ x. passes ss (t x) vs) o false)) [
       | None ↦ λ i. cc
       | Some x ↦ λ i. passes_form says ss (t x) vs r h.1
     ]) h.0
+passes_form says _ t _ r h = absurd h
 
 -- a reified form holds as its Boolean says, given whether the base row holds
 pub reified_holds : (row : Row) (vs : List ArgValue) (r : Bool) → AreRead row.shapes vs

@@ -1,22 +1,46 @@
-//! Models of FlatZinc: what they mean, loading them, the state of a point and the step that it
-//! forces. This crate is a facade over its internal crates, with no code of its own: `fz_meaning`
-//! has the definitions, the table of builtins and the laws, and `fz_data` the loaded model;
-//! `fz_arguments` reads the arguments of a constraint; `fz_kernel`, `fz_globals` and
-//! `fz_scheduling` have the relations of the builtins and of the global constraints; `fz_builtins`
-//! tells whether a row of THE TABLE holds, and `fz_eval` the state of a point and the step that it
-//! forces.
+//! Models of FlatZinc: what they mean, loading them, and what a point says under a partial
+//! assignment. It also offers what its internal crates have: `fz_meaning` has the definitions, the
+//! table of builtins and the laws, and `fz_data` the loaded model; `fz_kernel` reads the arguments of
+//! a constraint, and has the relations of the builtins, `fz_globals` and `fz_scheduling` those of
+//! the global constraints; `fz_builtins` tells whether a row of THE TABLE holds.
 //!
-//! Its worked cases are in `tests/cases`.
+//! The state of a point: whether a domain, a definition or a constraint holds, fails or cannot be
+//! told (`state`); and whether all points hold (`all_hold`), which an `Overview` of the model makes
+//! quick.
+//!
+//! The forced step of a point (`forced`): the one value that the point leaves to the only variable
+//! in it without a value. A domain of one number gives that number; a definition gives the value of
+//! either side to the other; a constraint gives its defined variable the value that its row leaves:
+//! the one value of the argument's kind, an integer of 64 bits among them, with which the row
+//! holds. `opening_of` tells what a constraint waits for before.
+//!
+//! Its worked cases are in `tests/cases` (`builtins.txt`, `calls.txt`).
 #![tactic(auto)]
 
-pub use fz_eval::fz_data::{
-    Argument, Array, ConstraintParts, Constraints, Found, Goal, Hint, LoadError, Model, NO_HINT,
-    Partial, Point, PointParts, Posted, Scalar, ScalarList, Scalars, Segment, Slot, Store,
-    Variable, What, item_at, kind_of, literal_kind, literal_value, load, load_text, part,
-    same_kind, scalar_at,
+mod constraints;
+mod domains;
+mod holding;
+mod numbers;
+mod only;
+mod overview;
+mod points;
+mod row;
+mod step;
+mod unit;
+mod value;
+mod whole;
+
+pub use fz_builtins::fz_data::{
+    Argument, Array, ConstraintParts, Constraints, Found, Goal, LoadError, Model, Partial, Point,
+    PointParts, Posted, Scalar, ScalarList, Scalars, Segment, Slot, Store, Variable, What, item_at,
+    kind_of, literal_kind, literal_value, load, load_text, part, same_kind, scalar_at,
 };
-pub use fz_eval::{Opening, Overview, Spot, all_hold, forced, only_number, opening_of, state};
-pub use fz_meaning::{
+pub use fz_builtins::fz_meaning::{
     Builtin, Domain, Filled, Form, Kind, Known, ModelError, Shape, State, Term, located_is_bare,
     numbers_agree, steps_are_forced, unknown_is_not_known,
 };
+pub use holding::all_hold;
+pub use only::{Opening, Spot, opening_of};
+pub use overview::Overview;
+pub use points::state;
+pub use step::{forced, only_number};

@@ -9,6 +9,7 @@ use Rattle.std.proofs.lemmas.Slice.Eq.{bytes_eq-Decides}
 use Rattle.std.proofs.lemmas.Bool.{ltb-false, ltb-true}
 use Rattle.std.proofs.lemmas.Option.{slice_get_past, slice_get_read}
 use Rattle.indexmap.specs.IndexSet.{insert_key}
+use Rattle.fz_meaning.proofs.Points.{slice_get_at}
 use Rattle.fz_meaning.proofs.Lists.{all_append}
 use Rattle.fz_meaning.specs.declared.term.Term.{Term}
 use Rattle.fz_names.specs.declared.names.Entry.{Entry}
@@ -49,28 +50,6 @@ key_passes x (y ∷ ks) k e = (elim (is_key x y) as (λ b. is_key x y ≡ b → 
   | false ↦ λ _ later. key_passes x ks k later
 ]) refl e
 
--- the key at an index is the one that is found, since no other has its text
-pub found_there : (ks : List Kept) (i : ℕ) (k : Kept) → IsDistinct same_key ks
-    → Some k ≡ slice_get ks i → find (is_key k.bytes.now) ks ≡ Some k
-unfolding IsDistinct
-found_there [] i k h at = cc
-found_there (y ∷ ks) zero k h at =
-    let same : k ≡ y = cc in
-    subst (λ j. find (is_key j.bytes.now) (y ∷ ks) ≡ Some j) (sym same) (ap (λ b. cond b (Some y) (find (is_key y.bytes.now) ks)) ((bytes_eq-Decides y.bytes.now y.bytes.now).1 refl))
-found_there (y ∷ ks) (suc i) k h at = ap (λ b. cond b (Some y) (find (is_key k.bytes.now) ks)) (other (is_key k.bytes.now y) refl) ∙ found_there ks i k h.1 at
-  where
-    apart : (zs : List Kept) (n : ℕ) → AllByRecursion (λ z. same_key y z ≡ false) zs
-        → Some k ≡ slice_get zs n → same_key y k ≡ false
-    apart [] n all is = cc
-    apart (z ∷ zs) zero all is = let same : z ≡ k = cc in subst (λ w. same_key y w ≡ false) same all.0
-    apart (z ∷ zs) (suc n) all is = apart zs n all.1 is
-
-    other : (b : Bool) → is_key k.bytes.now y ≡ b → is_key k.bytes.now y ≡ false
-    other false e = e
-    other true e =
-        let text = (bytes_eq-Decides k.bytes.now y.bytes.now).0 e in
-        let no : true ≡ false = sym ((bytes_eq-Decides y.bytes.now k.bytes.now).1 (sym text)) ∙ apart ks i h.0 at in cc
-
 -- ---- one more
 
 -- a name that is new in the list is new in the table
@@ -105,9 +84,8 @@ among_more ts us (e ∷ es) h = (one e.entry h.0, among_more ts us es h.1)
 
 stands_same : (ts us : List Term) (e : Entry) → IsAmongTerms ts e
     → stands_for (ts ++ us) e ≡ stands_for ts e
-stands_same ts us (entries.Variable n) h = refl
 stands_same ts us (entries.Parameter i) h = ap (λ o. Declared.Scalar (option_map_or (λ t. t) o no_term)) (get_front ts us i h)
-stands_same ts us (entries.Array i) h = refl
+stands_same ts us _ h = refl
 
 pub all_stand_same : (ts us : List Term) (es : List Kept) → AllByRecursion (is_among_terms ts) es
     → map (entry_stands (ts ++ us)) es ≡ map (entry_stands ts) es
@@ -166,19 +144,14 @@ pub among_put : {A E : Type 0} (r : Result A E) (ts : List Term) (ks new : List 
 among_put (Ok a) ts ks new k last same h here = among_pushed ts ks new k last h here
 among_put (Err e) ts ks new k last same h here = subst (AllByRecursion (is_among_terms ts)) (sym same) h
 
-pub on_ok : {A E : Type 0} {P Q : Type 0} (r : Result A E) → (P → Q) → OnOk r P → OnOk r Q
-on_ok (Ok a) f p = f p
-on_ok (Err e) f p = tt
-
-pub at_end : {A : Type 0} (xs : List A) (x : A) → slice_get (xs ++ x ∷ []) (length xs) ≡ Some x
-at_end [] x = refl
-at_end (y ∷ xs) x = at_end xs x
-
 -- a parameter's term is appended
 pub stands_last : (ts us : List Term) (t : Term) (i : ℕ) → us ≡ ts ++ t ∷ [] → i ≡ length ts
     → stands_for us (entries.Parameter i) ≡ Declared.Scalar t
-stands_last ts us t i grew last = ap (λ o. Declared.Scalar (option_map_or (λ x. x) o no_term)) ((λ j. slice_get (grew j) (last j)) ∙ at_end ts t)
+stands_last ts us t i grew last = ap (λ o. Declared.Scalar (option_map_or (λ x. x) o no_term)) ((λ j. slice_get (grew j) (last j)) ∙ slice_get_at ts [] t)
 
 pub last_within : (ts us : List Term) (t : Term) (i : ℕ) → us ≡ ts ++ t ∷ [] → i ≡ length ts
     → i < length us
 last_within ts us t i grew last = omega (arith, ap length grew, length-append ts (t ∷ []), last)
+
+-- what an entry that is found stands for
+pub ruleset of_entry = (looked_up, found_among, key_passes)

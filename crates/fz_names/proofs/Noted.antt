@@ -11,6 +11,7 @@ use Rattle.std.proofs.lemmas.List.Sums.{fold_more}
 use Rattle.std.proofs.lemmas.Option.{slice_get-get_or, slice_get_within}
 use Rattle.std.proofs.lemmas.Bool.{eqb-true, eqb-false, ltb-false}
 use Rattle.std.proofs.lemmas.Slice.Eq.{bytes_eq-Decides}
+use Rattle.fz_meaning.proofs.Points.{slice_get_at}
 use Rattle.fz_meaning.specs.declared.term.Term.{Term}
 use Rattle.fz_names.specs.declared.names.Entry.{Entry}
 use Rattle.fz_names.specs.declared.names.Kept.{Kept}
@@ -20,7 +21,7 @@ use Rattle.fz_names.specs.declared.numbered.Shape.{Shape}
 use Rattle.fz_names.specs.Naming.{has_text, stands_for, IsAmongTerms}
 use Rattle.fz_names.specs.Names.{entry_stands, is_among_terms, is_key}
 use Rattle.fz_names.specs.Numbered.{end_of, entry_as, entry_at, entry_of, entry_there, head_of, is_digit, is_free, is_free_there, is_of, mark_of, marks_from, marks_of, number_of, place_at, seat_if, seat_there, unpacked, with_byte, AreKept, IsAmongOthers, IsLeft, IsListed, IsNumbered, IsTakenBy, StandsAt}
-use Rattle.fz_names.proofs.NameTable.{at_end, found_among, get_front, looked_up}
+use Rattle.fz_names.proofs.NameTable.{found_among, get_front, looked_up, got}
 
 -- ---- names of one shape are told apart by their numbers
 
@@ -58,9 +59,8 @@ with_if d n b = if d then n * 10 + (b - 48) else n
 
 in_range : (b : ℕ) (low high : Bool) → ltb b 48 ≡ low → ltb 57 b ≡ high
     → (not low && not high) ≡ true → (48 ≤ b) × (b ≤ 57)
-in_range b true high l h e = cc
-in_range b false true l h e = cc
 in_range b false false l h e = let low = ltb-false b 48 l in let above = ltb-false 57 b h in (omega (arith, low), omega (arith, above))
+in_range b _ high l h e = cc
 
 digit_range : (b : ℕ) → is_digit b ≡ true → (48 ≤ b) × (b ≤ 57)
 digit_range b e = in_range b (ltb b 48) (ltb 57 b) refl refl e
@@ -93,8 +93,6 @@ same_ends : (xs ys : List ℕ) (n m : ℕ) → Fits (length xs) n → Fits (leng
     → (n ≡ m) × (xs ≡ ys)
 unfolding Fits with_if mark_if
 same_ends [] [] n m fn fm marks numbers = (numbers, refl)
-same_ends [] (y ∷ ys) n m fn fm marks numbers = cc
-same_ends (x ∷ xs) [] n m fn fm marks numbers = cc
 same_ends (x ∷ xs) (y ∷ ys) n m fn fm marks numbers =
     let nx : with_byte n x ≡ with_if (is_digit x) n x = in_64 (is_digit x) n x refl fn.0 in
     let my : with_byte m y ≡ with_if (is_digit y) m y = in_64 (is_digit y) m y refl fm.0 in
@@ -105,6 +103,7 @@ same_ends (x ∷ xs) (y ∷ ys) n m fn fm marks numbers =
     let later = same_ends xs ys (with_byte n x) (with_byte m y) fx fy rest numbers in
     let here = one_byte x y n m (is_digit x) (is_digit y) refl refl first (sym nx ∙ later.0 ∙ my) in
     (here.0, λ i. here.1 i ∷ later.1 i)
+same_ends _ _ n m fn fm marks numbers = cc
 
 end_short : (x : List ℕ) → length (end_of x) ≤ 8
 end_short x = let is = length-drop (length x - 8) x in omega (arith, is)
@@ -113,14 +112,13 @@ end_short x = let is = length-drop (length x - 8) x in omega (arith, is)
 marks_told : (n : ℕ) (xs ys : List ℕ) → length xs ≤ n → length xs ≡ length ys
     → marks_from n xs ≡ marks_from n ys → map mark_of xs ≡ map mark_of ys
 marks_told n [] [] le long same = refl
-marks_told n [] (y ∷ ys) le long same = cc
-marks_told n (x ∷ xs) [] le long same = cc
 marks_told zero (x ∷ xs) (y ∷ ys) le long same = absurd (omega (arith, le))
 marks_told (suc n) (x ∷ xs) (y ∷ ys) le long same =
     let first : mark_of x ≡ mark_of y = cc in
     let rest : marks_from n xs ≡ marks_from n ys = cc in
     let later = marks_told n xs ys (omega (arith, le)) (omega (arith, long)) rest in
     λ i. first i ∷ later i
+marks_told n _ _ le long same = cc
 
 -- one more mark
 marks_more : (n p b : ℕ) (bs : List ℕ) → p < n → slice_get bs p ≡ Some b
@@ -185,9 +183,8 @@ same_names s x y isx isy number =
 -- ---- no names yet
 
 free_all : (n i : ℕ) (p : Place) → place_at (replicate n 0) i ≡ Some p → p ≡ Free
-free_all zero i p at = cc
-free_all (suc n) zero p at = cc
 free_all (suc n) (suc i) p at = free_all n i p at
+free_all _ i p at = cc
 
 pub none_numbered : (ks os : List Kept) (ss : List Shape) (ps js : List ℕ) (n : ℕ) → ks ≡ []
     → os ≡ [] → ps ≡ replicate n 0 → IsNumbered ks os ss ps js
@@ -266,33 +263,29 @@ module _ (k : Kept) where
 module _ (ks os : List Kept) (ss ts : List Shape) (js is : List ℕ) (keep : AreKept ss ts) where
   carried : (x : List ℕ) (o : Option Place) → slice_get is (number_of x)
       ≡ slice_get js (number_of x) → StandsAt ks os ss js x o → StandsAt ks os ts is x o
-  carried x None seat h = h
-  carried x (Some Free) seat h = h
   carried x (Some (Taken s n l)) seat h = (
     h.0,
     keep n h.0 h.1,
     λ of_shape. let there = h.2 of_shape in (there.0, there.1, there.2, there.3, seat ∙ there.4, there.5),
     h.3,
   )
-  carried x (Some Crowded) seat h = h
+  carried x _ seat h = h
 
 -- a name is added that doesn't get the cell of its number
 module _ (ks os : List Kept) (k : Kept) (ts : List Shape) (is : List ℕ) where
   in_both : (x : List ℕ) (o : Option Place) → (o ≡ Some Free → x ≢ k.bytes.now)
       → StandsAt ks os ts is x o → StandsAt (ks ++ k ∷ []) (os ++ k ∷ []) ts is x o
-  in_both x None apart h = both k x ks os h
   in_both x (Some Free) apart h = (as_before k x ks (apart refl) ∙ h.0, as_before k x os (apart refl) ∙ h.1)
   in_both x (Some (Taken s n l)) apart h = (h.0, h.1, λ of_shape. still_listed k x ks is (entry_of s l) (h.2 of_shape), λ other. both k x ks os (h.3 other))
-  in_both x (Some Crowded) apart h = both k x ks os h
+  in_both x _ apart h = both k x ks os h
 
 -- a name is added that gets the cell of its number
 module _ (ks os : List Kept) (k : Kept) (ts : List Shape) (is : List ℕ) where
   in_list : (x : List ℕ) (o : Option Place) → (x ≢ k.bytes.now) → StandsAt ks os ts is x o
       → StandsAt (ks ++ k ∷ []) os ts is x o
-  in_list x None apart h = h ∙ sym (as_before k x ks apart)
   in_list x (Some Free) apart h = (as_before k x ks apart ∙ h.0, h.1)
   in_list x (Some (Taken s n l)) apart h = (h.0, h.1, λ of_shape. still_listed k x ks is (entry_of s l) (h.2 of_shape), λ other. h.3 other ∙ sym (as_before k x ks apart))
-  in_list x (Some Crowded) apart h = h ∙ sym (as_before k x ks apart)
+  in_list x _ apart h = h ∙ sym (as_before k x ks apart)
 
   own : (x : List ℕ) (o : Option Place) → number_of x ≡ number_of k.bytes.now
       → find (is_key k.bytes.now) ks ≡ None
@@ -306,7 +299,7 @@ module _ (ks os : List Kept) (k : Kept) (ts : List Shape) (is : List ℕ) where
       here : is_of h.0.0 x ≡ true → IsListed (ks ++ k ∷ []) is x (entry_of s l)
       here of_shape =
           let same : x ≡ k.bytes.now = same_names h.0.0 x k.bytes.now of_shape h.0.2 number in
-          (k, length ks, ap (λ y. find (is_key y) (ks ++ k ∷ [])) same ∙ new_found k ks absent, sym h.1, ap (slice_get is) number ∙ seat, at_end ks k)
+          (k, length ks, ap (λ y. find (is_key y) (ks ++ k ∷ [])) same ∙ new_found k ks absent, sym h.1, ap (slice_get is) number ∙ seat, slice_get_at ks [] k)
 
       elsewhere : is_of h.0.0 x ≡ false → IsAmongOthers (ks ++ k ∷ []) os x
       elsewhere other =
@@ -531,3 +524,9 @@ module _ (ts : List Term) (x : List ℕ) (ks : List Kept) (e : Entry) (found : o
           → IsAmongTerms ts e
       among None at is = cc
       among (Some k) at is = let same : k.entry ≡ e = cc in subst (IsAmongTerms ts) same (found_among ts x ks k h at)
+
+-- what follows where a name is found
+pub ruleset of_found = (got, seat_found, no_seat)
+
+-- what tells whether a name is contained
+pub ruleset of_contained = (free_absent, declared_as, seated)

@@ -5,4 +5,5 @@ mod hashing;
 mod names;
 mod numbered;
 
-pub use names::{Hint, NO_HINT, Names, Standing};
+pub use fz_meaning;
+pub use names::{Names, Standing};

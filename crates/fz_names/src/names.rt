@@ -54,14 +54,6 @@ impl Hash for Text<'_> {
     }
 }
 
-/// Where a name may be found at once: the index in the list that an earlier look-up came to. It
-/// says nothing of what is declared, so only speed depends on it.
-#[derive(Clone, Copy)]
-pub struct Hint(usize);
-
-/// The hint of no name.
-pub const NO_HINT: Hint = Hint(usize::MAX);
-
 /// What a declared name cites: a variable, a parameter or an array, by its number. An entry has two
 /// words, so that a look-up seldom waits for memory.
 #[derive(Clone, Copy)]
@@ -77,8 +69,6 @@ pub(crate) enum Entry {
 pub(crate) struct Kept<'a> {
     bytes: &'a [u8],
     entry: Entry,
-    /// the index of this name in the list of all declared names
-    seat: usize,
 }
 
 impl PartialEq for Kept<'_> {
@@ -191,20 +181,15 @@ fn put<'a>(
     requires numbered { IsNumbered listed.old.items others.old.keys numbered.old.shapes.items
         numbered.old.places.items numbered.old.seats.items }
     ensures pushed { OnOk result (listed.new.items ≡ listed.old.items
-        ++ record { bytes = name.entry; entry = entry; seat = length listed.old.items } ∷ []) }
+        ++ record { bytes = name.entry; entry = entry } ∷ []) }
     ensures unchanged { OnErr result (listed.new.items ≡ listed.old.items) }
     ensures distinct { IsDistinct same_key listed.new.items }
     ensures numbered { IsNumbered listed.new.items others.new.keys numbered.new.shapes.items
         numbered.new.places.items numbered.new.seats.items }
 {
     listed.reserve(1)?;
-    let seat = listed.len();
-    let kept = Kept {
-        bytes: name,
-        entry,
-        seat,
-    };
-    if !numbered.note(name, entry, seat) {
+    let kept = Kept { bytes: name, entry };
+    if !numbered.note(name, entry, listed.len()) {
         let _ = others.insert(kept)?;
     }
     listed.push_reserved(kept);
@@ -220,6 +205,7 @@ fn entry_among(others: &Table<'_>, name: &[u8]) -> Option<Entry>
 }
 
 /// A declared name with its entry.
+#[tactic(auto, using(crate::proofs::Noted::of_found))]
 fn found<'t, 'a>(
     listed: &'t [Kept<'a>],
     others: &'t Table<'a>,
@@ -251,6 +237,7 @@ impl<'a> Names<'a> {
 
     /// Whether a name is declared.
     #[inline]
+    #[tactic(auto, using(crate::proofs::Noted::of_contained))]
     pub fn contains(&self, name: &[u8]) -> bool
         ensures declared { result ≡ is_some (lookup (has_text name.now) self.now) }
     {
@@ -262,6 +249,7 @@ impl<'a> Names<'a> {
 
     /// What a name stands for, where it is declared.
     #[inline(always)]
+    #[tactic(auto, using(crate::proofs::Noted::elsewhere, crate::proofs::Noted::none_stands))]
     pub fn get(&self, name: &[u8]) -> Option<Standing<'_>>
         ensures stands { option_map standing_view result ≡ lookup (has_text name.now) self.now }
     {
@@ -272,42 +260,20 @@ impl<'a> Names<'a> {
         Some(standing_of(&self.parameters, entry))
     }
 
-    /// What the name at an index of the list stands for, with its text in the source; none where
-    /// the name there is another one.
+    /// What a name stands for, where it is declared, with its text in the source.
     #[inline]
-    fn at(&self, name: &[u8], place: usize) -> Option<(&'a [u8], Standing<'_>)>
-        ensures stands { IfSome result
-            (λ f. Some (standing_view f.1) ≡ lookup (has_text name.now) self.now) }
-        ensures text { IfSome result (λ f. f.0.now ≡ name.now) }
-    {
-        let kept = self.listed.get(place)?;
-        if kept.bytes != name {
-            return None;
-        }
-        Some((kept.bytes, standing_of(&self.parameters, kept.entry)))
-    }
-
-    /// What a name stands for, where it is declared, with its text in the source and a hint for the
-    /// next look-up of it. Where the hint is that of the name, nothing is looked up. Another one
-    /// does no harm.
-    #[inline]
-    pub fn find_at(&self, name: &[u8], hint: Hint) -> Option<(&'a [u8], Standing<'_>, Hint)>
+    #[tactic(auto, using(crate::proofs::NameTable::of_entry))]
+    pub fn look_up(&self, name: &[u8]) -> Option<(&'a [u8], Standing<'_>)>
         ensures stands { option_map (λ f. standing_view f.1) result
             ≡ lookup (has_text name.now) self.now }
         ensures text { IfSome result (λ f. f.0.now ≡ name.now) }
     {
-        if let Some((text, standing)) = self.at(name, hint.0) {
-            return Some((text, standing, hint));
-        }
         let kept = found(&self.listed, &self.others, &self.numbered, name)?;
-        Some((
-            kept.bytes,
-            standing_of(&self.parameters, kept.entry),
-            Hint(kept.seat),
-        ))
+        Some((kept.bytes, standing_of(&self.parameters, kept.entry)))
     }
 
     /// Appends the name of a variable.
+    #[tactic(auto, using(crate::proofs::NameTable::new_key))]
     pub fn push_variable(&mut self, name: &'a [u8], number: usize) -> Result<(), AllocError>
         requires new { is_none (lookup (has_text name.now) self.old) ≡ true }
         ensures pushed { OnOk result (self.new ≡ self.old ++ (name.now, Scalar (Var number)) ∷ []) }
@@ -322,6 +288,7 @@ impl<'a> Names<'a> {
     }
 
     /// Appends the name of an array.
+    #[tactic(auto, using(crate::proofs::NameTable::new_key))]
     pub fn push_array(&mut self, name: &'a [u8], number: usize) -> Result<(), AllocError>
         requires new { is_none (lookup (has_text name.now) self.old) ≡ true }
         ensures pushed { OnOk result (self.new ≡ self.old ++ (name.now, TheArray number) ∷ []) }

@@ -2,7 +2,7 @@
 use Rattle.std.proofs.Common.{◌≡◌, ℕ, ◌<◌, ◌≤◌, Bool, true, false, ltb, ◌⊎◌, inl, inr, List, [], ◌∷◌, drop, length, refl, sym, ap, ◌∙◌, le-ltb, lt-ltb, arith}
 use Rattle.std.proofs.lemmas.Bool.{cases_lt}
 use Rattle.std.proofs.lemmas.List.{length-drop}
-use Rattle.fz_meaning.specs.Relations.{is_before}
+use Rattle.fz_kernel.specs.of_meaning.Relations.{is_before}
 use Rattle.fz_kernel.proofs.Left.{none_left}
 
 module _ {A : Type 0} (less same : A → A → Bool) where

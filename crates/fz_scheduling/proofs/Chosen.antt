@@ -2,7 +2,7 @@
 use Rattle.std.proofs.Common.{◌≡◌, ℕ, ◌+◌, ◌*◌, ◌≤◌, ℤ, pos, ◌+ℤ◌, neg_ℤ, ◌≤ℤ◌, Bool, true, false, cond, List, ◌∷◌, drop, length, map, filter, FitsSigned, w64, sym, ap, ◌∙◌, arith}
 use Rattle.std.proofs.lemmas.Int.{ints}
 use Rattle.std.proofs.lemmas.List.{drop_all}
-use Rattle.fz_meaning.specs.Relations.{total}
+use Rattle.fz_kernel.specs.of_meaning.Relations.{total}
 
 abbrev pub chosen : {A : Type 0} → (A → Bool) → List (A × ℤ) → ℤ
 chosen test ps = total (map (λ p. p.1) (filter (λ p. test p.0) ps))
@@ -16,14 +16,8 @@ pub record IsChosen {A : Type 0} (test : A → Bool) (ps : List (A × ℤ)) (i :
 regroup : (a b c : ℤ) → (a +ℤ (b +ℤ c)) ≡ ((a +ℤ b) +ℤ c)
 regroup a b c = omega (arith, ints)
 
-from_zero : (a : ℤ) → a ≡ (pos 0 +ℤ a)
-from_zero a = omega (arith, ints)
-
 to_zero : (a : ℤ) → (a +ℤ pos 0) ≡ a
 to_zero a = omega (arith, ints)
-
-pub none_chosen : {A : Type 0} (test : A → Bool) (ps : List (A × ℤ)) → IsChosen test ps 0 (pos 0)
-none_chosen test ps = record { whole = from_zero (chosen test ps); low = omega (arith, ints); high = omega (arith, ints) }
 
 module _ {A : Type 0} (test : A → Bool) (ps : List (A × ℤ)) (i : ℕ) (s : ℤ) (a : A) (n : ℤ) (so_far : IsChosen test ps i s) (here : drop i ps ≡ (a, n) ∷ drop (i + 1) ps) where
   left : (b : Bool) → test a ≡ b → chosen test (drop i ps)

@@ -1,10 +1,9 @@
 -- A run of an automaton, symbol by symbol.
-use Rattle.std.proofs.Common.{◌≡◌, ℕ, ◌+◌, ◌*◌, ◌≤◌, ℤ, pos, ◌+ℤ◌, ◌-ℤ◌, ◌*ℤ◌, true, ◌&&◌, if◌then◌else◌, List, ◌∷◌, drop, length, Option, Some, None, option_and_then, unsigned_abs, int_le, FitsSigned, w64, sym, ap, subst, ◌∙◌, mul-le-mul, arith}
+use Rattle.std.proofs.Common.{◌≡◌, ℕ, ◌+◌, ◌*◌, ◌≤◌, ℤ, pos, ◌+ℤ◌, ◌-ℤ◌, ◌*ℤ◌, true, ◌&&◌, if◌then◌else◌, List, ◌∷◌, drop, Option, Some, None, option_and_then, unsigned_abs, int_le, FitsSigned, w64, sym, ap, subst, ◌∙◌, mul-le-mul, arith}
 use Rattle.std.specs.Int.{w128}
 use Rattle.std.proofs.lemmas.Int.{ints, unsigned_abs-mul}
-use Rattle.fz_meaning.proofs.Values.{and_first}
-use Rattle.fz_meaning.specs.Relations.{element_at, lies_between, run, step}
-use Rattle.fz_kernel.proofs.Left.{none_left}
+use Rattle.fz_kernel.proofs.of_meaning.Values.{and_first}
+use Rattle.fz_kernel.specs.of_meaning.Relations.{element_at, lies_between, run, step}
 
 module _ (states symbols : ℤ) (d : List ℤ) (xs : List ℤ) (i : ℕ) (q x : ℤ) (whole : Option ℤ) (so_far : whole ≡ run states symbols d q (drop i xs)) (here : drop i xs ≡ x ∷ drop (i + 1) xs) where
   told : whole ≡ option_and_then (λ p. run states symbols d p (drop (i + 1) xs))
@@ -17,10 +16,6 @@ module _ (states symbols : ℤ) (d : List ℤ) (xs : List ℤ) (i : ℕ) (q x : 
   pub goes_on : (p : ℤ) → step states symbols d q x ≡ Some p
       → whole ≡ run states symbols d p (drop (i + 1) xs)
   goes_on p there = told ∙ ap (option_and_then (λ p. run states symbols d p (drop (i + 1) xs))) there
-
-pub arrives : (states symbols : ℤ) (d xs : List ℤ) (i : ℕ) (q : ℤ) (whole : Option ℤ)
-    → whole ≡ run states symbols d q (drop i xs) → length xs ≤ i → Some q ≡ whole
-arrives states symbols d xs i q whole so_far end = sym (so_far ∙ ap (run states symbols d q) (none_left xs i end))
 
 pub leads : (states symbols : ℤ) (d : List ℤ) (q x : ℤ) → lies_between (pos 1) states q ≡ true
     → lies_between (pos 1) symbols x ≡ true

@@ -1,7 +1,7 @@
 -- The loads of bins, one bin after another.
 use Rattle.std.proofs.Common.{◌≡◌, ℕ, ◌+◌, ℤ, pos, ◌+ℤ◌, Bool, true, false, ◌&&◌, List, ◌∷◌, drop, sym, ap, ◌∙◌, arith}
 use Rattle.std.proofs.lemmas.Int.{ints}
-use Rattle.fz_meaning.specs.Relations.{◌=ℤ◌, load_of, loads_are}
+use Rattle.fz_kernel.specs.of_meaning.Relations.{◌=ℤ◌, load_of, loads_are}
 
 module _ (o : ℤ) (bins weights loads : List ℤ) (i : ℕ) (n : ℤ) (whole : Bool) (so_far : whole ≡ loads_are (o +ℤ pos i) bins weights (drop i loads)) (here : drop i loads ≡ n ∷ drop (i + 1) loads) where
   told : whole ≡ ((n =ℤ load_of bins weights (o +ℤ pos i))

@@ -3,8 +3,9 @@ use Rattle.std.proofs.Common.{◌≡◌, ℕ, suc, zero, ◌+◌, ◌*◌, ◌<�
 use Rattle.std.specs.List.{list_all}
 use Rattle.std.proofs.lemmas.Int.{ints}
 use Rattle.std.proofs.lemmas.List.{take_more, drop_more, get_or-drop, length-take, length-take-le, length-drop}
-use Rattle.fz_meaning.specs.Relations.{total, lies_between, windows}
-use Rattle.fz_meaning.proofs.Values.{and_first, and_second}
+use Rattle.fz_base.proofs.Covers.{and-true}
+use Rattle.fz_kernel.specs.of_meaning.Relations.{total, lies_between, windows}
+use Rattle.fz_kernel.proofs.of_meaning.Values.{and_first, and_second}
 use Rattle.fz_scheduling.specs.Places.{number_at}
 
 total-append : (xs ys : List ℤ) → total (xs ++ ys) ≡ total xs +ℤ total ys
@@ -27,9 +28,6 @@ pub record IsSummed (xs : List ℤ) (i : ℕ) (s : ℤ) : Type 0 where
   pub whole : s ≡ total (take i xs)
   pub low : neg_ℤ (pos (9223372036854775808 * i)) ≤ℤ s
   pub high : s ≤ℤ pos (9223372036854775808 * i)
-
-pub none_summed : (xs : List ℤ) → IsSummed xs 0 (pos 0)
-none_summed xs = record { whole = refl; low = omega (arith, ints); high = omega (arith, ints) }
 
 pub one_summed : (xs : List ℤ) (i : ℕ) (s t : ℤ) → IsSummed xs i s → i < length xs
     → t ≡ (s +ℤ number_at xs i) → FitsSigned w64 (number_at xs i) → IsSummed xs (i + 1) t
@@ -142,8 +140,4 @@ module _ (low high : ℤ) (k : ℕ) (xs : List ℤ) (i : ℕ) (s : ℤ) (slides 
       → lies_between low high s ≡ list_all (λ w. lies_between low high (total w)) (windows k xs)
   last_run end =
       let short : length (drop (i + 1) xs) < k = omega (arith, length-drop (i + 1) xs) in
-      sym (told ∙ ap (λ ws. lies_between low high s && list_all (λ w. lies_between low high (total w)) ws) (too_short k (drop (i + 1) xs) short) ∙ and_true (lies_between low high s))
-    where
-      and_true : (b : Bool) → (b && true) ≡ b
-      and_true true = refl
-      and_true false = refl
+      sym (told ∙ ap (λ ws. lies_between low high s && list_all (λ w. lies_between low high (total w)) ws) (too_short k (drop (i + 1) xs) short) ∙ and-true (lies_between low high s))

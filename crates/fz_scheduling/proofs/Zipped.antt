@@ -3,7 +3,7 @@ use Rattle.std.proofs.Common.{◌≡◌, ℕ, ◌+◌, ◌<◌, ℤ, pos, List, 
 use Rattle.std.specs.List.{zip}
 use Rattle.std.proofs.lemmas.List.{drop_more}
 use Rattle.std.proofs.lemmas.Slice.Zip.{length-zip, get_or-zip}
-use Rattle.fz_meaning.specs.Relations.{boxes}
+use Rattle.fz_kernel.specs.of_meaning.Relations.{boxes}
 use Rattle.fz_scheduling.specs.Places.{number_at, span_at, box_at}
 
 pub next_number : (xs : List ℤ) (i : ℕ) → i < length xs

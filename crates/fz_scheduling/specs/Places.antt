@@ -1,6 +1,6 @@
 -- What is at an index of an array (private functions only).
 use Rattle.std.specs.Prelude.{ℕ, ℤ, pos, Bool, ◌&&◌, ◌||◌, List, get_or, int_le}
-use Rattle.fz_meaning.specs.Relations.{◌=ℤ◌, Span, Box, are_apart, is_empty_span, lie_apart, has_no_area, used_at}
+use Rattle.fz_kernel.specs.of_meaning.Relations.{◌=ℤ◌, Span, Box, are_apart, is_empty_span, lie_apart, has_no_area, used_at}
 
 -- the number at an index, and 0 past the end
 abbrev pub number_at : List ℤ → ℕ → ℤ

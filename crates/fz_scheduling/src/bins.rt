@@ -1,12 +1,12 @@
 //! What lies in bins: each thing has a bin and a weight.
 ghost use Rattle.std.specs.Prelude.{◌≡◌, ◌&&◌, ◌+ℤ◌, ◌-ℤ◌, pos, int_le, length};
 ghost use Rattle.std.specs.List.{list_all};
-ghost use Rattle.fz_meaning.specs.Relations.{◌=ℤ◌, lies_between, load_of, loads_are};
-ghost use Rattle.fz_kernel.specs.of_view.Views.{ints};
+ghost use Rattle.fz_kernel.specs.of_meaning.Relations.{◌=ℤ◌, lies_between, load_of, loads_are};
+ghost use Rattle.fz_kernel.specs.Views.{ints};
 ghost use Rattle.fz_scheduling.specs.Places.{number_at};
 
 use crate::reading::{common_places, number_at, number_count};
-use fz_kernel::fz_arguments::Elements;
+use fz_kernel::Elements;
 use fz_kernel::indices::all_between;
 
 /// Whether the load of each bin that something lies in is at most the capacity.

@@ -1,13 +1,13 @@
 //! Boxes: each has a start and a length along each of two axes.
 ghost use Rattle.std.specs.Prelude.{◌≡◌, ◌<◌, ◌+◌, ◌||◌, pos, drop, length};
 ghost use Rattle.std.specs.List.{list_all};
-ghost use Rattle.fz_meaning.specs.Relations.{◌=ℤ◌, all_pairs, boxes, overlap_in_no_area, overlap_nowhere};
-ghost use Rattle.fz_kernel.specs.of_view.Views.{ints};
+ghost use Rattle.fz_kernel.specs.of_meaning.Relations.{◌=ℤ◌, all_pairs, boxes, overlap_in_no_area, overlap_nowhere};
+ghost use Rattle.fz_kernel.specs.Views.{ints};
 ghost use Rattle.fz_scheduling.specs.Places.{box_at, number_at, stand_apart};
 
 use crate::reading::{common_places, is_zero_at};
 use crate::spans::are_apart;
-use fz_kernel::fz_arguments::Elements;
+use fz_kernel::Elements;
 use fz_kernel::indices::all_pairs;
 
 /// Whether no two boxes overlap; even one with no area must not lie within another.

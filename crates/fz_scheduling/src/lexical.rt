@@ -1,11 +1,11 @@
 //! Lexicographic order: the first index at which two arrays differ tells, and a proper prefix comes
 //! first.
 ghost use Rattle.std.specs.Prelude.{◌≡◌, ◌&&◌, not, int_lt};
-ghost use Rattle.fz_meaning.specs.Relations.{◌=ℤ◌, ◌=ᴮ◌, is_before};
-ghost use Rattle.fz_kernel.specs.of_view.Views.{bools, ints};
+ghost use Rattle.fz_kernel.specs.of_meaning.Relations.{◌=ℤ◌, ◌=ᴮ◌, is_before};
+ghost use Rattle.fz_kernel.specs.Views.{bools, ints};
 
 use crate::reading::{number_at, number_count, truth_at, truth_count};
-use fz_kernel::fz_arguments::Elements;
+use fz_kernel::Elements;
 
 /// Whether the numbers of `a` come before those of `b`.
 pub fn ints_are_before(a: &Elements, b: &Elements) -> bool

@@ -1,13 +1,13 @@
 //! The knapsack: so many of each thing, their total weight and their total profit.
 ghost use Rattle.std.specs.Prelude.{◌≡◌, ◌||◌, true, false, IfSome, IfNone};
 ghost use Rattle.std.specs.List.{list_all};
-ghost use Rattle.fz_meaning.specs.States.{leaves_128};
-ghost use Rattle.fz_meaning.specs.Relations.{products, is_knapsack, is_natural};
-ghost use Rattle.fz_kernel.specs.of_view.Views.{ints};
+ghost use Rattle.fz_kernel.specs.of_meaning.States.{leaves_128};
+ghost use Rattle.fz_kernel.specs.of_meaning.Relations.{products, is_knapsack, is_natural};
+ghost use Rattle.fz_kernel.specs.Views.{ints};
 
 use crate::reading::{is_natural_at, number_count};
+use fz_kernel::Elements;
 use fz_kernel::arrays::sum_of_products;
-use fz_kernel::fz_arguments::Elements;
 use fz_kernel::indices::all_between;
 
 /// Whether `xs` of the things have this weight and this profit; none where a partial sum of

@@ -1,11 +1,11 @@
 // Reading the numbers of arrays.
 ghost use Rattle.std.specs.Prelude.{◌≡◌, false, pos, length, slice_index_or};
 ghost use Rattle.std.specs.List.{zip};
-ghost use Rattle.fz_meaning.specs.Relations.{◌=ℤ◌, is_natural};
-ghost use Rattle.fz_kernel.specs.of_view.Views.{bools, ints};
+ghost use Rattle.fz_kernel.specs.of_meaning.Relations.{◌=ℤ◌, is_natural};
+ghost use Rattle.fz_kernel.specs.Views.{bools, ints};
 ghost use Rattle.fz_scheduling.specs.Places.{number_at};
 
-use fz_kernel::fz_arguments::Elements;
+use fz_kernel::Elements;
 
 /// The number at an index; 0 past the end.
 #[inline(always)]

@@ -1,11 +1,11 @@
 //! The sums of runs of neighbours.
 ghost use Rattle.std.specs.Prelude.{◌≡◌, ◌≤◌, ◌<◌, length, take};
 ghost use Rattle.std.specs.List.{list_all};
-ghost use Rattle.fz_meaning.specs.Relations.{total, lies_between, slides_between, windows};
-ghost use Rattle.fz_kernel.specs.of_view.Views.{ints};
+ghost use Rattle.fz_kernel.specs.of_meaning.Relations.{total, lies_between, slides_between, windows};
+ghost use Rattle.fz_kernel.specs.Views.{ints};
 
 use crate::reading::{number_at, number_count};
-use fz_kernel::fz_arguments::Elements;
+use fz_kernel::Elements;
 
 /// Whether the sum of each run of `width` neighbours lies from `low` to `high`; false where the
 /// width is negative. There are runs of none in any list, and their sum is 0.

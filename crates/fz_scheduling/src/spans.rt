@@ -1,12 +1,12 @@
 // Spans: each begins at the number of one array, and is as long as that of another.
 ghost use Rattle.std.specs.Prelude.{◌≡◌, ◌<◌, ◌+◌, drop, length};
 ghost use Rattle.std.specs.List.{list_all, zip};
-ghost use Rattle.fz_meaning.specs.Relations.{all_pairs, are_apart, ends_before, last_naturally, runs_at};
-ghost use Rattle.fz_kernel.specs.of_view.Views.{ints};
+ghost use Rattle.fz_kernel.specs.of_meaning.Relations.{all_pairs, are_apart, ends_before, last_naturally, runs_at};
+ghost use Rattle.fz_kernel.specs.Views.{ints};
 ghost use Rattle.fz_scheduling.specs.Places.{keep_apart, span_at};
 
 use crate::reading::{common_places, is_natural_at, is_zero_at, number_at};
-use fz_kernel::fz_arguments::Elements;
+use fz_kernel::Elements;
 use fz_kernel::indices::{all_between, all_pairs};
 use fz_kernel::numbers::sum;
 

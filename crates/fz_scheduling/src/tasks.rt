@@ -1,13 +1,13 @@
 //! Tasks: each has a start, a duration, and a use of the resource that they share.
 ghost use Rattle.std.specs.Prelude.{◌≡◌, ◌&&◌, length};
 ghost use Rattle.std.specs.List.{list_all, zip};
-ghost use Rattle.fz_meaning.specs.Relations.{is_cumulative, is_disjunctive, is_natural, is_strictly_disjunctive, used_at};
-ghost use Rattle.fz_kernel.specs.of_view.Views.{ints};
+ghost use Rattle.fz_kernel.specs.of_meaning.Relations.{is_cumulative, is_disjunctive, is_natural, is_strictly_disjunctive, used_at};
+ghost use Rattle.fz_kernel.specs.Views.{ints};
 ghost use Rattle.fz_scheduling.specs.Places.{keeps_within, number_at, span_at};
 
 use crate::reading::{common_places, is_natural_at, is_zero_at, number_at, number_count};
 use crate::spans::{all_keep_apart, last_naturally, runs_at};
-use fz_kernel::fz_arguments::Elements;
+use fz_kernel::Elements;
 use fz_kernel::indices::all_between;
 
 /// Whether no two tasks that last run at one time, and no duration is negative.

@@ -1,12 +1,12 @@
 //! Words that a finite automaton accepts.
 ghost use Rattle.std.specs.Prelude.{◌≡◌, ◌+ℤ◌, ◌*ℤ◌, pos};
-ghost use Rattle.fz_meaning.specs.Relations.{is_word, lies_between, run, step};
-ghost use Rattle.fz_kernel.specs.of_view.Views.{ints};
+ghost use Rattle.fz_kernel.specs.of_meaning.Relations.{is_word, lies_between, run, step};
+ghost use Rattle.fz_kernel.specs.Views.{ints};
 
 use crate::reading::{number_at, number_count};
 use fz_base::IntSet;
+use fz_kernel::Elements;
 use fz_kernel::arrays::int_element_at;
-use fz_kernel::fz_arguments::Elements;
 use fz_kernel::numbers::product;
 
 /// Whether the word leads from the first state to a final one. The transitions are written row by

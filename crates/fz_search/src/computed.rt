@@ -1,7 +1,7 @@
 //! Results of arithmetic that are computed, since their domains may be too large to try each value.
 
+use crate::arguments::scalar_in;
 use crate::work::Work;
-use fz_linear::scalar_in;
 use fz_model::{Builtin, ConstraintParts, Scalar};
 
 /// The index of the result among the arguments of a row over two numbers.

@@ -1,8 +1,9 @@
 //! Elements of arrays.
 
+use crate::arguments::{elements_in, scalar_in};
+use crate::ends::Ends;
 use crate::stop::Stop;
 use crate::work::Work;
-use fz_linear::{Ends, elements_in, scalar_in};
 use fz_model::Scalar;
 
 impl<'k, 'm, 'a> Work<'k, 'm, 'a> {

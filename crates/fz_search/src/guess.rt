@@ -1,10 +1,10 @@
 //! Values that nothing forces.
 
+use crate::ends::{End, value_of};
 use crate::stop::Stop;
 use crate::subsets::{few_members, subset, subsets_of};
 use crate::work::Work;
 use fz_base::{IntSet, Value};
-use fz_linear::{End, value_of};
 use fz_model::{Kind, State};
 use std::alloc::AllocError;
 

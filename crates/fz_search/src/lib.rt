@@ -1,17 +1,26 @@
 //! The search of `--complete`: it proposes values for the variables that a solver left out and
-//! nothing forces. What is promised is only that the values are of their variables' kinds; whether
-//! a block is satisfied with them is judged afterwards. An internal crate of `fz_check`.
+//! nothing forces. It reads the points of a model: which variables are in each, the linear row that
+//! it is, if it is one, and bounds of variables. What is promised is only that the values are of
+//! their variables' kinds; whether a block is satisfied with them is judged afterwards. An internal
+//! crate of `fz_check`.
 //!
 //! Its worked cases are in `tests/cases` (`completed.txt`).
 #![tactic(auto)]
 
 mod agenda;
+mod arguments;
+mod builder;
 mod computed;
 mod element;
+mod ends;
 mod guess;
+mod index;
 mod linear;
 mod lone;
+mod points;
 mod proposal;
+mod relations;
+mod row;
 mod search;
 mod stop;
 mod subsets;
@@ -19,5 +28,6 @@ mod tables;
 mod tally;
 mod work;
 
-pub use fz_linear::Search;
+pub use fz_model;
+pub use index::Search;
 pub use search::propose;

@@ -1,10 +1,10 @@
 //! Points with one variable that has no value: its values are tried.
 
+use crate::ends::{End, value_of};
 use crate::stop::Stop;
 use crate::subsets::{few_members, subset, subsets_of};
 use crate::work::Work;
 use fz_base::Value;
-use fz_linear::{End, value_of};
 use fz_model::{Kind, State};
 
 /// Where a variable's bounds have more numbers between them than this, its values aren't tried.

@@ -3,10 +3,12 @@
 ghost use Rattle.std.specs.Prelude.{IfOk, IfSome};
 ghost use Rattle.fz_model.specs.Meaning.{IsPartial};
 
+use crate::ends::End;
+use crate::index::Search;
 use crate::proposal::copied;
+use crate::row::Rule;
 use crate::stop::Stop;
 use crate::work::Work;
-use fz_linear::{End, Rule, Search};
 use fz_model::{Goal, Model, Partial, Term};
 use std::alloc::{AllocError, Global};
 
@@ -70,8 +72,8 @@ impl<'k, 'm, 'a> Work<'k, 'm, 'a> {
 
     /// Visits points until the agenda is empty.
     fn settle(&mut self) -> Result<(), Stop> {
-        for _ in 0..self.steps_left() {
-            let Some(point) = self.next_point() else {
+        for _ in 0..self.left {
+            let Some(point) = self.agenda.take_first() else {
                 return Ok(());
             };
             self.visit(1)?;

@@ -1,7 +1,7 @@
 //! The subsets of a domain with few numbers.
 
+use crate::ends::{Ends, admits_number};
 use fz_base::{IntSet, Value};
-use fz_linear::{Ends, admits_number};
 use fz_model::Domain;
 use std::alloc::{AllocError, Global};
 

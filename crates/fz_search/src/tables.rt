@@ -1,6 +1,8 @@
 //! What is known of variables and points as a search begins.
 
-use fz_linear::{Ends, Search, Sums, ends_of, number_of};
+use crate::ends::{Ends, ends_of, number_of};
+use crate::index::Search;
+use crate::row::Sums;
 use fz_model::{Domain, Model, Partial, PointParts, Slot};
 use std::alloc::{AllocError, Global};
 

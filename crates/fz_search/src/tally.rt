@@ -1,9 +1,10 @@
 //! Counts and loads: rows with an array of results, which follow from the numbers that are counted
 //! or packed.
 
+use crate::arguments::{elements_in, scalar_in};
+use crate::ends::Ends;
 use crate::stop::Stop;
 use crate::work::Work;
-use fz_linear::{Ends, elements_in, scalar_in};
 use fz_model::{Builtin, ConstraintParts, Scalar, Scalars};
 
 /// What a row of counts or loads is about.

@@ -1,11 +1,13 @@
 //! A search under way: the values and bounds so far, and the points that are to be visited.
 
 use crate::agenda::Agenda;
+use crate::ends::{Ends, admits, number_of, value_of};
+use crate::index::Search;
 use crate::proposal::Proposal;
+use crate::row::{Rule, Sums};
 use crate::stop::Stop;
 use crate::tables::{Reach, all_ends, all_open, all_sums, no_reaches};
 use fz_base::Value;
-use fz_linear::{Ends, Rule, Search, Sums, admits, number_of, value_of};
 use fz_model::{Domain, Kind, Model, Partial, Scalar};
 use std::alloc::{AllocError, Global};
 
@@ -32,11 +34,11 @@ pub(crate) struct Work<'k, 'm, 'a> {
     sums: Vec<Sums>,
     /// and how far the products of each point can move
     reaches: Vec<Reach>,
-    agenda: Agenda,
+    pub(crate) agenda: Agenda,
     /// how many visits are left
     visits: usize,
     /// how many steps are left
-    left: usize,
+    pub(crate) left: usize,
 }
 
 impl<'k, 'm, 'a> Work<'k, 'm, 'a> {
@@ -83,10 +85,6 @@ impl<'k, 'm, 'a> Work<'k, 'm, 'a> {
             }
             None => Err(Stop::NothingFound),
         }
-    }
-
-    pub(crate) fn steps_left(&self) -> usize {
-        self.left
     }
 
     pub(crate) fn kind_of(&self, variable: usize) -> Kind {
@@ -199,10 +197,6 @@ impl<'k, 'm, 'a> Work<'k, 'm, 'a> {
             self.wake(place.point)?;
         }
         Ok(())
-    }
-
-    pub(crate) fn next_point(&mut self) -> Option<usize> {
-        self.agenda.take_first()
     }
 
     /// Gives a variable a value for a trial, where its domain and bounds admit that, and tells

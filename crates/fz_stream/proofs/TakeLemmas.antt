@@ -62,19 +62,6 @@ pub record Taking (old now : Held) (piece : List ℕ) (at : ℕ) : Type 0 where
   pub room : (bytes : List ℕ) (frames : List Frame) → Stands old bytes frames
       → HasRoomFor bytes piece frames at
 
-pub start_taking : (old : Held) (piece : List ℕ) → old.line ≤ length old.buffer.items
-    → length old.buffer.items ≤ 2 ^ 24 → old.before + length old.buffer.items ≤ 2 ^ 40
-    → Taking old old piece 0
-start_taking old piece r l m = record {
-  within = omega arith;
-  line = r;
-  count = omega arith;
-  most = l;
-  most_taken = m;
-  stands = λ bytes frames k. subst (λ b. Stands old b frames) (sym (append-nil bytes)) k;
-  room = λ bytes frames k i l. absurd (omega (arith, l));
-}
-
 -- the next line of the piece
 module _ (old now : Held) (piece : List ℕ) (at : ℕ) (t : Taking old now piece at) (part : List ℕ) (rest : List ℕ) (left : rest ≡ drop at piece) (front : part ≡ take (length part) rest)
     (within : length part ≤ length rest) (some : 0 < length part) (cut : lines_of rest ≡ part ∷ lines_of (drop (length part) rest)) where

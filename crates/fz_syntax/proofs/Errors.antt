@@ -3,7 +3,7 @@ use Rattle.std.proofs.Common.{◌≡◌, List}
 use Rattle.std.specs.Prelude.{Err}
 use Rattle.fz_syntax.specs.declared.parser.refusal.Refusal.{Refusal}
 use Rattle.fz_syntax.specs.declared.parser.refusal.Refusal.TheVariants as refusals
-use Rattle.fz_lex.specs.Token.{TokenValue}
+use Rattle.fz_tree.specs.of_lex.Token.{TokenValue}
 use Rattle.fz_syntax.specs.Reading.{FaultKind, Syntax, Float, TooDeep, TooMany, Read, unexpected}
 use Rattle.fz_syntax.specs.Outcome.{IsRefusal, Fails, unexpected_kind}
 

@@ -1,348 +1,261 @@
--- What is read of an expression is spelled so, and what is spelled so is read again.
-use Rattle.std.proofs.Common.{◌≡◌, ℕ, ℤ, ◌≤◌, ◌<◌, Bool, true, false, List, [], ◌∷◌, ◌++◌, length, drop, Ok, refl, ap, subst, ◌∙◌, inl, inr, arith, length-append, ◌||◌}
+-- The laws of literals and expressions.
+use Rattle.std.proofs.Common.{◌≡◌, ℕ, ℤ, ◌≤◌, Bool, true, false, not, List, [], ◌∷◌, ◌++◌, length, drop, Ok, refl, ap, ◌∙◌, arith, ◌||◌}
 use Rattle.std.specs.Prelude.{codes}
 use Rattle.std.specs.List.{AllByRecursion}
-use Rattle.fz_lex.specs.declared.token.Mark.TheVariants.{OpenParen, OpenBracket, CloseBracket, OpenBrace, CloseBrace, DotDot}
-use Rattle.fz_lex.specs.Token.{TokenValue, Word, Whole, FloatText, StringText, Marked}
+use Rattle.fz_tree.specs.of_lex.declared.token.Mark.TheVariants.{OpenBracket, CloseBracket, OpenBrace, CloseBrace, DotDot}
+use Rattle.fz_tree.specs.of_lex.Token.{TokenValue, Word, Whole, Marked}
 use Rattle.fz_tree.specs.Tree.{Literal, Number, Truth, Range, Braces, Basic, Lit, Named, Expr, One, Several}
 use Rattle.fz_tree.specs.Tokens.{mark, number_toks, literal_toks, name_toks, basic_toks, expr_toks, separated}
 use Rattle.fz_tree.specs.Text.{Limits, is_reserved, IsName, IsLiteral, IsBounds, IsBasic, IsExpr, IsLiteralBasic}
-use Rattle.fz_syntax.specs.Reading.{Reader, is_mark, is_word, next_passes, next_is, next_word, list_at, at_most, whole_at, name_at, is_whole, is_name, begins_literal, begins_basic, braces_at, from_whole, literal_at, basic_at, expr_list_at, expr_at, literal_basic_at}
-use Rattle.fz_syntax.proofs.Lists.{bind_ok, ok_is, Shrinks}
-use Rattle.fz_syntax.proofs.Shorter.{Shortens, whole_shortens, at_most_shortens}
-use Rattle.fz_syntax.proofs.ListLaws.{Took, Takes, Always, chosen, marked_tokens, worded_tokens, list_takes, list_count, at_most_takes, at_most_below, at_most_again}
-use Rattle.fz_syntax.proofs.ListAgain.{list_again}
+use Rattle.fz_syntax.specs.Reading.{Reader, is_mark, next_passes, next_is, next_word, list_at, at_most, any_number, whole_at, name_at, is_whole, is_name, begins_literal, begins_basic, braces_at, from_whole, literal_at, basic_at, expr_list_at, expr_at, literal_basic_at}
+use Rattle.fz_syntax.proofs.Lists.{Shrinks}
+use Rattle.fz_syntax.proofs.Laws.{Always, Took, Takes, ◌⟫◌, step, made, choose, refused, first, marked, worded}
+use Rattle.fz_syntax.proofs.ListLaws.{Law, Ends, no_range, fits_more, apart, AtMost, bounded, unbounded, list_again, bounded_list_takes}
 
--- what follows a part isn't a continuation of it
-pub record Ends (rest : List TokenValue) : Type 0 where
-  pub no_range : next_is DotDot rest ≡ false
-  pub no_args : next_is OpenParen rest ≡ false
+-- limits that are no smaller
+pub record Allow (less more : Limits) : Type 0 where
+  pub elements : less.elements ≤ more.elements
+  pub size : less.size ≤ more.size
+  pub depth : less.depth ≤ more.depth
 
--- what is spelled with a token at least is read with one
-pub shortens_from : {A : Type 0} (toks : A → List TokenValue) (Is : A → Type 0) (read : Reader A)
-    → Takes toks Is read → ((x : A) → 0 < length (toks x)) → Shortens read
-shortens_from toks Is read takes some tokens x rest e =
-    let t = takes tokens (x, rest) e in
-    omega (arith, ap length t.parts, length-append (toks x) rest, some x)
-
-pub all_always : {A : Type 0} (xs : List A) → AllByRecursion Always xs
-all_always [] = tt
-all_always (x ∷ xs) = (tt, all_always xs)
+pub same : (limits : Limits) → Allow limits limits
+same limits = record { elements = omega arith; size = omega arith; depth = omega arith }
 
 -- ---- integers and names
 
 pub whole_takes : Takes number_toks Always whole_at
 unfolding whole_at
-whole_takes [] x e = absurd cc
-whole_takes (Whole n ∷ ts) x e = subst (Took number_toks Always (Whole n ∷ ts)) (ok_is (n, ts) x e) (record { parts = refl; fits = tt })
-whole_takes (Word n ∷ ts) x e = absurd cc
-whole_takes (FloatText n ∷ ts) x e = absurd cc
-whole_takes (StringText n ∷ ts) x e = absurd cc
-whole_takes (Marked n ∷ ts) x e = absurd cc
+whole_takes (Whole n ∷ ts) x e = made e first tt
+whole_takes [] x e = refused e
+whole_takes (_ ∷ ts) x e = refused e
 
-pub whole_again : (n : ℤ) (rest : List TokenValue) → whole_at (Whole n ∷ rest) ≡ Ok (n, rest)
+whole_again : (n : ℤ) (rest : List TokenValue) → whole_at (Whole n ∷ rest) ≡ Ok (n, rest)
 unfolding whole_at
 whole_again n rest = refl
 
-whole_starts : (tokens : List TokenValue) (x : ℤ × List TokenValue) → whole_at tokens ≡ Ok x
-    → next_passes is_whole tokens ≡ true
-unfolding whole_at
-whole_starts [] x e = absurd cc
-whole_starts (Whole n ∷ ts) x e = refl
-whole_starts (Word n ∷ ts) x e = absurd cc
-whole_starts (FloatText n ∷ ts) x e = absurd cc
-whole_starts (StringText n ∷ ts) x e = absurd cc
-whole_starts (Marked n ∷ ts) x e = absurd cc
+pub whole_law : Law is_whole number_toks Always Always whole_at
+whole_law = record {
+  takes = whole_takes;
+  again = λ n rest is ends. whole_again n rest;
+  begun = λ n rest is. refl;
+}
 
 pub name_takes : Takes name_toks IsName name_at
 unfolding name_at
-name_takes [] x e = absurd cc
 name_takes (Word w ∷ ts) x e =
-    elim (chosen (is_reserved w) _ _ (Ok x) e) [
-      | inl c ↦ absurd (let d = c.1 in cc)
-      | inr c ↦ subst (Took name_toks IsName (Word w ∷ ts)) (ok_is (w, ts) x c.1) (record { parts = refl; fits = c.0 })
-    ]
-name_takes (Whole n ∷ ts) x e = absurd cc
-name_takes (FloatText n ∷ ts) x e = absurd cc
-name_takes (StringText n ∷ ts) x e = absurd cc
-name_takes (Marked n ∷ ts) x e = absurd cc
+    choose (is_reserved w) _ _ e (λ reserved f. refused f) (λ free f. made f first free)
+name_takes [] x e = refused e
+name_takes (_ ∷ ts) x e = refused e
 
 pub name_again : (name : List ℕ) (rest : List TokenValue) → IsName name
     → name_at (Word name ∷ rest) ≡ Ok (name, rest)
 unfolding name_at
 name_again name rest is = rw is refl
 
--- ---- literals
+-- ---- what a literal begins with
 
-abbrev element : Limits → ℕ → Reader ℤ
-element limits = at_most limits.elements is_whole whole_at
+pub literal_begun : (x : Literal) (rest : List TokenValue)
+    → next_passes begins_literal (literal_toks x ++ rest) ≡ true
+literal_begun (Truth true) rest = refl
+literal_begun (Truth false) rest = refl
+literal_begun _ rest = refl
 
-pub braces_take : (limits : Limits) (tokens : List TokenValue) (x : Literal × List TokenValue)
-    → braces_at limits tokens ≡ Ok x
-    → Took literal_toks (IsBounds limits) (Marked OpenBrace ∷ tokens) x
-unfolding braces_at
-braces_take limits tokens x e =
-    let a = bind_ok (list_at CloseBrace (element limits) tokens) (λ numbers. Ok (Braces numbers.0, numbers.1)) x e in
-    let t = list_takes number_toks Always CloseBrace (element limits) (at_most_takes number_toks Always limits.elements is_whole whole_at whole_takes) tokens a.0 a.1 in
-    let n = list_count limits.elements CloseBrace (element limits) (at_most_below limits.elements is_whole whole_at whole_starts) tokens a.0 a.1 in
-    let made : Literal × List TokenValue = (Braces a.0.0, a.0.1) in
-    subst (Took literal_toks (IsBounds limits) (Marked OpenBrace ∷ tokens)) (ok_is made x a.2)
-    (record { parts = ap (λ (ys : List TokenValue). Marked OpenBrace ∷ ys) t.parts; fits = n })
-
-pub braces_again : (limits : Limits) (numbers : List ℤ) (rest : List TokenValue)
-    → length numbers ≤ limits.elements → braces_at limits
-    ((separated number_toks numbers ++ mark CloseBrace) ++ rest) ≡ Ok (Braces numbers, rest)
-unfolding braces_at
-braces_again limits numbers rest fits =
-    let again = list_again Always number_toks Always CloseBrace (element limits) (at_most_shortens limits.elements is_whole whole_at whole_shortens) limits.elements
-    (λ i n ts lt is ends. at_most_again limits.elements is_whole whole_at i (Whole n ∷ ts) lt ∙ whole_again n ts) (λ ts. tt) (λ ts. tt) refl refl (λ n ts is. refl) numbers rest fits (all_always numbers) in
-    rw again refl
-
-from_whole_takes : (limits : Limits) (low : ℤ) (tokens : List TokenValue)
-    (x : Literal × List TokenValue) → from_whole low tokens ≡ Ok x
-    → Took literal_toks (IsLiteral limits) (Whole low ∷ tokens) x
-unfolding from_whole
-from_whole_takes limits low tokens x e =
-    elim (chosen (next_is DotDot tokens) _ _ (Ok x) e) [
-      | inl c ↦
-          let a = bind_ok (whole_at (drop 1 tokens)) (λ high. Ok (Range low high.0, high.1)) x c.1 in
-          let t = whole_takes (drop 1 tokens) a.0 a.1 in
-          let made : Literal × List TokenValue = (Range low a.0.0, a.0.1) in
-          subst (Took literal_toks (IsLiteral limits) (Whole low ∷ tokens)) (ok_is made x a.2)
-          (record { parts = ap (λ (ys : List TokenValue). Whole low ∷ ys) (marked_tokens DotDot tokens c.0 ∙ ap (λ (ys : List TokenValue). Marked DotDot ∷ ys) t.parts); fits = tt })
-      | inr c ↦ subst (Took literal_toks (IsLiteral limits) (Whole low ∷ tokens)) (ok_is (Number low, tokens) x c.1) (record { parts = refl; fits = tt })
-    ]
-
-literal_of_bounds : (limits : Limits) (l : Literal) → IsBounds limits l → IsLiteral limits l
-literal_of_bounds limits (Number n) is = tt
-literal_of_bounds limits (Truth b) is = tt
-literal_of_bounds limits (Range low high) is = tt
-literal_of_bounds limits (Braces numbers) is = is
-
-pub literal_takes : (limits : Limits) → Takes literal_toks (IsLiteral limits) (literal_at limits)
-unfolding literal_at
-literal_takes limits tokens x e =
-    elim (chosen (next_passes is_whole tokens) _ _ (Ok x) e) [
-      | inl c ↦
-          let a = bind_ok (whole_at tokens) (λ low. from_whole low.0 low.1) x c.1 in
-          let t = whole_takes tokens a.0 a.1 in
-          let u = from_whole_takes limits a.0.0 a.0.1 x a.2 in
-          record { parts = t.parts ∙ u.parts; fits = u.fits }
-      | inr c ↦ elim (chosen (next_word (codes "true") tokens) _ _ (Ok x) c.1) [
-        | inl d ↦ subst (Took literal_toks (IsLiteral limits) tokens) (ok_is (Truth true, drop 1 tokens) x d.1) (record { parts = worded_tokens (codes "true") tokens d.0; fits = tt })
-        | inr d ↦ elim (chosen (next_word (codes "false") tokens) _ _ (Ok x) d.1) [
-          | inl f ↦ subst (Took literal_toks (IsLiteral limits) tokens) (ok_is (Truth false, drop 1 tokens) x f.1) (record { parts = worded_tokens (codes "false") tokens f.0; fits = tt })
-          | inr f ↦ elim (chosen (next_is OpenBrace tokens) _ _ (Ok x) f.1) [
-            | inl g ↦ let u = braces_take limits (drop 1 tokens) x g.1 in record { parts = marked_tokens OpenBrace tokens g.0 ∙ u.parts; fits = literal_of_bounds limits x.0 u.fits }
-            | inr g ↦ absurd (let d = g.1 in cc)
-          ]
-        ]
-      ]
-    ]
-
-pub literal_again : (limits : Limits) (l : Literal) (rest : List TokenValue) → IsLiteral limits l
-    → next_is DotDot rest ≡ false → literal_at limits (literal_toks l ++ rest) ≡ Ok (l, rest)
-unfolding literal_at whole_at from_whole
-literal_again limits (Number n) rest is ends = rw ends refl
-literal_again limits (Truth true) rest is ends = refl
-literal_again limits (Truth false) rest is ends = refl
-literal_again limits (Range low high) rest is ends = refl
-literal_again limits (Braces numbers) rest is ends = braces_again limits numbers rest is
-
-or_first : (a b : Bool) → a ≡ true → (a || b) ≡ true
-or_first true b e = refl
-or_first false b e = absurd cc
-
-or_second : (a b : Bool) → b ≡ true → (a || b) ≡ true
-or_second true b e = refl
-or_second false b e = e
-
-tests_any : (t : TokenValue) (rest : List TokenValue) (limits : Limits)
-    (x : Literal × List TokenValue) → literal_at limits (t ∷ rest) ≡ Ok x → begins_literal t ≡ true
-unfolding literal_at
-tests_any t rest limits x e =
-    elim (chosen (is_whole t) _ _ (Ok x) e) [
-      | inl c ↦ or_first (is_whole t) _ c.0
-      | inr c ↦ elim (chosen (is_word (codes "true") t) _ _ (Ok x) c.1) [
-        | inl d ↦ or_second (is_whole t) _ (or_first (is_word (codes "true") t) _ d.0)
-        | inr d ↦ elim (chosen (is_word (codes "false") t) _ _ (Ok x) d.1) [
-          | inl f ↦ or_second (is_whole t) _ (or_second (is_word (codes "true") t) _ (or_first (is_word (codes "false") t) _ f.0))
-          | inr f ↦ elim (chosen (is_mark OpenBrace t) _ _ (Ok x) f.1) [
-            | inl g ↦ or_second (is_whole t) _ (or_second (is_word (codes "true") t) _ (or_second (is_word (codes "false") t) _ g.0))
-            | inr g ↦ absurd (let d = g.1 in cc)
-          ]
-        ]
-      ]
-    ]
-
-pub literal_starts : (limits : Limits) (tokens : List TokenValue) (x : Literal × List TokenValue)
-    → literal_at limits tokens ≡ Ok x → next_passes begins_literal tokens ≡ true
-unfolding literal_at
-literal_starts limits [] x e = absurd cc
-literal_starts limits (t ∷ rest) x e = tests_any t rest limits x e
-
--- ---- basic expressions
-
-pub basic_takes : (limits : Limits) → Takes basic_toks (IsBasic limits) (basic_at limits)
-unfolding basic_at
-basic_takes limits tokens x e =
-    elim (chosen (next_passes is_name tokens) _ _ (Ok x) e) [
-      | inl c ↦
-          let a = bind_ok (name_at tokens) (λ name. Ok (Named name.0, name.1)) x c.1 in
-          let t = name_takes tokens a.0 a.1 in
-          let made : Basic × List TokenValue = (Named a.0.0, a.0.1) in
-          subst (Took basic_toks (IsBasic limits) tokens) (ok_is made x a.2) (record { parts = t.parts; fits = t.fits })
-      | inr c ↦
-          let a = bind_ok (literal_at limits tokens) (λ l. Ok (Lit l.0, l.1)) x c.1 in
-          let t = literal_takes limits tokens a.0 a.1 in
-          let made : Basic × List TokenValue = (Lit a.0.0, a.0.1) in
-          subst (Took basic_toks (IsBasic limits) tokens) (ok_is made x a.2) (record { parts = t.parts; fits = t.fits })
-    ]
-
--- a literal begins with no name
-pub literal_no_name : (l : Literal) (rest : List TokenValue)
-    → next_passes is_name (literal_toks l ++ rest) ≡ false
-literal_no_name (Number n) rest = refl
+-- it isn't a name
+pub literal_no_name : (x : Literal) (rest : List TokenValue)
+    → next_passes is_name (literal_toks x ++ rest) ≡ false
 literal_no_name (Truth true) rest = refl
 literal_no_name (Truth false) rest = refl
-literal_no_name (Range low high) rest = refl
-literal_no_name (Braces numbers) rest = refl
+literal_no_name _ rest = refl
 
-pub basic_again : (limits : Limits) (b : Basic) (rest : List TokenValue) → IsBasic limits b
-    → next_is DotDot rest ≡ false → basic_at limits (basic_toks b ++ rest) ≡ Ok (b, rest)
-unfolding basic_at
-basic_again limits (Named name) rest is ends = rw (is, name_again name rest is) refl
-basic_again limits (Lit l) rest is ends = rw (literal_no_name l rest, literal_again limits l rest is ends) refl
+-- where one of two tests is passed
+pub first_of_two : (f g : TokenValue → Bool) (tokens : List TokenValue)
+    → next_passes f tokens ≡ true → next_passes (λ t. f t || g t) tokens ≡ true
+first_of_two f g [] e = e
+first_of_two f g (t ∷ ts) e = rw e refl
 
-starts_one_of : (limits : Limits) (t : TokenValue) (rest : List TokenValue)
-    (x : Basic × List TokenValue) → basic_at limits (t ∷ rest) ≡ Ok x → begins_basic t ≡ true
-unfolding basic_at
-starts_one_of limits t rest x e =
-    elim (chosen (is_name t) _ _ (Ok x) e) [
-      | inl c ↦ or_first (is_name t) _ c.0
-      | inr c ↦
-          let a = bind_ok (literal_at limits (t ∷ rest)) (λ l. Ok (Lit l.0, l.1)) x c.1 in
-          or_second (is_name t) _ (tests_any t rest limits a.0 a.1)
-    ]
+pub second_of_two : (f g : TokenValue → Bool) (tokens : List TokenValue)
+    → next_passes g tokens ≡ true → next_passes (λ t. f t || g t) tokens ≡ true
+second_of_two f g [] e = e
+second_of_two f g (t ∷ ts) e = or_true (f t) (g t) e
+  where
+    or_true : (a b : Bool) → b ≡ true → (a || b) ≡ true
+    or_true true b h = refl
+    or_true false b h = h
 
-basic_starts : (limits : Limits) (tokens : List TokenValue) (x : Basic × List TokenValue)
-    → basic_at limits tokens ≡ Ok x → next_passes begins_basic tokens ≡ true
-unfolding basic_at literal_at
-basic_starts limits [] x e = absurd cc
-basic_starts limits (t ∷ rest) x e = starts_one_of limits t rest x e
+abbrev pub begins_expr : TokenValue → Bool
+begins_expr t = is_mark OpenBracket t || begins_basic t
 
-pub literal_some : (l : Literal) → 0 < length (literal_toks l)
-literal_some (Number n) = omega arith
-literal_some (Truth b) = omega arith
-literal_some (Range low high) = omega arith
-literal_some (Braces numbers) = omega arith
+pub all_always : {A : Type 0} (xs : List A) → AllByRecursion Always xs
+all_always [] = tt
+all_always (x ∷ xs) = (tt, all_always xs)
 
-pub basic_some : (b : Basic) → 0 < length (basic_toks b)
-basic_some (Lit l) = literal_some l
-basic_some (Named name) = omega arith
+literal_of_bounds : (limits : Limits) (x : Literal) → IsBounds limits x → IsLiteral limits x
+literal_of_bounds limits (Braces numbers) is = is
+literal_of_bounds limits _ is = tt
 
-pub basic_shortens : (limits : Limits) → Shortens (basic_at limits)
-basic_shortens limits = shortens_from basic_toks (IsBasic limits) (basic_at limits) (basic_takes limits) basic_some
+-- Reading under limits that are no smaller.
+module _ (l m : Limits) (allow : Allow l m) where
+  -- ---- literals
 
--- a basic expression begins with no bracket
-pub basic_no_bracket : (b : Basic) (rest : List TokenValue)
-    → next_is OpenBracket (basic_toks b ++ rest) ≡ false
-basic_no_bracket (Lit (Number n)) rest = refl
-basic_no_bracket (Lit (Truth b)) rest = refl
-basic_no_bracket (Lit (Range low high)) rest = refl
-basic_no_bracket (Lit (Braces numbers)) rest = refl
-basic_no_bracket (Named name) rest = refl
+  pub braces_take : (tokens : List TokenValue) (x : Literal × List TokenValue)
+      → braces_at m tokens ≡ Ok x → Took literal_toks (IsBounds m) (Marked OpenBrace ∷ tokens) x
+  unfolding braces_at
+  braces_take tokens x e =
+      let numbers = step _ (bounded_list_takes whole_law m.elements CloseBrace tokens) e in
+      made numbers.on (first ⟫ numbers.parts) numbers.fits.0
 
-basic_no_close : (b : Basic) (rest : List TokenValue)
-    → next_is CloseBracket (basic_toks b ++ rest) ≡ false
-basic_no_close (Lit (Number n)) rest = refl
-basic_no_close (Lit (Truth b)) rest = refl
-basic_no_close (Lit (Range low high)) rest = refl
-basic_no_close (Lit (Braces numbers)) rest = refl
-basic_no_close (Named name) rest = refl
+  pub braces_again : (numbers : List ℤ) (rest : List TokenValue) → length numbers ≤ l.elements
+      → braces_at m ((separated number_toks numbers ++ mark CloseBrace) ++ rest)
+      ≡ Ok (Braces numbers, rest)
+  unfolding braces_at
+  braces_again numbers rest fits =
+      rw (list_again (bounded whole_law m.elements) CloseBrace refl refl refl numbers rest
+      (omega arith) (all_always numbers)) refl
 
--- ---- lists of them
+  from_whole_takes : (low : ℤ) (tokens : List TokenValue) (x : Literal × List TokenValue)
+      → from_whole low tokens ≡ Ok x → Took literal_toks (IsLiteral m) (Whole low ∷ tokens) x
+  unfolding from_whole
+  from_whole_takes low tokens x e = choose (next_is DotDot tokens) _ _ e
+      (λ dots f.
+      let high = step _ (whole_takes (drop 1 tokens)) f in
+      made high.on (first ⟫ marked dots ⟫ high.parts) tt)
+      (λ other f. made f first tt)
 
-abbrev listed : Limits → ℕ → Reader Basic
-listed limits = at_most limits.elements begins_basic (basic_at limits)
+  literal_takes : Takes literal_toks (IsLiteral m) (literal_at m)
+  unfolding literal_at
+  literal_takes tokens x e = choose (next_passes is_whole tokens) _ _ e
+      (λ whole f.
+      let low = step _ (whole_takes tokens) f in
+      let t = from_whole_takes low.value low.left x low.on in
+      record { parts = low.parts.is ∙ t.parts; fits = t.fits })
+      (λ other f. choose (next_word (codes "true") tokens) _ _ f
+      (λ word g. made g (worded word) tt)
+      (λ other g. choose (next_word (codes "false") tokens) _ _ g
+      (λ word h. made h (worded word) tt)
+      (λ other h. choose (next_is OpenBrace tokens) _ _ h
+      (λ brace k.
+      let t = braces_take (drop 1 tokens) x k in
+      record { parts = (marked brace).is ∙ t.parts; fits = literal_of_bounds m x.0 t.fits })
+      (λ other k. refused k))))
+
+  literal_again : (x : Literal) (rest : List TokenValue) → IsLiteral l x → Ends rest
+      → literal_at m (literal_toks x ++ rest) ≡ Ok (x, rest)
+  unfolding literal_at whole_at from_whole
+  literal_again (Number n) rest is ends = rw (no_range rest ends) refl
+  literal_again (Truth true) rest is ends = refl
+  literal_again (Truth false) rest is ends = refl
+  literal_again (Range low high) rest is ends = refl
+  literal_again (Braces numbers) rest is ends = braces_again numbers rest is
+
+  pub literal_law : Law begins_literal literal_toks (IsLiteral l) (IsLiteral m) (literal_at m)
+  literal_law = record {
+    takes = literal_takes;
+    again = literal_again;
+    begun = λ x rest is. literal_begun x rest;
+  }
+
+  -- ---- basic expressions
+
+  basic_takes : Takes basic_toks (IsBasic m) (basic_at m)
+  unfolding basic_at
+  basic_takes tokens x e = choose (next_passes is_name tokens) _ _ e
+      (λ named f. let name = step _ (name_takes tokens) f in made name.on name.parts name.fits)
+      (λ other f. let t = step _ (literal_takes tokens) f in made t.on t.parts t.fits)
+
+  basic_again : (x : Basic) (rest : List TokenValue) → IsBasic l x → Ends rest
+      → basic_at m (basic_toks x ++ rest) ≡ Ok (x, rest)
+  unfolding basic_at
+  basic_again (Named name) rest is ends = rw (is, name_again name rest is) refl
+  basic_again (Lit x) rest is ends =
+      rw (literal_no_name x rest, literal_again x rest is ends) refl
+
+  basic_begun : (x : Basic) (rest : List TokenValue) → IsBasic m x
+      → next_passes begins_basic (basic_toks x ++ rest) ≡ true
+  basic_begun (Named name) rest is = rw is refl
+  basic_begun (Lit x) rest is =
+      second_of_two is_name begins_literal (literal_toks x ++ rest) (literal_begun x rest)
+
+  pub basic_law : Law begins_basic basic_toks (IsBasic l) (IsBasic m) (basic_at m)
+  basic_law = record { takes = basic_takes; again = basic_again; begun = basic_begun }
+
+  -- ---- lists of them
+
+  pub expr_list_takes : Takes (λ bs. separated basic_toks bs ++ mark CloseBracket)
+      (AtMost m.elements (IsBasic m)) (expr_list_at m)
+  unfolding expr_list_at
+  expr_list_takes = bounded_list_takes basic_law m.elements CloseBracket
+
+  pub expr_list_again : (bs : List Basic) (rest : List TokenValue)
+      → AtMost l.elements (IsBasic l) bs → expr_list_at m
+      ((separated basic_toks bs ++ mark CloseBracket) ++ rest) ≡ Ok (bs, rest)
+  unfolding expr_list_at
+  expr_list_again bs rest is =
+      list_again (bounded basic_law m.elements) CloseBracket refl refl refl bs rest
+      (omega (arith, is.0)) is.1
+
+  expr_takes : Takes expr_toks (IsExpr m) (expr_at m)
+  unfolding expr_at
+  expr_takes tokens x e = choose (next_is OpenBracket tokens) _ _ e
+      (λ bracket f.
+      let bs = step _ (expr_list_takes (drop 1 tokens)) f in
+      made bs.on (marked bracket ⟫ bs.parts) bs.fits)
+      (λ other f. let b = step _ (basic_takes tokens) f in made b.on b.parts b.fits)
+
+  expr_again : (x : Expr) (rest : List TokenValue) → IsExpr l x → Ends rest
+      → expr_at m (expr_toks x ++ rest) ≡ Ok (x, rest)
+  unfolding expr_at
+  expr_again (Several bs) rest is ends = rw (expr_list_again bs rest is) refl
+  expr_again (One b) rest is ends =
+      let begun = basic_begun b rest (fits_more basic_law b is) in
+      let other = apart begins_basic OpenBracket (basic_toks b ++ rest) refl begun in
+      rw (other, basic_again b rest is ends) refl
+
+  expr_begun : (x : Expr) (rest : List TokenValue) → IsExpr m x
+      → next_passes begins_expr (expr_toks x ++ rest) ≡ true
+  expr_begun (Several bs) rest is = refl
+  expr_begun (One b) rest is =
+      second_of_two (is_mark OpenBracket) begins_basic (basic_toks b ++ rest)
+      (basic_begun b rest is)
+
+  pub expr_law : Law begins_expr expr_toks (IsExpr l) (IsExpr m) (expr_at m)
+  expr_law = record { takes = expr_takes; again = expr_again; begun = expr_begun }
+
+  -- ---- literals as basic expressions
+
+  literal_basic_takes : Takes basic_toks (IsLiteralBasic m) (literal_basic_at m)
+  unfolding literal_basic_at
+  literal_basic_takes tokens x e =
+      let t = step _ (literal_takes tokens) e in made t.on t.parts t.fits
+
+  literal_basic_again : (x : Basic) (rest : List TokenValue) → IsLiteralBasic l x → Ends rest
+      → literal_basic_at m (basic_toks x ++ rest) ≡ Ok (x, rest)
+  unfolding literal_basic_at
+  literal_basic_again (Lit x) rest is ends = rw (literal_again x rest is ends) refl
+  literal_basic_again (Named name) rest is ends = absurd is
+
+  literal_basic_begun : (x : Basic) (rest : List TokenValue) → IsLiteralBasic m x
+      → next_passes begins_literal (basic_toks x ++ rest) ≡ true
+  literal_basic_begun (Lit x) rest is = literal_begun x rest
+  literal_basic_begun (Named name) rest is = absurd is
+
+  pub literal_basic_law : Law begins_literal basic_toks (IsLiteralBasic l) (IsLiteralBasic m)
+      (literal_basic_at m)
+  literal_basic_law = record {
+    takes = literal_basic_takes;
+    again = literal_basic_again;
+    begun = literal_basic_begun;
+  }
+
+-- ---- what is read takes a token at least
+
+pub numbers_shrink : (limit : ℕ) → Shrinks (at_most limit is_whole whole_at)
+numbers_shrink limit = (bounded whole_law limit).shrinks
 
 pub listed_shrinks : (limits : Limits)
     → Shrinks (at_most limits.elements begins_basic (basic_at limits))
-listed_shrinks limits = at_most_shortens limits.elements begins_basic (basic_at limits) (basic_shortens limits)
-
-abbrev AreBasics : Limits → List Basic → Type 0
-AreBasics limits bs = (length bs ≤ limits.elements) × AllByRecursion (IsBasic limits) bs
-
-pub expr_list_takes : (limits : Limits) → Takes (λ bs. separated basic_toks bs ++ mark CloseBracket)
-    (AreBasics limits) (expr_list_at limits)
-unfolding expr_list_at
-expr_list_takes limits tokens x e =
-    let t = list_takes basic_toks (IsBasic limits) CloseBracket (listed limits) (at_most_takes basic_toks (IsBasic limits) limits.elements begins_basic (basic_at limits) (basic_takes limits)) tokens x e in
-    let n = list_count limits.elements CloseBracket (listed limits) (at_most_below limits.elements begins_basic (basic_at limits) (basic_starts limits)) tokens x e in
-    record { parts = t.parts; fits = (n, t.fits) }
-
-pub expr_list_again : (limits : Limits) (bs : List Basic) (rest : List TokenValue)
-    → AreBasics limits bs → expr_list_at limits
-    ((separated basic_toks bs ++ mark CloseBracket) ++ rest) ≡ Ok (bs, rest)
-unfolding expr_list_at
-expr_list_again limits bs rest is =
-    let NoRange : List TokenValue → Type 0 = λ ts. next_is DotDot ts ≡ false in
-    list_again NoRange basic_toks (IsBasic limits) CloseBracket (listed limits) (listed_shrinks limits) limits.elements
-    (λ i b ts lt is ends. at_most_again limits.elements begins_basic (basic_at limits) i (basic_toks b ++ ts) lt ∙ basic_again limits b ts is ends) (λ ts. refl) (λ ts. refl) refl refl (λ b ts is. basic_no_close b ts) bs rest is.0 is.1
-
-pub expr_takes : (limits : Limits) → Takes expr_toks (IsExpr limits) (expr_at limits)
-unfolding expr_at
-expr_takes limits tokens x e =
-    elim (chosen (next_is OpenBracket tokens) _ _ (Ok x) e) [
-      | inl c ↦
-          let a = bind_ok (expr_list_at limits (drop 1 tokens)) (λ bs. Ok (Several bs.0, bs.1)) x c.1 in
-          let t = expr_list_takes limits (drop 1 tokens) a.0 a.1 in
-          let made : Expr × List TokenValue = (Several a.0.0, a.0.1) in
-          subst (Took expr_toks (IsExpr limits) tokens) (ok_is made x a.2) (record { parts = marked_tokens OpenBracket tokens c.0 ∙ ap (λ (ys : List TokenValue). Marked OpenBracket ∷ ys) t.parts; fits = t.fits })
-      | inr c ↦
-          let a = bind_ok (basic_at limits tokens) (λ b. Ok (One b.0, b.1)) x c.1 in
-          let t = basic_takes limits tokens a.0 a.1 in
-          let made : Expr × List TokenValue = (One a.0.0, a.0.1) in
-          subst (Took expr_toks (IsExpr limits) tokens) (ok_is made x a.2) (record { parts = t.parts; fits = t.fits })
-    ]
-
-pub expr_again : (limits : Limits) (e : Expr) (rest : List TokenValue) → IsExpr limits e
-    → next_is DotDot rest ≡ false → expr_at limits (expr_toks e ++ rest) ≡ Ok (e, rest)
-unfolding expr_at
-expr_again limits (One b) rest is ends = rw (basic_no_bracket b rest, basic_again limits b rest is ends) refl
-expr_again limits (Several bs) rest is ends = rw (expr_list_again limits bs rest is) refl
-
-pub expr_some : (e : Expr) → 0 < length (expr_toks e)
-expr_some (One b) = basic_some b
-expr_some (Several bs) = omega arith
-
--- ---- literals as basic expressions
-
-pub literal_basic_takes : (limits : Limits)
-    → Takes basic_toks (IsLiteralBasic limits) (literal_basic_at limits)
-unfolding literal_basic_at
-literal_basic_takes limits tokens x e =
-    let a = bind_ok (literal_at limits tokens) (λ l. Ok (Lit l.0, l.1)) x e in
-    let t = literal_takes limits tokens a.0 a.1 in
-    let made : Basic × List TokenValue = (Lit a.0.0, a.0.1) in
-    subst (Took basic_toks (IsLiteralBasic limits) tokens) (ok_is made x a.2) (record { parts = t.parts; fits = t.fits })
-
-literal_basic_starts : (limits : Limits) (tokens : List TokenValue) (x : Basic × List TokenValue)
-    → literal_basic_at limits tokens ≡ Ok x → next_passes begins_literal tokens ≡ true
-unfolding literal_basic_at
-literal_basic_starts limits tokens x e =
-    let a = bind_ok (literal_at limits tokens) (λ l. Ok (Lit l.0, l.1)) x e in
-    literal_starts limits tokens a.0 a.1
+listed_shrinks limits = (bounded (basic_law limits limits (same limits)) limits.elements).shrinks
 
 pub literals_shrink : (limits : Limits)
     → Shrinks (at_most limits.elements begins_literal (literal_basic_at limits))
-literals_shrink limits = at_most_shortens limits.elements begins_literal (literal_basic_at limits) (shortens_from basic_toks (IsLiteralBasic limits) (literal_basic_at limits) (literal_basic_takes limits) basic_some)
-
-pub literal_list_takes : (limits : Limits) → Takes (λ bs. separated basic_toks bs
-    ++ mark CloseBracket) (λ bs. (length bs ≤ limits.elements)
-    × AllByRecursion (IsLiteralBasic limits) bs)
-    (list_at CloseBracket (at_most limits.elements begins_literal (literal_basic_at limits)))
-literal_list_takes limits tokens x e =
-    let t = list_takes basic_toks (IsLiteralBasic limits) CloseBracket (at_most limits.elements begins_literal (literal_basic_at limits)) (at_most_takes basic_toks (IsLiteralBasic limits) limits.elements begins_literal (literal_basic_at limits) (literal_basic_takes limits)) tokens x e in
-    let n = list_count limits.elements CloseBracket (at_most limits.elements begins_literal (literal_basic_at limits)) (at_most_below limits.elements begins_literal (literal_basic_at limits) (literal_basic_starts limits)) tokens x e in
-    record { parts = t.parts; fits = (n, t.fits) }
+literals_shrink limits =
+    (bounded (literal_basic_law limits limits (same limits)) limits.elements).shrinks

@@ -1,7 +1,7 @@
 -- The loop invariant over an array's index sets.
 use Rattle.std.proofs.Common.{◌≡◌, ℕ, zero, suc, List, [], ◌∷◌, ◌++◌, Ok, Err, refl, sym, ap, subst, ◌∙◌, append_assoc}
 use Rattle.std.proofs.lemmas.List.{append-nil}
-use Rattle.fz_lex.specs.Token.{TokenValue}
+use Rattle.fz_tree.specs.of_lex.Token.{TokenValue}
 use Rattle.fz_syntax.specs.declared.parser.refusal.Refusal.{Refusal}
 use Rattle.fz_tree.specs.Tree.{Literal}
 use Rattle.fz_tree.specs.Text.{Limits}

@@ -1,253 +1,320 @@
--- What is read of a list is spelled so, and what is spelled so is read again.
-use Rattle.std.proofs.Common.{◌≡◌, ℕ, zero, suc, ◌+◌, ◌≤◌, ◌<◌, Bool, true, false, cond, eqb, List, [], ◌∷◌, ◌++◌, length, drop, Ok, Err, refl, sym, ap, subst, ◌∙◌, append_assoc, ◌⊎◌, inl, inr, arith, ◌&&◌, nat_le}
+-- The laws of parts one after another and of lists with commas follow from those of their elements.
+use Rattle.std.proofs.Common.{◌≡◌, ℕ, zero, suc, ◌+◌, ◌≤◌, ◌<◌, Bool, true, false, cond, eqb, List, [], ◌∷◌, ◌++◌, length, drop, Ok, ⊎_elim, refl, sym, ap, subst, ◌∙◌, append_assoc, arith, length-append, ◌&&◌, ◌||◌, nat_le}
 use Rattle.std.specs.List.{flat_map, AllByRecursion}
-use Rattle.std.proofs.lemmas.Bool.{eqb-true, eq-eqb}
+use Rattle.std.proofs.lemmas.Bool.{eq-eqb, cases_Bool}
 use Rattle.std.proofs.lemmas.Bool.Decides.{nat_tests}
+use Rattle.std.specs.Str.{bytes_eq}
 use Rattle.std.proofs.lemmas.Slice.Eq.{bytes_eq-Decides}
 use Rattle.std.proofs.lemmas.List.Concat.{flat_map-cons}
-use Rattle.fz_lex.specs.declared.token.Mark.{Mark}
-use Rattle.fz_lex.specs.declared.token.Mark.TheVariants.{OpenParen, CloseParen, OpenBracket, CloseBracket, OpenBrace, CloseBrace, Comma, Semicolon, Colon, ColonColon, Equals, DotDot}
-use Rattle.fz_lex.specs.Token.{TokenValue, Word, Whole, FloatText, StringText, Marked}
+use Rattle.fz_tree.specs.of_lex.declared.token.Mark.{Mark}
+use Rattle.fz_tree.specs.of_lex.declared.token.Mark.TheVariants.{OpenParen, Comma, DotDot}
+use Rattle.fz_tree.specs.of_lex.Token.{TokenValue, Word, Marked}
 use Rattle.fz_tree.specs.Tokens.{separated, mark}
-use Rattle.fz_syntax.specs.Reading.{mark_number, next_word, word_at, Fault, Read, Reader, ◌>>=◌, is_mark, next_passes, next_is, many_upto, many_at, after_token, separated_at, list_at, mark_at, at_most, too_many}
-use Rattle.fz_syntax.proofs.Lists.{bind_ok, ok_is}
+use Rattle.fz_syntax.specs.Reading.{mark_number, next_word, Read, Reader, ◌>>=◌, is_mark, next_passes, next_is, many_upto, many_at, after_token, separated_at, list_at, mark_at, any_number, at_most}
+use Rattle.fz_syntax.proofs.Lists.{Shrinks, many_step, many_ends}
+use Rattle.fz_syntax.proofs.Separated.{Shrinks-after_token}
+use Rattle.fz_syntax.proofs.Laws.{same_mark, Took, Takes, Split, ◌⟫◌, step, made, choose, refused, none, marked, split_of, mark_takes, mark_again, marked_tokens}
 
--- what a reader took from the front
-pub record Took {A : Type 0} (toks : A → List TokenValue) (Is : A → Type 0) (tokens : List TokenValue) (x : A × List TokenValue) : Type 0 where
-  pub parts : tokens ≡ toks x.0 ++ x.1
-  pub fits : Is x.0
+-- What follows a part doesn't go on with it: it is neither the dots of a range nor the parenthesis
+-- of arguments.
+abbrev pub goes_on : TokenValue → Bool
+goes_on t = is_mark DotDot t || is_mark OpenParen t
 
-abbrev pub Takes : {A : Type 0} → (A → List TokenValue) → (A → Type 0) → Reader A → Type 0
-Takes {A} toks Is read = (tokens : List TokenValue) (x : A × List TokenValue) → read tokens ≡ Ok x → Took toks Is tokens x
+abbrev pub Ends : List TokenValue → Type 0
+Ends rest = next_passes goes_on rest ≡ false
 
--- which way a test went
-pub chosen : {A : Type 0} (b : Bool) (x y z : A) → cond b x y ≡ z
-    → ((b ≡ true) × (x ≡ z)) ⊎ ((b ≡ false) × (y ≡ z))
-chosen true x y z e = inl (refl, e)
-chosen false x y z e = inr (refl, e)
+neither : (a b : Bool) → (a || b) ≡ false → (a ≡ false) × (b ≡ false)
+neither true b e = absurd cc
+neither false b e = (refl, e)
 
-mark_of : ℕ → Mark
-mark_of n = cond (eqb n 0) OpenParen (cond (eqb n 1) CloseParen (cond (eqb n 2) OpenBracket (cond (eqb n 3) CloseBracket (cond (eqb n 4) OpenBrace (cond (eqb n 5) CloseBrace (cond (eqb n 6) Comma (cond (eqb n 7) Semicolon (cond (eqb n 8) Colon (cond (eqb n 9) ColonColon (cond (eqb n 10) Equals DotDot))))))))))
+pub no_range : (rest : List TokenValue) → Ends rest → next_is DotDot rest ≡ false
+no_range [] ends = refl
+no_range (t ∷ ts) ends = (neither (is_mark DotDot t) (is_mark OpenParen t) ends).0
 
-mark_of-mark_number : (m : Mark) → mark_of (mark_number m) ≡ m
-unfolding mark_of
-mark_of-mark_number OpenParen = refl
-mark_of-mark_number CloseParen = refl
-mark_of-mark_number OpenBracket = refl
-mark_of-mark_number CloseBracket = refl
-mark_of-mark_number OpenBrace = refl
-mark_of-mark_number CloseBrace = refl
-mark_of-mark_number Comma = refl
-mark_of-mark_number Semicolon = refl
-mark_of-mark_number Colon = refl
-mark_of-mark_number ColonColon = refl
-mark_of-mark_number Equals = refl
-mark_of-mark_number DotDot = refl
+pub no_args : (rest : List TokenValue) → Ends rest → next_is OpenParen rest ≡ false
+no_args [] ends = refl
+no_args (t ∷ ts) ends = (neither (is_mark DotDot t) (is_mark OpenParen t) ends).1
 
-same_mark : (m n : Mark) → is_mark m (Marked n) ≡ true → m ≡ n
-same_mark m n e = sym (mark_of-mark_number m) ∙ ap mark_of (eqb-true (mark_number m) (mark_number n) e) ∙ mark_of-mark_number n
+-- The laws of a production: what is read is spelled so and fits, what fits and is spelled so is
+-- read again, also under larger limits, and how it begins.
+pub record Law {A : Type 0} (begins : TokenValue → Bool) (toks : A → List TokenValue)
+    (Less Is : A → Type 0) (read : Reader A) : Type 0 where
+  pub takes : Takes toks Is read
+  pub again : (x : A) (rest : List TokenValue) → Less x → Ends rest
+      → read (toks x ++ rest) ≡ Ok (x, rest)
+  pub begun : (x : A) (rest : List TokenValue) → Is x
+      → next_passes begins (toks x ++ rest) ≡ true
 
--- tokens whose first is this mark
-pub marked_tokens : (m : Mark) (tokens : List TokenValue) → next_is m tokens ≡ true
-    → tokens ≡ Marked m ∷ drop 1 tokens
-marked_tokens m [] e = absurd cc
-marked_tokens m (Marked n ∷ rest) e = ap (λ k. Marked k ∷ rest) (sym (same_mark m n e))
-marked_tokens m (Word n ∷ rest) e = absurd cc
-marked_tokens m (Whole n ∷ rest) e = absurd cc
-marked_tokens m (FloatText n ∷ rest) e = absurd cc
-marked_tokens m (StringText n ∷ rest) e = absurd cc
+-- what begins so begins with no other mark
+pub apart : (begins : TokenValue → Bool) (m : Mark) (tokens : List TokenValue)
+    → begins (Marked m) ≡ false → next_passes begins tokens ≡ true → next_is m tokens ≡ false
+apart begins m [] never begun = refl
+apart begins m (Marked n ∷ rest) never begun =
+    ⊎_elim (λ e. let same = same_mark m n e in absurd cc) (λ e. e)
+    (cases_Bool (is_mark m (Marked n)))
+apart begins m (_ ∷ rest) never begun = refl
 
--- tokens whose first is this word
-pub worded_tokens : (text : List ℕ) (tokens : List TokenValue) → next_word text tokens ≡ true
-    → tokens ≡ Word text ∷ drop 1 tokens
-worded_tokens text [] e = absurd cc
-worded_tokens text (Word w ∷ rest) e = ap (λ k. Word k ∷ rest) ((bytes_eq-Decides w text).0 e)
-worded_tokens text (Marked n ∷ rest) e = absurd cc
-worded_tokens text (Whole n ∷ rest) e = absurd cc
-worded_tokens text (FloatText n ∷ rest) e = absurd cc
-worded_tokens text (StringText n ∷ rest) e = absurd cc
+-- and with no other word
+pub apart_word : (begins : TokenValue → Bool) (text : List ℕ) (tokens : List TokenValue)
+    → begins (Word text) ≡ false → next_passes begins tokens ≡ true
+    → next_word text tokens ≡ false
+apart_word begins text [] never begun = refl
+apart_word begins text (Word w ∷ rest) never begun =
+    ⊎_elim (λ e. let same = (bytes_eq-Decides w text).0 e in absurd cc) (λ e. e)
+    (cases_Bool (bytes_eq w text))
+apart_word begins text (_ ∷ rest) never begun = refl
 
--- a test that did not fail
-guard_passed : {A : Type 0} (b : Bool) (f : Fault) (x y : A × List TokenValue)
-    → cond b (Ok x) (Err f) ≡ Ok y → (b ≡ true) × (x ≡ y)
-guard_passed true f x y e = (refl, ok_is x y e)
-guard_passed false f x y e = absurd cc
+-- ---- parts one after another
 
-abbrev nothing_toks : List TokenValue → Unit {0} → List TokenValue
-nothing_toks toks u = toks
+-- each element at its index
+abbrev pub AllFrom : {A : Type 0} → (ℕ → A → Type 0) → ℕ → List A → Type 0
+AllFrom Is i [] = Unit {0}
+AllFrom Is i (x ∷ xs) = Is i x × AllFrom Is (i + 1) xs
 
-abbrev pub Always : {A : Type 0} → A → Type 0
-Always x = Unit {0}
+pub all_of : {A : Type 0} (Is : A → Type 0) (i : ℕ) (xs : List A) → AllFrom (λ _. Is) i xs
+    → AllByRecursion Is xs
+all_of Is i [] h = tt
+all_of Is i (x ∷ xs) h = (h.0, all_of Is (i + 1) xs h.1)
 
-pub mark_takes : (m : Mark) → Takes (λ _. Marked m ∷ []) Always (mark_at m)
-unfolding mark_at
-mark_takes m tokens x e =
-    let g = guard_passed (next_is m tokens) _ (tt, drop 1 tokens) x e in
-    subst (Took (λ _. Marked m ∷ []) Always tokens) g.1 (record { parts = marked_tokens m tokens g.0; fits = tt })
+pub few_of : {A : Type 0} (Is : A → Type 0) (limit i : ℕ) (xs : List A) → i ≤ limit
+    → AllFrom (λ k x. (k < limit) × Is x) i xs → (i + length xs ≤ limit) × AllByRecursion Is xs
+few_of Is limit i [] le h = (omega arith, tt)
+few_of Is limit i (x ∷ xs) le h =
+    let others = few_of Is limit (i + 1) xs (omega (arith, h.0.0)) h.1 in
+    (omega (arith, others.0), (h.0.1, others.1))
 
-pub mark_again : (m : Mark) (rest : List TokenValue) → mark_at m (Marked m ∷ rest) ≡ Ok (tt, rest)
-unfolding mark_at
-mark_again m rest = let same : eqb (mark_number m) (mark_number m) ≡ true = eq-eqb _ _ refl in rw same refl
+pub flat_map_first : {A : Type 0} (toks : A → List TokenValue) (x : A) (xs : List A)
+    (rest : List TokenValue)
+    → flat_map toks (x ∷ xs) ++ rest ≡ toks x ++ (flat_map toks xs ++ rest)
+flat_map_first toks x xs rest = ap (λ (ys : List TokenValue). ys ++ rest) (flat_map-cons toks x xs)
+    ∙ append_assoc (toks x) (flat_map toks xs) rest
 
-pub word_takes : (text : List ℕ) → Takes (λ _. Word text ∷ []) Always (word_at text)
-unfolding word_at
-word_takes text tokens x e =
-    let g = guard_passed (next_word text tokens) _ (tt, drop 1 tokens) x e in
-    subst (Took (λ _. Word text ∷ []) Always tokens) g.1 (record { parts = worded_tokens text tokens g.0; fits = tt })
+pub cons_first : {A : Type 0} (toks : A → List TokenValue) (x : A) (xs : List A)
+    {tokens rest : List TokenValue} → Split tokens (toks x ++ flat_map toks xs) rest
+    → Split tokens (flat_map toks (x ∷ xs)) rest
+cons_first toks x xs {tokens} {rest} s =
+    subst (λ ts. Split tokens ts rest) (sym (flat_map-cons toks x xs)) s
 
-pub word_again : (text : List ℕ) (rest : List TokenValue)
-    → word_at text (Word text ∷ rest) ≡ Ok (tt, rest)
-unfolding word_at
-word_again text rest = rw ((bytes_eq-Decides text text).1 refl) refl
-
--- ---- many parts
-
-many_upto_takes : {A : Type 0} (toks : A → List TokenValue) (Is : A → Type 0)
+many_upto_takes : {A : Type 0} (toks : A → List TokenValue) (Is : ℕ → A → Type 0)
     (more : TokenValue → Bool) (part : ℕ → Reader A)
-    → ((i : ℕ) (tokens : List TokenValue) (x : A × List TokenValue) → next_passes more tokens ≡ true → part i tokens ≡ Ok x → Took toks Is tokens x)
-    → (fuel i : ℕ) (tokens : List TokenValue) (xs : List A × List TokenValue) → many_upto fuel more part i tokens ≡ Ok xs → Took (flat_map toks) (AllByRecursion Is) tokens xs
+    → ((i : ℕ) (tokens : List TokenValue) → next_passes more tokens ≡ true
+    → (x : A × List TokenValue) → part i tokens ≡ Ok x → Took toks (Is i) tokens x)
+    → (fuel i : ℕ) → Takes (flat_map toks) (AllFrom Is i) (many_upto fuel more part i)
 unfolding many_upto
-many_upto_takes {A} toks Is more part takes zero i tokens xs e =
-    subst (Took (flat_map toks) (AllByRecursion Is) tokens) (ok_is ([], tokens) xs e) (record { parts = refl; fits = tt })
-many_upto_takes {A} toks Is more part takes (suc fuel) i tokens xs e =
-    elim (chosen (next_passes more tokens) _ _ (Ok xs) e) [
-      | inl c ↦
-          let a = bind_ok (part i tokens) (λ first. many_upto fuel more part (i + 1) first.1 >>= λ others. Ok (first.0 ∷ others.0, others.1)) xs c.1 in
-          let b = bind_ok (many_upto fuel more part (i + 1) a.0.1) (λ others. Ok (a.0.0 ∷ others.0, others.1)) xs a.2 in
-          let t = takes i tokens a.0 c.0 a.1 in
-          let ts = many_upto_takes toks Is more part takes fuel (i + 1) a.0.1 b.0 b.1 in
-          let made : List A × List TokenValue = (a.0.0 ∷ b.0.0, b.0.1) in
-          subst (Took (flat_map toks) (AllByRecursion Is) tokens) (ok_is made xs b.2)
-          (record { parts = t.parts ∙ ap (λ (ys : List TokenValue). toks a.0.0 ++ ys) ts.parts ∙ sym (append_assoc (toks a.0.0) (flat_map toks b.0.0) b.0.1) ∙ ap (λ (ys : List TokenValue). ys ++ b.0.1) (sym (flat_map-cons toks a.0.0 b.0.0)); fits = (t.fits, ts.fits) })
-      | inr c ↦ subst (Took (flat_map toks) (AllByRecursion Is) tokens) (ok_is ([], tokens) xs c.1) (record { parts = refl; fits = tt })
-    ]
+many_upto_takes toks Is more part takes zero i tokens xs e = made e none tt
+many_upto_takes toks Is more part takes (suc fuel) i tokens xs e =
+    choose (next_passes more tokens) _ _ e
+    (λ wanted f.
+    let first = step _ (takes i tokens wanted) f in
+    let others =
+    step _ (many_upto_takes toks Is more part takes fuel (i + 1) first.left) first.on in
+    made others.on (cons_first toks first.value others.value (first.parts ⟫ others.parts))
+    (first.fits, others.fits))
+    (λ over f. made f none tt)
 
-pub many_takes : {A : Type 0} (toks : A → List TokenValue) (Is : A → Type 0)
+pub many_takes : {A : Type 0} (toks : A → List TokenValue) (Is : ℕ → A → Type 0)
     (more : TokenValue → Bool) (part : ℕ → Reader A)
-    → ((i : ℕ) (tokens : List TokenValue) (x : A × List TokenValue) → next_passes more tokens ≡ true → part i tokens ≡ Ok x → Took toks Is tokens x)
-    → (i : ℕ) (tokens : List TokenValue) (xs : List A × List TokenValue) → many_at more part i tokens ≡ Ok xs → Took (flat_map toks) (AllByRecursion Is) tokens xs
+    → ((i : ℕ) (tokens : List TokenValue) → next_passes more tokens ≡ true
+    → (x : A × List TokenValue) → part i tokens ≡ Ok x → Took toks (Is i) tokens x)
+    → (i : ℕ) → Takes (flat_map toks) (AllFrom Is i) (many_at more part i)
 unfolding many_at
-many_takes toks Is more part takes i tokens xs e = many_upto_takes toks Is more part takes (length tokens) i tokens xs e
-
--- where parts are read only at indices below a limit, there are at most that many
-many_upto_count : {A : Type 0} (limit : ℕ) (more : TokenValue → Bool) (part : ℕ → Reader A)
-    → ((i : ℕ) (tokens : List TokenValue) (x : A × List TokenValue) → part i tokens ≡ Ok x → i < limit)
-    → (fuel i : ℕ) (tokens : List TokenValue) (xs : List A × List TokenValue) → i ≤ limit → many_upto fuel more part i tokens ≡ Ok xs → i + length xs.0 ≤ limit
-unfolding many_upto
-many_upto_count {A} limit more part below zero i tokens xs fits e =
-    subst (λ (y : List A × List TokenValue). i + length y.0 ≤ limit) (ok_is ([], tokens) xs e) (omega arith)
-many_upto_count {A} limit more part below (suc fuel) i tokens xs fits e =
-    elim (chosen (next_passes more tokens) _ _ (Ok xs) e) [
-      | inl c ↦
-          let a = bind_ok (part i tokens) (λ first. many_upto fuel more part (i + 1) first.1 >>= λ others. Ok (first.0 ∷ others.0, others.1)) xs c.1 in
-          let b = bind_ok (many_upto fuel more part (i + 1) a.0.1) (λ others. Ok (a.0.0 ∷ others.0, others.1)) xs a.2 in
-          let lt = below i tokens a.0 a.1 in
-          let rest = many_upto_count limit more part below fuel (i + 1) a.0.1 b.0 (omega arith) b.1 in
-          let made : List A × List TokenValue = (a.0.0 ∷ b.0.0, b.0.1) in
-          subst (λ (y : List A × List TokenValue). i + length y.0 ≤ limit) (ok_is made xs b.2) (omega arith)
-      | inr c ↦ subst (λ (y : List A × List TokenValue). i + length y.0 ≤ limit) (ok_is ([], tokens) xs c.1) (omega arith)
-    ]
+many_takes toks Is more part takes i tokens =
+    many_upto_takes toks Is more part takes (length tokens) i tokens
 
 -- ---- elements with commas between them
 
-pub separated_takes : {A : Type 0} (toks : A → List TokenValue) (Is : A → Type 0)
-    (element : ℕ → Reader A) → ((i : ℕ) → Takes toks Is (element i))
-    → Takes (separated toks) (AllByRecursion Is) (separated_at element)
-unfolding separated_at many_at
+pub separated_takes : {A : Type 0} (toks : A → List TokenValue) (Is : ℕ → A → Type 0)
+    (element : ℕ → Reader A) → ((i : ℕ) → Takes toks (Is i) (element i))
+    → Takes (separated toks) (λ xs. (1 ≤ length xs) × AllFrom Is 0 xs) (separated_at element)
+unfolding separated_at
 separated_takes {A} toks Is element takes tokens xs e =
-    let a = bind_ok (element 0 tokens) (λ first. many_at (is_mark Comma) (after_token element) 1 first.1 >>= λ others. Ok (first.0 ∷ others.0, others.1)) xs e in
-    let b = bind_ok (many_at (is_mark Comma) (after_token element) 1 a.0.1) (λ others. Ok (a.0.0 ∷ others.0, others.1)) xs a.2 in
-    let t = takes 0 tokens a.0 a.1 in
     let behind : A → List TokenValue = λ x. Marked Comma ∷ toks x in
-    let ts = many_takes behind Is (is_mark Comma) (after_token element) (λ i ys x wanted found. let u = takes i (drop 1 ys) x found in
-    record { parts = marked_tokens Comma ys wanted ∙ ap (λ (zs : List TokenValue). Marked Comma ∷ zs) u.parts; fits = u.fits }) 1 a.0.1 b.0 b.1 in
-    let made : List A × List TokenValue = (a.0.0 ∷ b.0.0, b.0.1) in
-    subst (Took (separated toks) (AllByRecursion Is) tokens) (ok_is made xs b.2)
-    (record { parts = t.parts ∙ ap (λ (ys : List TokenValue). toks a.0.0 ++ ys) ts.parts ∙ sym (append_assoc (toks a.0.0) (flat_map behind b.0.0) b.0.1); fits = (t.fits, ts.fits) })
+    let first = step _ (takes 0 tokens) e in
+    let others = step _ (many_takes behind Is (is_mark Comma) (after_token element)
+    (λ i ys wanted x found. let t = takes i (drop 1 ys) x found in
+    record { parts = (marked wanted ⟫ split_of t).is; fits = t.fits })
+    1 first.left) first.on in
+    made others.on (first.parts ⟫ others.parts) (omega arith, (first.fits, others.fits))
 
--- how many
-pub separated_count : {A : Type 0} (limit : ℕ) (element : ℕ → Reader A)
-    → ((i : ℕ) (tokens : List TokenValue) (x : A × List TokenValue) → element i tokens ≡ Ok x
-    → i < limit)
-    → (tokens : List TokenValue) (xs : List A × List TokenValue) → separated_at element tokens ≡ Ok xs → length xs.0 ≤ limit
-unfolding separated_at many_at
-separated_count {A} limit element below tokens xs e =
-    let a = bind_ok (element 0 tokens) (λ first. many_at (is_mark Comma) (after_token element) 1 first.1 >>= λ others. Ok (first.0 ∷ others.0, others.1)) xs e in
-    let b = bind_ok (many_at (is_mark Comma) (after_token element) 1 a.0.1) (λ others. Ok (a.0.0 ∷ others.0, others.1)) xs a.2 in
-    let one = below 0 tokens a.0 a.1 in
-    let n = many_upto_count limit (is_mark Comma) (after_token element) (λ i ys x found. below i (drop 1 ys) x found) (length a.0.1) 1 a.0.1 b.0 (omega arith) b.1 in
-    let made : List A × List TokenValue = (a.0.0 ∷ b.0.0, b.0.1) in
-    subst (λ (y : List A × List TokenValue). length y.0 ≤ limit) (ok_is made xs b.2) (omega arith)
-
--- ---- lists up to the mark that closes them
-
-pub list_takes : {A : Type 0} (toks : A → List TokenValue) (Is : A → Type 0) (close : Mark)
-    (element : ℕ → Reader A) → ((i : ℕ) → Takes toks Is (element i))
-    → Takes (λ xs. separated toks xs ++ mark close) (AllByRecursion Is) (list_at close element)
+pub list_takes : {A : Type 0} (toks : A → List TokenValue) (Is : ℕ → A → Type 0) (close : Mark)
+    (element : ℕ → Reader A) → ((i : ℕ) → Takes toks (Is i) (element i))
+    → Takes (λ xs. separated toks xs ++ mark close) (AllFrom Is 0) (list_at close element)
 unfolding list_at
-list_takes {A} toks Is close element takes tokens xs e =
-    elim (chosen (next_is close tokens) _ _ (Ok xs) e) [
-      | inl c ↦ subst (Took (λ ys. separated toks ys ++ mark close) (AllByRecursion Is) tokens) (ok_is ([], drop 1 tokens) xs c.1) (record { parts = marked_tokens close tokens c.0; fits = tt })
-      | inr c ↦
-          let a = bind_ok (separated_at element tokens) (λ elements. mark_at close elements.1 >>= λ closed. Ok (elements.0, closed.1)) xs c.1 in
-          let b = bind_ok (mark_at close a.0.1) (λ closed. Ok (a.0.0, closed.1)) xs a.2 in
-          let t = separated_takes toks Is element takes tokens a.0 a.1 in
-          let u = mark_takes close a.0.1 b.0 b.1 in
-          let made : List A × List TokenValue = (a.0.0, b.0.1) in
-          subst (Took (λ ys. separated toks ys ++ mark close) (AllByRecursion Is) tokens) (ok_is made xs b.2)
-          (record { parts = t.parts ∙ ap (λ (ys : List TokenValue). separated toks a.0.0 ++ ys) u.parts ∙ sym (append_assoc (separated toks a.0.0) (mark close) b.0.1); fits = t.fits })
-    ]
+list_takes toks Is close element takes tokens xs e = choose (next_is close tokens) _ _ e
+    (λ closed f. made f (marked closed) tt)
+    (λ filled f.
+    let elements = step _ (separated_takes toks Is element takes tokens) f in
+    let end = step _ (mark_takes close elements.left) elements.on in
+    made end.on (elements.parts ⟫ end.parts) elements.fits.1)
 
-pub list_count : {A : Type 0} (limit : ℕ) (close : Mark) (element : ℕ → Reader A)
-    → ((i : ℕ) (tokens : List TokenValue) (x : A × List TokenValue) → element i tokens ≡ Ok x
-    → i < limit)
-    → (tokens : List TokenValue) (xs : List A × List TokenValue) → list_at close element tokens ≡ Ok xs → length xs.0 ≤ limit
-unfolding list_at
-list_count {A} limit close element below tokens xs e =
-    elim (chosen (next_is close tokens) _ _ (Ok xs) e) [
-      | inl c ↦ subst (λ (y : List A × List TokenValue). length y.0 ≤ limit) (ok_is ([], drop 1 tokens) xs c.1) (omega arith)
-      | inr c ↦
-          let a = bind_ok (separated_at element tokens) (λ elements. mark_at close elements.1 >>= λ closed. Ok (elements.0, closed.1)) xs c.1 in
-          let b = bind_ok (mark_at close a.0.1) (λ closed. Ok (a.0.0, closed.1)) xs a.2 in
-          let n = separated_count limit element below tokens a.0 a.1 in
-          let made : List A × List TokenValue = (a.0.0, b.0.1) in
-          subst (λ (y : List A × List TokenValue). length y.0 ≤ limit) (ok_is made xs b.2) n
-    ]
+-- ---- what is spelled so is read again
 
--- ---- an element of a list that is not full
+-- what is so of the tokens of each part is so of those of all, where it is so behind them
+pub each_before : {A : Type 0} (E : List TokenValue → Type 0) (toks : A → List TokenValue)
+    (Less : A → Type 0) → ((x : A) (rest : List TokenValue) → Less x → E (toks x ++ rest))
+    → (xs : List A) (rest : List TokenValue) → AllByRecursion Less xs → E rest
+    → E (flat_map toks xs ++ rest)
+each_before E toks Less each [] rest are h = h
+each_before E toks Less each (x ∷ xs) rest are h =
+    subst E (sym (flat_map_first toks x xs rest)) (each x (flat_map toks xs ++ rest) are.0)
 
-nat_le_false : (a b : ℕ) → nat_le a b ≡ false → b < a
-nat_le_false a b e = grind (arith, nat_tests)
+pub many_again : {A : Type 0} (E : List TokenValue → Type 0) (toks : A → List TokenValue)
+    (Less : A → Type 0) (more : TokenValue → Bool) (part : ℕ → Reader A) → Shrinks part → (n : ℕ)
+    → ((i : ℕ) (x : A) (rest : List TokenValue) → i < n → Less x → E rest
+    → part i (toks x ++ rest) ≡ Ok (x, rest))
+    → ((x : A) (rest : List TokenValue) → Less x → next_passes more (toks x ++ rest) ≡ true)
+    → ((x : A) (rest : List TokenValue) → Less x → E (toks x ++ rest))
+    → (i : ℕ) (xs : List A) (rest : List TokenValue) → i + length xs ≤ n → AllByRecursion Less xs
+    → E rest → next_passes more rest ≡ false
+    → many_at more part i (flat_map toks xs ++ rest) ≡ Ok (xs, rest)
+many_again E toks Less more part shrinks n again wants each i [] rest fits is h over =
+    many_ends more part i rest over
+many_again E toks Less more part shrinks n again wants each i (x ∷ xs) rest fits is h over =
+    let behind : List TokenValue = flat_map toks xs ++ rest in
+    let one = many_step more part shrinks i (toks x ++ behind) x behind (wants x behind is.0)
+    (again i x behind (omega arith) is.0 (each_before E toks Less each xs rest is.1 h)) in
+    let others = many_again E toks Less more part shrinks n again wants each (i + 1) xs rest
+    (omega arith) is.1 h over in
+    ap (many_at more part i) (flat_map_first toks x xs rest) ∙ one
+    ∙ ap (λ r. r >>= λ ys. Ok (x ∷ ys.0, ys.1)) others
 
-nat_le_no : (a b : ℕ) → b < a → nat_le a b ≡ false
-nat_le_no a b lt = grind (arith, nat_tests)
+-- The elements of a list that has at most so many: each of them, by its index.
+pub record Elements {A : Type 0} (begins : TokenValue → Bool) (toks : A → List TokenValue)
+    (Less : A → Type 0) (limit : ℕ) (element : ℕ → Reader A) : Type 0 where
+  pub shrinks : Shrinks element
+  pub again : (i : ℕ) (x : A) (rest : List TokenValue) → i < limit → Less x → Ends rest
+      → element i (toks x ++ rest) ≡ Ok (x, rest)
+  pub begun : (x : A) (rest : List TokenValue) → Less x
+      → next_passes begins (toks x ++ rest) ≡ true
 
-crowded : {A : Type 0} (b : Bool) (tokens : List TokenValue) (read : Read A)
-    (x : A × List TokenValue) → cond b (too_many tokens) read ≡ Ok x → (b ≡ false) × (read ≡ Ok x)
-crowded true tokens read x e = absurd cc
-crowded false tokens read x e = (refl, e)
+module _ {A : Type 0} {begins : TokenValue → Bool} {toks : A → List TokenValue}
+    {Less : A → Type 0} {limit : ℕ} {element : ℕ → Reader A}
+    (law : Elements begins toks Less limit element) where
+  abbrev behind : A → List TokenValue
+  behind x = Marked Comma ∷ toks x
 
-pub at_most_takes : {A : Type 0} (toks : A → List TokenValue) (Is : A → Type 0) (limit : ℕ)
-    (begins : TokenValue → Bool) (element : Reader A) → Takes toks Is element → (i : ℕ)
-    → Takes toks Is (at_most limit begins element i)
-at_most_takes toks Is limit begins element takes i tokens x e = takes tokens x (crowded (nat_le limit i && next_passes begins tokens) tokens (element tokens) x e).1
+  pub separated_again : (x : A) (xs : List A) (rest : List TokenValue) → length xs + 1 ≤ limit
+      → Less x → AllByRecursion Less xs → Ends rest → next_is Comma rest ≡ false
+      → separated_at element (separated toks (x ∷ xs) ++ rest) ≡ Ok (x ∷ xs, rest)
+  unfolding separated_at
+  separated_again x xs rest fits is all h over =
+      let end = each_before Ends behind Less (λ y ts it. refl) xs rest all h in
+      let others = many_again Ends behind Less (is_mark Comma) (after_token element)
+      (Shrinks-after_token element law.shrinks) limit law.again (λ y ts it. refl)
+      (λ y ts it. refl) 1 xs rest (omega arith) all h over in
+      ap (separated_at element) (append_assoc (toks x) (flat_map behind xs) rest)
+      ∙ rw (law.again 0 x (flat_map behind xs ++ rest) (omega arith) is end, others) refl
+
+  pub list_again : (close : Mark) → goes_on (Marked close) ≡ false
+      → is_mark Comma (Marked close) ≡ false → begins (Marked close) ≡ false
+      → (xs : List A) (rest : List TokenValue) → length xs ≤ limit → AllByRecursion Less xs
+      → list_at close element ((separated toks xs ++ mark close) ++ rest) ≡ Ok (xs, rest)
+  unfolding list_at
+  list_again close ends other never [] rest fits all =
+      let same : eqb (mark_number close) (mark_number close) ≡ true = eq-eqb _ _ refl in
+      rw same refl
+  list_again close ends other never (x ∷ xs) rest fits all =
+      let after : List TokenValue = Marked close ∷ rest in
+      let elements = separated_again x xs after (omega arith) all.0 all.1 ends other in
+      let open_still : next_is close (separated toks (x ∷ xs) ++ after) ≡ false =
+      rw (append_assoc (toks x) (flat_map behind xs) after)
+      (apart begins close _ never (law.begun x (flat_map behind xs ++ after) all.0)) in
+      ap (list_at close element) (append_assoc (separated toks (x ∷ xs)) (mark close) rest)
+      ∙ rw (open_still, elements, mark_again close rest) refl
+
+-- ---- elements of a list, with and without a limit
+
+some_tokens : (begins : TokenValue → Bool) (ts : List TokenValue)
+    → next_passes begins (ts ++ []) ≡ true → 0 < length ts
+some_tokens begins [] h = absurd cc
+some_tokens begins (t ∷ ts) h = omega arith
+
+room : (limit i : ℕ) → nat_le limit i ≡ false → i < limit
+room limit i e = grind (arith, nat_tests)
+
+no_room : (limit i : ℕ) → i < limit → nat_le limit i ≡ false
+no_room limit i lt = grind (arith, nat_tests)
 
 not_both : (a b : Bool) → (a && b) ≡ false → b ≡ true → a ≡ false
-not_both true true e f = e
-not_both true false e f = absurd cc
+not_both true b e f = sym f ∙ e
 not_both false b e f = refl
 
--- where what is read begins as an element does
-pub at_most_below : {A : Type 0} (limit : ℕ) (begins : TokenValue → Bool) (element : Reader A)
-    → ((tokens : List TokenValue) (x : A × List TokenValue) → element tokens ≡ Ok x
-    → next_passes begins tokens ≡ true)
-    → (i : ℕ) (tokens : List TokenValue) (x : A × List TokenValue) → at_most limit begins element i tokens ≡ Ok x → i < limit
-at_most_below limit begins element starts i tokens x e =
-    let c = crowded (nat_le limit i && next_passes begins tokens) tokens (element tokens) x e in
-    let free : nat_le limit i ≡ false = not_both (nat_le limit i) (next_passes begins tokens) c.0 (starts tokens x c.1) in
-    nat_le_false limit i free
+abbrev pub AtMost : {A : Type 0} → ℕ → (A → Type 0) → List A → Type 0
+AtMost limit Is xs = (length xs ≤ limit) × AllByRecursion Is xs
 
-pub at_most_again : {A : Type 0} (limit : ℕ) (begins : TokenValue → Bool) (element : Reader A)
-    (i : ℕ) (tokens : List TokenValue) → i < limit
-    → at_most limit begins element i tokens ≡ element tokens
-at_most_again limit begins element i tokens lt = rw (nat_le_no limit i lt) refl
+module _ {A : Type 0} {begins : TokenValue → Bool} {toks : A → List TokenValue}
+    {Less Is : A → Type 0} {read : Reader A} (law : Law begins toks Less Is read) where
+  -- what is read takes a token at least
+  shortens : (tokens : List TokenValue) (x : A) (rest : List TokenValue)
+      → read tokens ≡ Ok (x, rest) → length rest < length tokens
+  shortens tokens x rest e =
+      let t = law.takes tokens (x, rest) e in
+      omega (
+        arith,
+        ap length t.parts,
+        length-append (toks x) rest,
+        some_tokens begins (toks x) (law.begun x [] t.fits),
+      )
+
+  -- what fits under smaller limits fits
+  pub fits_more : (x : A) → Less x → Is x
+  fits_more x is = (law.takes _ (x, []) (law.again x [] is refl)).fits
+
+  pub unbounded : (limit : ℕ) → Elements begins toks Less limit (any_number read)
+  unbounded limit = record {
+    shrinks = λ i. shortens;
+    again = λ i x rest lt. law.again x rest;
+    begun = λ x rest is. law.begun x rest (fits_more x is);
+  }
+
+  -- an element is read only where there is room
+  pub bounded_takes : (limit i : ℕ)
+      → Takes toks (λ x. (i < limit) × Is x) (at_most limit begins read i)
+  bounded_takes limit i tokens x e = choose (nat_le limit i && next_passes begins tokens) _ _ e
+      (λ full f. refused f)
+      (λ free f.
+      let t = law.takes tokens x f in
+      let begun = ap (next_passes begins) t.parts ∙ law.begun x.0 x.1 t.fits in
+      record { parts = t.parts; fits = (room limit i (not_both _ _ free begun), t.fits) })
+
+  pub bounded : (limit : ℕ) → Elements begins toks Less limit (at_most limit begins read)
+  bounded limit = record {
+    shrinks = λ i tokens x rest e.
+        choose (nat_le limit i && next_passes begins tokens) _ _ e (λ full f. refused f)
+        (λ free f. shortens tokens x rest f);
+    again = λ i x rest lt is ends. rw (no_room limit i lt) (law.again x rest is ends);
+    begun = λ x rest is. law.begun x rest (fits_more x is);
+  }
+
+  -- ---- lists, with and without a limit
+
+  pub bounded_list_takes : (limit : ℕ) (close : Mark)
+      → Takes (λ xs. separated toks xs ++ mark close) (AtMost limit Is)
+      (list_at close (at_most limit begins read))
+  bounded_list_takes limit close tokens xs e =
+      let t = list_takes toks _ close _ (bounded_takes limit) tokens xs e in
+      let few = few_of Is limit 0 xs.0 (omega arith) t.fits in
+      record { parts = t.parts; fits = (omega (arith, few.0), few.1) }
+
+  pub unbounded_list_takes : (close : Mark) → Takes (λ xs. separated toks xs ++ mark close)
+      (AllByRecursion Is) (list_at close (any_number read))
+  unbounded_list_takes close tokens xs e =
+      let t = list_takes toks (λ _. Is) close _ (λ i. law.takes) tokens xs e in
+      record { parts = t.parts; fits = all_of Is 0 xs.0 t.fits }
+
+  -- ---- items, as long as one begins
+
+  pub items_take : Takes (flat_map toks) (AllByRecursion Is) (many_at begins (any_number read) 0)
+  items_take tokens xs e =
+      let t = many_takes toks (λ _. Is) _ _ (λ i ys wanted. law.takes ys) 0 tokens xs e in
+      record { parts = t.parts; fits = all_of Is 0 xs.0 t.fits }
+
+  pub items_again : ((x : A) (rest : List TokenValue) → Less x
+      → read (toks x ++ rest) ≡ Ok (x, rest)) → (xs : List A) (rest : List TokenValue)
+      → AllByRecursion Less xs → next_passes begins rest ≡ false
+      → many_at begins (any_number read) 0 (flat_map toks xs ++ rest) ≡ Ok (xs, rest)
+  items_again again xs rest are over =
+      let each = unbounded (length xs) in
+      many_again (λ ts. Unit {0}) toks Less begins _ each.shrinks (length xs)
+      (λ i x ts lt is h. again x ts is) each.begun (λ x ts is. tt) 0 xs rest (omega arith) are tt
+      over

@@ -1,8 +1,8 @@
 -- A literal of one token with a comma behind it is an element of a list.
 use Rattle.std.proofs.Common.{◌≡◌, ◌<◌, ℕ, ℤ, true, false, List, ◌∷◌, Ok, refl}
 use Rattle.std.proofs.lemmas.Bool.{lt-leb}
-use Rattle.fz_lex.specs.Token.{TokenValue, Whole, Marked}
-use Rattle.fz_lex.specs.declared.token.Mark.TheVariants.{Comma}
+use Rattle.fz_tree.specs.of_lex.Token.{TokenValue, Whole, Marked}
+use Rattle.fz_tree.specs.of_lex.declared.token.Mark.TheVariants.{Comma}
 use Rattle.fz_tree.specs.Tree.{Literal, Number, Truth, Range, Braces}
 use Rattle.fz_tree.specs.Text.{Limits}
 use Rattle.fz_syntax.specs.Outcome.{IsListed}

@@ -1,21 +1,11 @@
 -- Reading parts one after another: the steps that a loop makes.
 use Rattle.std.proofs.Common.{◌≡◌, ℕ, zero, suc, ◌+◌, ◌≤◌, ◌<◌, Bool, true, false, cond, List, [], ◌∷◌, ◌++◌, length, Ok, Err, refl, sym, ap, ◌∙◌, append_assoc, arith}
 use Rattle.std.proofs.lemmas.List.{append-nil}
-use Rattle.fz_lex.specs.Token.{TokenValue}
+use Rattle.fz_tree.specs.of_lex.Token.{TokenValue}
 use Rattle.fz_syntax.specs.Reading.{Fault, Read, Reader, ◌>>=◌, next_passes, many_upto, many_at}
 
 abbrev done : {A : Type 0} → A × List TokenValue → Read A
 done x = Ok x
-
--- the value of a step that did not fail
-pub bind_ok : {A B : Type 0} (r : Read A) (f : A × List TokenValue → Read B)
-    (y : B × List TokenValue) → (r >>= f) ≡ Ok y
-    → (x : A × List TokenValue) × (r ≡ Ok x) × (f x ≡ Ok y)
-bind_ok (Ok x) f y e = (x, refl, e)
-bind_ok (Err d) f y e = absurd cc
-
-pub ok_is : {A : Type 0} (x y : A × List TokenValue) → done x ≡ done y → x ≡ y
-ok_is x y e = cc
 
 -- a part that is read takes a token at least
 abbrev pub Shrinks : {A : Type 0} → (ℕ → Reader A) → Type 0

@@ -1,308 +1,344 @@
--- What is read of annotations is spelled so, and what is spelled so is read again.
-use Rattle.std.proofs.Common.{◌≡◌, ℕ, zero, suc, ◌≤◌, ◌<◌, Bool, true, false, not, cond, List, [], ◌∷◌, ◌++◌, length, drop, Ok, refl, sym, ap, subst, ◌∙◌, append_assoc, inl, inr, arith, ◌||◌}
+-- The laws of annotations.
+use Rattle.std.proofs.Common.{◌≡◌, ℕ, zero, suc, ◌+◌, ◌≤◌, Bool, true, false, cond, List, [], ◌∷◌, ◌++◌, length, drop, Ok, refl, sym, ap, subst, ◌∙◌, append_assoc, arith, ◌||◌}
 use Rattle.std.specs.List.{AllByRecursion}
 use Rattle.std.proofs.lemmas.List.Concat.{flat_map-cons}
-use Rattle.fz_lex.specs.declared.token.Mark.TheVariants.{OpenParen, CloseParen, OpenBracket, CloseBracket, Comma, ColonColon}
-use Rattle.fz_lex.specs.Token.{TokenValue, Word, Whole, FloatText, StringText, Marked}
-use Rattle.fz_tree.specs.Tree.{Literal, Number, Truth, Range, Braces, Note, Called, NoteArg, OneBasic, ListOf, NoteBasic, NoteLiteral, NoteFloat, NoteString, Inner}
-use Rattle.fz_tree.specs.Tokens.{mark, literal_toks, in_parens, note_toks, args_toks, more_args_toks, arg_toks, basics_toks, more_basics_toks, note_basic_toks, notes_toks, separated, after_commas}
+use Rattle.fz_tree.specs.of_lex.declared.token.Mark.TheVariants.{OpenParen, CloseParen, OpenBracket, CloseBracket, Comma, ColonColon}
+use Rattle.fz_tree.specs.of_lex.Token.{TokenValue, FloatText, StringText, Marked}
+use Rattle.fz_tree.specs.Tree.{Literal, Number, Truth, Range, Braces, Note, Called, NoteArgs, NoMoreArgs, MoreArgs, NoteArg, OneBasic, ListOf, NoteBasics, NoMoreBasics, MoreBasics, NoteBasic, NoteLiteral, NoteFloat, NoteString, Inner}
+use Rattle.fz_tree.specs.Tokens.{mark, literal_toks, in_parens, in_brackets, note_toks, args_toks, more_args_toks, arg_toks, basics_toks, more_basics_toks, note_basic_toks, notes_toks, separated, after_commas}
 use Rattle.fz_tree.specs.View.{arg_list, basic_list}
-use Rattle.fz_tree.specs.Text.{Limits, is_reserved, IsNote, AreArgs, IsArg, AreBasics, IsNoteBasic, AreNotes, count_basics}
-use Rattle.fz_syntax.specs.Reading.{Reader, ◌>>=◌, is_mark, next_passes, next_is, separated_at, many_at, after_token, mark_at, at_most, any_number, name_at, is_name, is_quoted, is_deep_name, begins_note_basic, literal_at, note_at, note_args_at, note_arg_at, note_list_at, note_basic_at, notes_at, too_deep, unexpected}
-use Rattle.fz_syntax.proofs.Lists.{bind_ok, ok_is, Shrinks}
-use Rattle.fz_syntax.proofs.Shorter.{Shortens, at_most_shortens}
-use Rattle.fz_syntax.proofs.ListLaws.{Took, Takes, chosen, marked_tokens, mark_takes, list_takes, list_count, separated_takes, many_takes, at_most_takes, at_most_below}
-use Rattle.fz_syntax.proofs.ExprLaws.{shortens_from, name_takes, literal_takes, literal_starts}
+use Rattle.fz_tree.specs.Text.{Limits, IsNote, AreArgs, IsArg, AreBasics, IsNoteBasic, AreNotes, count_basics}
+use Rattle.fz_syntax.specs.Reading.{Read, Reader, ◌>>=◌, is_mark, next_passes, next_is, separated_at, many_at, after_token, any_number, at_most, is_name, is_quoted, is_deep_name, begins_literal, begins_note_basic, literal_at, note_at, note_args_at, note_arg_at, note_list_at, note_basic_at, notes_at}
+use Rattle.fz_syntax.proofs.Lists.{Shrinks}
+use Rattle.fz_syntax.proofs.Separated.{Shrinks-after_token}
+use Rattle.fz_syntax.proofs.Laws.{Took, Takes, Split, ◌⟫◌, step, made, choose, refused, first, none, marked, mark_takes, mark_again, split_of}
+use Rattle.fz_syntax.proofs.ListLaws.{Law, Ends, no_args, apart, fits_more, AtMost, bounded, unbounded, list_again, separated_takes, separated_again, bounded_list_takes, all_of, many_takes, many_again}
+use Rattle.fz_syntax.proofs.ExprLaws.{Allow, same, name_takes, name_again, literal_law, literal_begun, literal_no_name, first_of_two, second_of_two}
 
 -- ---- lists of parts, as a tree of annotations holds them
 
-arg_list-more : (args : List NoteArg) → more_args_toks (arg_list args) ≡ after_commas arg_toks args
-arg_list-more [] = refl
-arg_list-more (a ∷ rest) = ap (λ (ys : List TokenValue). (Marked Comma ∷ arg_toks a) ++ ys) (arg_list-more rest) ∙ sym (flat_map-cons (λ x. Marked Comma ∷ arg_toks x) a rest)
+more_args_are : (args : List NoteArg) → more_args_toks (arg_list args) ≡ after_commas arg_toks args
+more_args_are [] = refl
+more_args_are (a ∷ rest) =
+    ap (λ (ys : List TokenValue). (Marked Comma ∷ arg_toks a) ++ ys) (more_args_are rest)
+    ∙ sym (flat_map-cons (λ x. Marked Comma ∷ arg_toks x) a rest)
 
-arg_list-toks : (first : NoteArg) (args : List NoteArg)
-    → args_toks (arg_list (first ∷ args)) ≡ in_parens (separated arg_toks (first ∷ args))
-arg_list-toks first args = ap (λ (ys : List TokenValue). in_parens (arg_toks first ++ ys)) (arg_list-more args)
+args_are : (a : NoteArg) (args : List NoteArg)
+    → args_toks (arg_list (a ∷ args)) ≡ in_parens (separated arg_toks (a ∷ args))
+args_are a args = ap (λ (ys : List TokenValue). in_parens (arg_toks a ++ ys)) (more_args_are args)
 
-arg_list-all : (args : List NoteArg) (limits : Limits) (depth : ℕ)
-    → AllByRecursion (λ a. IsArg a limits depth) args → AreArgs (arg_list args) limits depth
-arg_list-all [] limits depth h = tt
-arg_list-all (a ∷ rest) limits depth h = (h.0, arg_list-all rest limits depth h.1)
-
-basic_list-more : (bs : List NoteBasic)
+more_basics_are : (bs : List NoteBasic)
     → more_basics_toks (basic_list bs) ≡ after_commas note_basic_toks bs
-basic_list-more [] = refl
-basic_list-more (b ∷ rest) = ap (λ (ys : List TokenValue). (Marked Comma ∷ note_basic_toks b) ++ ys) (basic_list-more rest) ∙ sym (flat_map-cons (λ x. Marked Comma ∷ note_basic_toks x) b rest)
+more_basics_are [] = refl
+more_basics_are (b ∷ rest) =
+    ap (λ (ys : List TokenValue). (Marked Comma ∷ note_basic_toks b) ++ ys) (more_basics_are rest)
+    ∙ sym (flat_map-cons (λ x. Marked Comma ∷ note_basic_toks x) b rest)
 
-basic_list-toks : (bs : List NoteBasic) → basics_toks (basic_list bs) ≡ separated note_basic_toks bs
-basic_list-toks [] = refl
-basic_list-toks (b ∷ rest) = ap (λ (ys : List TokenValue). note_basic_toks b ++ ys) (basic_list-more rest)
+basics_are : (bs : List NoteBasic) → basics_toks (basic_list bs) ≡ separated note_basic_toks bs
+basics_are [] = refl
+basics_are (b ∷ rest) =
+    ap (λ (ys : List TokenValue). note_basic_toks b ++ ys) (more_basics_are rest)
 
-basic_list-all : (bs : List NoteBasic) (limits : Limits) (depth : ℕ)
-    → AllByRecursion (λ b. IsNoteBasic b limits depth) bs → AreBasics (basic_list bs) limits depth
-basic_list-all [] limits depth h = tt
-basic_list-all (b ∷ rest) limits depth h = (h.0, basic_list-all rest limits depth h.1)
+count_are : (bs : List NoteBasic) → count_basics (basic_list bs) ≡ length bs
+count_are [] = refl
+count_are (b ∷ rest) = let e = count_are rest in omega arith
 
-count-basic_list : (bs : List NoteBasic) → count_basics (basic_list bs) ≡ length bs
-count-basic_list [] = refl
-count-basic_list (b ∷ rest) = let e = count-basic_list rest in omega arith
+all_args : (limits : Limits) (depth : ℕ) (args : List NoteArg)
+    → AreArgs (arg_list args) limits depth ≡ AllByRecursion (λ a. IsArg a limits depth) args
+all_args limits depth [] = refl
+all_args limits depth (a ∷ args) =
+    ap (λ (T : Type 0). IsArg a limits depth × T) (all_args limits depth args)
 
--- ---- elements, where inner reads the annotations of the level below
+all_basics : (limits : Limits) (depth : ℕ) (bs : List NoteBasic)
+    → AreBasics (basic_list bs) limits depth ≡ AllByRecursion (λ b. IsNoteBasic b limits depth) bs
+all_basics limits depth [] = refl
+all_basics limits depth (b ∷ bs) =
+    ap (λ (T : Type 0). IsNoteBasic b limits depth × T) (all_basics limits depth bs)
 
-abbrev IsInner : Limits → ℕ → Note → Type 0
-IsInner limits depth n = IsNote n limits depth
+cast : {S T : Type 0} → S ≡ T → S → T
+cast same x = subst (λ (U : Type 0). U) same x
 
-abbrev IsElement : Limits → ℕ → NoteBasic → Type 0
-IsElement limits depth b = IsNoteBasic b limits depth
+-- each is one of a list
+of_args : (args : NoteArgs) → (xs : List NoteArg) × (arg_list xs ≡ args)
+of_args NoMoreArgs = ([], refl)
+of_args (MoreArgs a rest) = let r = of_args rest in (a ∷ r.0, ap (MoreArgs a) r.1)
 
-note_basic_takes_plain : (limits : Limits) (depth : ℕ) (inner : Reader Note)
-    → Takes note_toks (IsInner limits depth) inner
-    → (tokens : List TokenValue) (x : NoteBasic × List TokenValue) → cond (next_passes is_name tokens) (inner tokens >>= λ n. Ok (Inner n.0, n.1)) (literal_at limits tokens >>= λ l. Ok (NoteLiteral l.0, l.1)) ≡ Ok x
-    → Took note_basic_toks (IsElement limits depth) tokens x
-note_basic_takes_plain limits depth inner takes tokens x e =
-    elim (chosen (next_passes is_name tokens) _ _ (Ok x) e) [
-      | inl c ↦
-          let a = bind_ok (inner tokens) (λ n. Ok (Inner n.0, n.1)) x c.1 in
-          let t = takes tokens a.0 a.1 in
-          let made : NoteBasic × List TokenValue = (Inner a.0.0, a.0.1) in
-          subst (Took note_basic_toks (IsElement limits depth) tokens) (ok_is made x a.2) (record { parts = t.parts; fits = t.fits })
-      | inr c ↦
-          let a = bind_ok (literal_at limits tokens) (λ l. Ok (NoteLiteral l.0, l.1)) x c.1 in
-          let t = literal_takes limits tokens a.0 a.1 in
-          let made : NoteBasic × List TokenValue = (NoteLiteral a.0.0, a.0.1) in
-          subst (Took note_basic_toks (IsElement limits depth) tokens) (ok_is made x a.2) (record { parts = t.parts; fits = t.fits })
-    ]
+of_basics : (bs : NoteBasics) → (xs : List NoteBasic) × (basic_list xs ≡ bs)
+of_basics NoMoreBasics = ([], refl)
+of_basics (MoreBasics b rest) = let r = of_basics rest in (b ∷ r.0, ap (MoreBasics b) r.1)
 
-pub note_basic_takes : (limits : Limits) (depth : ℕ) (inner : Reader Note)
-    → Takes note_toks (IsInner limits depth) inner
-    → Takes note_basic_toks (IsElement limits depth) (note_basic_at limits inner)
-unfolding note_basic_at
-note_basic_takes limits depth inner takes [] x e = note_basic_takes_plain limits depth inner takes [] x e
-note_basic_takes limits depth inner takes (FloatText text ∷ rest) x e =
-    subst (Took note_basic_toks (IsElement limits depth) (FloatText text ∷ rest)) (ok_is (NoteFloat text, rest) x e) (record { parts = refl; fits = tt })
-note_basic_takes limits depth inner takes (StringText text ∷ rest) x e =
-    subst (Took note_basic_toks (IsElement limits depth) (StringText text ∷ rest)) (ok_is (NoteString text, rest) x e) (record { parts = refl; fits = tt })
-note_basic_takes limits depth inner takes (Word w ∷ rest) x e = note_basic_takes_plain limits depth inner takes (Word w ∷ rest) x e
-note_basic_takes limits depth inner takes (Whole n ∷ rest) x e = note_basic_takes_plain limits depth inner takes (Whole n ∷ rest) x e
-note_basic_takes limits depth inner takes (Marked m ∷ rest) x e = note_basic_takes_plain limits depth inner takes (Marked m ∷ rest) x e
+-- ---- elements and arguments of a level, where `inner` reads the annotations below it
 
--- an element of an annotation's arguments begins as one does, where the inner reader's first token
--- is a name that isn't too deep
-StartsDeep : ℕ → Reader Note → Type 0
-StartsDeep depth inner = (tokens : List TokenValue) (x : Note × List TokenValue) → inner tokens ≡ Ok x → next_passes (is_deep_name depth) tokens ≡ true
+abbrev begins_arg : ℕ → TokenValue → Bool
+begins_arg depth t = is_mark OpenBracket t || begins_note_basic depth t
 
-or_first : (a b : Bool) → a ≡ true → (a || b) ≡ true
-or_first true b e = refl
-or_first false b e = absurd cc
+-- what no float or string is read as
+abbrev plain_at : Limits → Reader Note → Reader NoteBasic
+plain_at limits inner tokens = cond (next_passes is_name tokens)
+    (inner tokens >>= λ n. Ok (Inner n.0, n.1))
+    (literal_at limits tokens >>= λ x. Ok (NoteLiteral x.0, x.1))
 
-or_second : (a b : Bool) → b ≡ true → (a || b) ≡ true
-or_second true b e = refl
-or_second false b e = e
+deep_name : (e : ℕ) (tokens : List TokenValue) → next_passes (is_deep_name e) tokens ≡ true
+    → next_passes is_name tokens ≡ true
+deep_name e [] h = h
+deep_name zero (t ∷ ts) h = absurd cc
+deep_name (suc e) (t ∷ ts) h = h
 
-plain_starts : (limits : Limits) (depth : ℕ) (inner : Reader Note) → StartsDeep depth inner
-    → (t : TokenValue) (rest : List TokenValue) (x : NoteBasic × List TokenValue) → cond (is_name t) (inner (t ∷ rest) >>= λ n. Ok (Inner n.0, n.1)) (literal_at limits (t ∷ rest) >>= λ l. Ok (NoteLiteral l.0, l.1)) ≡ Ok x
-    → begins_note_basic depth t ≡ true
-unfolding StartsDeep
-plain_starts limits depth inner starts t rest x e =
-    elim (chosen (is_name t) _ _ (Ok x) e) [
-      | inl c ↦
-          let a = bind_ok (inner (t ∷ rest)) (λ n. Ok (Inner n.0, n.1)) x c.1 in
-          or_second (is_quoted t) _ (or_first (is_deep_name depth t) _ (starts (t ∷ rest) a.0 a.1))
-      | inr c ↦
-          let a = bind_ok (literal_at limits (t ∷ rest)) (λ l. Ok (NoteLiteral l.0, l.1)) x c.1 in
-          or_second (is_quoted t) _ (or_second (is_deep_name depth t) _ (literal_starts limits (t ∷ rest) a.0 a.1))
-    ]
+-- no element begins with a bracket
+never_closes : (e : ℕ) → begins_note_basic e (Marked CloseBracket) ≡ false
+never_closes zero = refl
+never_closes (suc e) = refl
 
-note_basic_starts : (limits : Limits) (depth : ℕ) (inner : Reader Note) → StartsDeep depth inner
-    → (tokens : List TokenValue) (x : NoteBasic × List TokenValue)
-    → note_basic_at limits inner tokens ≡ Ok x → next_passes (begins_note_basic depth) tokens ≡ true
-unfolding note_basic_at literal_at
-note_basic_starts limits depth inner starts [] x e = absurd cc
-note_basic_starts limits depth inner starts (FloatText text ∷ rest) x e = refl
-note_basic_starts limits depth inner starts (StringText text ∷ rest) x e = refl
-note_basic_starts limits depth inner starts (Word w ∷ rest) x e = plain_starts limits depth inner starts (Word w) rest x e
-note_basic_starts limits depth inner starts (Whole n ∷ rest) x e = plain_starts limits depth inner starts (Whole n) rest x e
-note_basic_starts limits depth inner starts (Marked m ∷ rest) x e = plain_starts limits depth inner starts (Marked m) rest x e
+never_opens : (e : ℕ) → begins_note_basic e (Marked OpenBracket) ≡ false
+never_opens zero = refl
+never_opens (suc e) = refl
 
-note_some : (n : Note) → 0 < length (note_toks n)
-note_some (Called name args) = omega arith
+-- one argument at least is spelled in parentheses
+in_parentheses : (args : List NoteArg) {tokens rest : List TokenValue} → 1 ≤ length args
+    → Split tokens (in_parens (separated arg_toks args)) rest
+    → Split tokens (args_toks (arg_list args)) rest
+in_parentheses [] some s = absurd (omega arith)
+in_parentheses (a ∷ args) {tokens} {rest} some s =
+    subst (λ ts. Split tokens ts rest) (sym (args_are a args)) s
 
-literal_some : (l : Literal) → 0 < length (literal_toks l)
-literal_some (Number n) = omega arith
-literal_some (Truth b) = omega arith
-literal_some (Range low high) = omega arith
-literal_some (Braces numbers) = omega arith
+abbrev NoteLaw : Limits → Limits → ℕ → ℕ → Reader Note → Type 0
+NoteLaw l m d e inner =
+    Law (is_deep_name e) note_toks (λ n. IsNote n l d) (λ n. IsNote n m e) inner
 
-note_basic_some : (b : NoteBasic) → 0 < length (note_basic_toks b)
-note_basic_some (NoteLiteral l) = literal_some l
-note_basic_some (NoteFloat text) = omega arith
-note_basic_some (NoteString text) = omega arith
-note_basic_some (Inner n) = note_some n
+module _ (l m : Limits) (allow : Allow l m) (d e : ℕ) (inner : Reader Note)
+    (law : NoteLaw l m d e inner) where
+  abbrev IsElement : NoteBasic → Type 0
+  IsElement b = IsNoteBasic b m e
 
-arg_some : (a : NoteArg) → 0 < length (arg_toks a)
-arg_some (OneBasic b) = note_basic_some b
-arg_some (ListOf bs) = omega arith
+  plain_takes : Takes note_basic_toks IsElement (plain_at m inner)
+  plain_takes tokens x f = choose (next_passes is_name tokens) _ _ f
+      (λ named g. let n = step _ (law.takes tokens) g in made n.on n.parts n.fits)
+      (λ other g.
+      let t = step _ ((literal_law l m allow).takes tokens) g in made t.on t.parts t.fits)
 
--- ---- lists of elements, and arguments
+  note_basic_takes : Takes note_basic_toks IsElement (note_basic_at m inner)
+  unfolding note_basic_at
+  note_basic_takes (FloatText text ∷ rest) x f = made f first tt
+  note_basic_takes (StringText text ∷ rest) x f = made f first tt
+  note_basic_takes tokens x f = plain_takes tokens x f
 
-abbrev listed : Limits → ℕ → Reader Note → ℕ → Reader NoteBasic
-listed limits depth inner = at_most limits.elements (begins_note_basic depth) (note_basic_at limits inner)
+  -- a literal or an annotation is read as what is no float or string
+  as_plain : (x : Literal) (rest : List TokenValue)
+      → note_basic_at m inner (literal_toks x ++ rest) ≡ plain_at m inner (literal_toks x ++ rest)
+  unfolding note_basic_at
+  as_plain (Truth true) rest = refl
+  as_plain (Truth false) rest = refl
+  as_plain _ rest = refl
 
-listed_shrinks_from : (limits : Limits) (depth : ℕ) (inner : Reader Note)
-    → Takes note_toks (IsInner limits depth) inner → Shrinks (listed limits depth inner)
-listed_shrinks_from limits depth inner takes =
-    at_most_shortens limits.elements (begins_note_basic depth) (note_basic_at limits inner)
-    (shortens_from note_basic_toks (IsElement limits depth) (note_basic_at limits inner) (note_basic_takes limits depth inner takes) note_basic_some)
+  as_note : (n : Note) (rest : List TokenValue)
+      → note_basic_at m inner (note_toks n ++ rest) ≡ plain_at m inner (note_toks n ++ rest)
+  unfolding note_basic_at
+  as_note (Called name args) rest = refl
 
-abbrev AreElements : Limits → ℕ → List NoteBasic → Type 0
-AreElements limits depth bs = (length bs ≤ limits.elements) × AllByRecursion (IsElement limits depth) bs
+  note_basic_again : (b : NoteBasic) (rest : List TokenValue) → IsNoteBasic b l d → Ends rest
+      → note_basic_at m inner (note_basic_toks b ++ rest) ≡ Ok (b, rest)
+  unfolding note_basic_at
+  note_basic_again (NoteFloat text) rest is ends = refl
+  note_basic_again (NoteString text) rest is ends = refl
+  note_basic_again (NoteLiteral x) rest is ends = as_plain x rest
+      ∙ rw (literal_no_name x rest, (literal_law l m allow).again x rest is ends) refl
+  note_basic_again (Inner n) rest is ends =
+      let named = deep_name e _ (law.begun n rest (fits_more law n is)) in
+      as_note n rest ∙ rw (named, law.again n rest is ends) refl
 
-note_list_takes : (limits : Limits) (depth : ℕ) (inner : Reader Note)
-    → Takes note_toks (IsInner limits depth) inner → StartsDeep depth inner
-    → Takes (λ bs. separated note_basic_toks bs ++ mark CloseBracket) (AreElements limits depth) (note_list_at limits depth inner)
-unfolding note_list_at
-note_list_takes limits depth inner takes starts tokens x e =
-    let t = list_takes note_basic_toks (IsElement limits depth) CloseBracket (listed limits depth inner)
-    (at_most_takes note_basic_toks (IsElement limits depth) limits.elements (begins_note_basic depth) (note_basic_at limits inner) (note_basic_takes limits depth inner takes)) tokens x e in
-    let n = list_count limits.elements CloseBracket (listed limits depth inner)
-    (at_most_below limits.elements (begins_note_basic depth) (note_basic_at limits inner) (note_basic_starts limits depth inner starts)) tokens x e in
-    record { parts = t.parts; fits = (n, t.fits) }
+  note_basic_begun : (b : NoteBasic) (rest : List TokenValue) → IsElement b
+      → next_passes (begins_note_basic e) (note_basic_toks b ++ rest) ≡ true
+  note_basic_begun (NoteFloat text) rest is = refl
+  note_basic_begun (NoteString text) rest is = refl
+  note_basic_begun (NoteLiteral x) rest is =
+      let toks : List TokenValue = literal_toks x ++ rest in
+      second_of_two is_quoted (λ t. is_deep_name e t || begins_literal t) toks
+      (second_of_two (is_deep_name e) begins_literal toks (literal_begun x rest))
+  note_basic_begun (Inner n) rest is =
+      let toks : List TokenValue = note_toks n ++ rest in
+      second_of_two is_quoted (λ t. is_deep_name e t || begins_literal t) toks
+      (first_of_two (is_deep_name e) begins_literal toks (law.begun n rest is))
 
-abbrev IsArgument : Limits → ℕ → NoteArg → Type 0
-IsArgument limits depth a = IsArg a limits depth
+  pub note_basic_law : Law (begins_note_basic e) note_basic_toks (λ b. IsNoteBasic b l d) IsElement
+      (note_basic_at m inner)
+  note_basic_law = record {
+    takes = note_basic_takes;
+    again = note_basic_again;
+    begun = note_basic_begun;
+  }
 
-note_arg_takes : (limits : Limits) (depth : ℕ) (inner : Reader Note)
-    → Takes note_toks (IsInner limits depth) inner → StartsDeep depth inner
-    → Takes arg_toks (IsArgument limits depth) (note_arg_at limits depth inner)
-unfolding note_arg_at
-note_arg_takes limits depth inner takes starts tokens x e =
-    elim (chosen (next_is OpenBracket tokens) _ _ (Ok x) e) [
-      | inl c ↦
-          let a = bind_ok (note_list_at limits depth inner (drop 1 tokens)) (λ bs. Ok (ListOf (basic_list bs.0), bs.1)) x c.1 in
-          let t = note_list_takes limits depth inner takes starts (drop 1 tokens) a.0 a.1 in
-          let made : NoteArg × List TokenValue = (ListOf (basic_list a.0.0), a.0.1) in
-          let same = basic_list-toks a.0.0 in
-          let count = count-basic_list a.0.0 in
-          subst (Took arg_toks (IsArgument limits depth) tokens) (ok_is made x a.2)
-          (record {
-            parts = marked_tokens OpenBracket tokens c.0 ∙ ap (λ (ys : List TokenValue). Marked OpenBracket ∷ ys) t.parts ∙ ap (λ (ys : List TokenValue). Marked OpenBracket ∷ ((ys ++ mark CloseBracket) ++ a.0.1)) (sym same);
-            fits = (omega (arith, count, t.fits.0), basic_list-all a.0.0 limits depth t.fits.1);
-          })
-      | inr c ↦
-          let a = bind_ok (note_basic_at limits inner tokens) (λ b. Ok (OneBasic b.0, b.1)) x c.1 in
-          let t = note_basic_takes limits depth inner takes tokens a.0 a.1 in
-          let made : NoteArg × List TokenValue = (OneBasic a.0.0, a.0.1) in
-          subst (Took arg_toks (IsArgument limits depth) tokens) (ok_is made x a.2) (record { parts = t.parts; fits = t.fits })
-    ]
+  note_arg_takes : Takes arg_toks (λ a. IsArg a m e) (note_arg_at m e inner)
+  unfolding note_arg_at note_list_at
+  note_arg_takes tokens x f = choose (next_is OpenBracket tokens) _ _ f
+      (λ bracket g.
+      let bs = step _ (bounded_list_takes note_basic_law m.elements CloseBracket
+      (drop 1 tokens)) g in
+      let split = subst (λ ts. Split tokens (in_brackets ts) bs.left) (sym (basics_are bs.value))
+      (marked bracket ⟫ bs.parts) in
+      made bs.on split (
+        omega (arith, bs.fits.0, count_are bs.value),
+        cast (sym (all_basics m e bs.value)) bs.fits.1,
+      ))
+      (λ other g. let b = step _ (note_basic_takes tokens) g in made b.on b.parts b.fits)
 
-abbrev argument : Limits → ℕ → Reader Note → ℕ → Reader NoteArg
-argument limits depth inner = any_number (note_arg_at limits depth inner)
+  note_list_again : (bs : List NoteBasic) (rest : List TokenValue)
+      → IsArg (ListOf (basic_list bs)) l d → note_arg_at m e inner
+      (arg_toks (ListOf (basic_list bs)) ++ rest) ≡ Ok (ListOf (basic_list bs), rest)
+  unfolding note_arg_at note_list_at
+  note_list_again bs rest is =
+      let again = list_again (bounded note_basic_law m.elements) CloseBracket refl refl
+      (never_closes e) bs rest (omega (arith, is.0, count_are bs, allow.elements))
+      (cast (all_basics l d bs) is.1) in
+      rw (basics_are bs, again) refl
 
-argument_shrinks_from : (limits : Limits) (depth : ℕ) (inner : Reader Note)
-    → Takes note_toks (IsInner limits depth) inner → StartsDeep depth inner
-    → Shrinks (argument limits depth inner)
-argument_shrinks_from limits depth inner takes starts i =
-    shortens_from arg_toks (IsArgument limits depth) (note_arg_at limits depth inner) (note_arg_takes limits depth inner takes starts) arg_some
+  note_arg_again : (a : NoteArg) (rest : List TokenValue) → IsArg a l d → Ends rest
+      → note_arg_at m e inner (arg_toks a ++ rest) ≡ Ok (a, rest)
+  unfolding note_arg_at
+  note_arg_again (ListOf bs) rest is ends =
+      subst (λ (xs : NoteBasics). IsArg (ListOf xs) l d
+      → note_arg_at m e inner (arg_toks (ListOf xs) ++ rest) ≡ Ok (ListOf xs, rest))
+      (of_basics bs).1 (note_list_again (of_basics bs).0 rest) is
+  note_arg_again (OneBasic b) rest is ends =
+      let begun = note_basic_begun b rest (fits_more note_basic_law b is) in
+      let other = apart (begins_note_basic e) OpenBracket (note_basic_toks b ++ rest)
+      (never_opens e) begun in
+      rw (other, note_basic_again b rest is ends) refl
 
-abbrev ListToks : List NoteArg → List TokenValue
-ListToks args = args_toks (arg_list args)
+  note_arg_begun : (a : NoteArg) (rest : List TokenValue) → IsArg a m e
+      → next_passes (begins_arg e) (arg_toks a ++ rest) ≡ true
+  note_arg_begun (ListOf bs) rest is = refl
+  note_arg_begun (OneBasic b) rest is = second_of_two (is_mark OpenBracket) (begins_note_basic e)
+      (note_basic_toks b ++ rest) (note_basic_begun b rest is)
 
-separated_some : (element : ℕ → Reader NoteArg) (tokens : List TokenValue)
-    (x : List NoteArg × List TokenValue) → separated_at element tokens ≡ Ok x
-    → (first : NoteArg) × (others : List NoteArg) × (x.0 ≡ first ∷ others)
-unfolding separated_at
-separated_some element tokens x e =
-    let a = bind_ok (element 0 tokens) (λ first. many_at (is_mark Comma) (after_token element) 1 first.1 >>= λ others. Ok (first.0 ∷ others.0, others.1)) x e in
-    let b = bind_ok (many_at (is_mark Comma) (after_token element) 1 a.0.1) (λ others. Ok (a.0.0 ∷ others.0, others.1)) x a.2 in
-    let made : List NoteArg × List TokenValue = (a.0.0 ∷ b.0.0, b.0.1) in
-    (a.0.0, b.0.0, ap (λ (p : List NoteArg × List TokenValue). p.0) (sym (ok_is made x b.2)))
+  pub note_arg_law : Law (begins_arg e) arg_toks (λ a. IsArg a l d) (λ a. IsArg a m e)
+      (note_arg_at m e inner)
+  note_arg_law = record { takes = note_arg_takes; again = note_arg_again; begun = note_arg_begun }
 
-note_args_take : (limits : Limits) (depth : ℕ) (inner : Reader Note)
-    → Takes note_toks (IsInner limits depth) inner → StartsDeep depth inner
-    → Takes ListToks (AllByRecursion (IsArgument limits depth)) (note_args_at limits depth inner)
-unfolding note_args_at
-note_args_take limits depth inner takes starts tokens x e =
-    elim (chosen (next_is OpenParen tokens) _ _ (Ok x) e) [
-      | inl c ↦
-          let a = bind_ok (separated_at (argument limits depth inner) (drop 1 tokens)) (λ args. mark_at CloseParen args.1 >>= λ closed. Ok (args.0, closed.1)) x c.1 in
-          let b = bind_ok (mark_at CloseParen a.0.1) (λ closed. Ok (a.0.0, closed.1)) x a.2 in
-          let t = separated_takes arg_toks (IsArgument limits depth) (argument limits depth inner) (λ i. note_arg_takes limits depth inner takes starts) (drop 1 tokens) a.0 a.1 in
-          let u = mark_takes CloseParen a.0.1 b.0 b.1 in
-          let some = separated_some (argument limits depth inner) (drop 1 tokens) a.0 a.1 in
-          let made : List NoteArg × List TokenValue = (a.0.0, b.0.1) in
-          let spelled : ListToks a.0.0 ≡ in_parens (separated arg_toks a.0.0) = subst (λ (args : List NoteArg). ListToks args ≡ in_parens (separated arg_toks args)) (sym some.2) (arg_list-toks some.0 some.1) in
-          let inside : drop 1 tokens ≡ (separated arg_toks a.0.0 ++ mark CloseParen) ++ b.0.1 =
-          t.parts ∙ ap (λ (ys : List TokenValue). separated arg_toks a.0.0 ++ ys) u.parts ∙ sym (append_assoc (separated arg_toks a.0.0) (mark CloseParen) b.0.1) in
-          subst (Took ListToks (AllByRecursion (IsArgument limits depth)) tokens) (ok_is made x b.2)
-          (record { parts = marked_tokens OpenParen tokens c.0 ∙ ap (λ (ys : List TokenValue). Marked OpenParen ∷ ys) inside ∙ ap (λ (ys : List TokenValue). ys ++ b.0.1) (sym spelled); fits = t.fits })
-      | inr c ↦ subst (Took ListToks (AllByRecursion (IsArgument limits depth)) tokens) (ok_is ([], tokens) x c.1) (record { parts = refl; fits = tt })
-    ]
+  pub note_args_take : Takes (λ args. args_toks (arg_list args))
+      (AllByRecursion (λ a. IsArg a m e)) (note_args_at m e inner)
+  unfolding note_args_at
+  note_args_take tokens x f = choose (next_is OpenParen tokens) _ _ f
+      (λ paren g.
+      let args = step _ (separated_takes arg_toks (λ i a. IsArg a m e) _
+      (λ i. note_arg_takes) (drop 1 tokens)) g in
+      let end = step _ (mark_takes CloseParen args.left) args.on in
+      made end.on (in_parentheses args.value args.fits.0 (marked paren ⟫ args.parts ⟫ end.parts))
+      (all_of (λ a. IsArg a m e) 0 args.value args.fits.1))
+      (λ other g. made g none tt)
+
+  pub note_args_again : (args : List NoteArg) (rest : List TokenValue)
+      → AllByRecursion (λ a. IsArg a l d) args → Ends rest
+      → note_args_at m e inner (args_toks (arg_list args) ++ rest) ≡ Ok (args, rest)
+  unfolding note_args_at
+  note_args_again [] rest is ends = rw (no_args rest ends) refl
+  note_args_again (a ∷ args) rest is ends =
+      let after : List TokenValue = Marked CloseParen ∷ rest in
+      let again = separated_again (unbounded note_arg_law (length (a ∷ args))) a args after
+      (omega arith) is.0 is.1 refl refl in
+      let flat : args_toks (arg_list (a ∷ args)) ++ rest
+      ≡ Marked OpenParen ∷ (separated arg_toks (a ∷ args) ++ after) =
+      ap (λ (ts : List TokenValue). ts ++ rest) (args_are a args)
+      ∙ ap (λ (ts : List TokenValue). Marked OpenParen ∷ ts)
+      (append_assoc (separated arg_toks (a ∷ args)) (mark CloseParen) rest) in
+      ap (note_args_at m e inner) flat ∙ rw (again, mark_again CloseParen rest) refl
 
 -- ---- annotations, by the number of levels
 
-name_starts : (tokens : List TokenValue) (x : List ℕ × List TokenValue) → name_at tokens ≡ Ok x
-    → next_passes is_name tokens ≡ true
-unfolding name_at
-name_starts [] x e = absurd cc
-name_starts (Word w ∷ ts) x e =
-    elim (chosen (is_reserved w) _ _ (Ok x) e) [
-      | inl c ↦ absurd (let d = c.1 in cc)
-      | inr c ↦ ap not c.0
-    ]
-name_starts (Whole n ∷ ts) x e = absurd cc
-name_starts (FloatText n ∷ ts) x e = absurd cc
-name_starts (StringText n ∷ ts) x e = absurd cc
-name_starts (Marked n ∷ ts) x e = absurd cc
+no_level : (n : Note) (limits : Limits) → IsNote n limits zero → ⊥
+no_level (Called name args) limits is = is
 
-deep_name : (d : ℕ) (tokens : List TokenValue) → next_passes is_name tokens ≡ true
-    → next_passes (is_deep_name (suc d)) tokens ≡ true
-deep_name d [] e = absurd cc
-deep_name d (t ∷ ts) e = e
+-- Reading under limits that are no smaller.
+module _ (l m : Limits) (allow : Allow l m) where
+  -- a level above one of which the laws hold
+  module _ (d e : ℕ) (law : NoteLaw l m d e (note_at m e)) where
+    level_takes : Takes note_toks (λ n. IsNote n m (suc e)) (note_at m (suc e))
+    unfolding note_at
+    level_takes tokens x f =
+        let name = step _ (name_takes tokens) f in
+        let args = step _ (note_args_take l m allow d e (note_at m e) law name.left) name.on in
+        made args.on (name.parts ⟫ args.parts)
+        (name.fits, cast (sym (all_args m e args.value)) args.fits)
 
-no_level : (b : Bool) (tokens : List TokenValue) (x : Note × List TokenValue)
-    → cond b (too_deep tokens) (unexpected tokens) ≡ Ok x → ⊥
-no_level true tokens x e = cc
-no_level false tokens x e = cc
+    level_again : (name : List ℕ) (args : List NoteArg) (rest : List TokenValue)
+        → IsNote (Called name (arg_list args)) l (suc d) → Ends rest
+        → note_at m (suc e) (note_toks (Called name (arg_list args)) ++ rest)
+        ≡ Ok (Called name (arg_list args), rest)
+    unfolding note_at
+    level_again name args rest is ends =
+        let again = note_args_again l m allow d e (note_at m e) law args rest
+        (cast (all_args l d args) is.1) ends in
+        rw (name_again name (args_toks (arg_list args) ++ rest) is.0, again) refl
 
-note_starts : (limits : Limits) (depth : ℕ) → StartsDeep depth (note_at limits depth)
-unfolding StartsDeep note_at
-note_starts limits zero tokens x e = absurd (no_level (next_passes is_name tokens) tokens x e)
-note_starts limits (suc d) tokens x e =
-    let a = bind_ok (name_at tokens) (λ name. note_args_at limits d (note_at limits d) name.1 >>= λ args. Ok (Called name.0 (arg_list args.0), args.1)) x e in
-    deep_name d tokens (name_starts tokens a.0 a.1)
+    again_above : (n : Note) (rest : List TokenValue) → IsNote n l (suc d) → Ends rest
+        → note_at m (suc e) (note_toks n ++ rest) ≡ Ok (n, rest)
+    again_above (Called name args) rest is ends =
+        subst (λ (xs : NoteArgs). IsNote (Called name xs) l (suc d)
+        → note_at m (suc e) (note_toks (Called name xs) ++ rest) ≡ Ok (Called name xs, rest))
+        (of_args args).1 (λ it. level_again name (of_args args).0 rest it ends) is
 
-pub note_takes : (limits : Limits) (depth : ℕ)
-    → Takes note_toks (IsInner limits depth) (note_at limits depth)
-unfolding note_at
-note_takes limits zero tokens x e = absurd (no_level (next_passes is_name tokens) tokens x e)
-note_takes limits (suc d) tokens x e =
-    let a = bind_ok (name_at tokens) (λ name. note_args_at limits d (note_at limits d) name.1 >>= λ args. Ok (Called name.0 (arg_list args.0), args.1)) x e in
-    let b = bind_ok (note_args_at limits d (note_at limits d) a.0.1) (λ args. Ok (Called a.0.0 (arg_list args.0), args.1)) x a.2 in
-    let t = name_takes tokens a.0 a.1 in
-    let u = note_args_take limits d (note_at limits d) (note_takes limits d) (note_starts limits d) a.0.1 b.0 b.1 in
-    let made : Note × List TokenValue = (Called a.0.0 (arg_list b.0.0), b.0.1) in
-    subst (Took note_toks (IsInner limits (suc d)) tokens) (ok_is made x b.2)
-    (record { parts = t.parts ∙ ap (λ (ys : List TokenValue). Word a.0.0 ∷ ys) u.parts; fits = (t.fits, arg_list-all b.0.0 limits d u.fits) })
+    begun_above : (n : Note) (rest : List TokenValue) → IsNote n m (suc e)
+        → next_passes (is_deep_name (suc e)) (note_toks n ++ rest) ≡ true
+    begun_above (Called name args) rest is = rw is.0 refl
 
-pub note_list_shrinks : (limits : Limits) (depth : ℕ) → Shrinks
-    (at_most limits.elements (begins_note_basic depth)
-    (note_basic_at limits (note_at limits depth)))
-note_list_shrinks limits depth = listed_shrinks_from limits depth (note_at limits depth) (note_takes limits depth)
+  pub note_law : (d e : ℕ) → d ≤ e → NoteLaw l m d e (note_at m e)
+  unfolding note_at
+  note_law zero zero le = record {
+    takes = λ tokens x f. choose (next_passes is_name tokens) _ _ f
+        (λ named g. refused g) (λ other g. refused g);
+    again = λ n rest is ends. absurd (no_level n l is);
+    begun = λ n rest is. absurd (no_level n m is);
+  }
+  note_law (suc d) zero le = absurd (omega arith)
+  note_law zero (suc e) le =
+      let law = note_law zero e (omega arith) in
+      record {
+        takes = level_takes zero e law;
+        again = λ n rest is ends. absurd (no_level n l is);
+        begun = begun_above zero e law;
+      }
+  note_law (suc d) (suc e) le =
+      let law = note_law d e (omega arith) in
+      record {
+        takes = level_takes d e law;
+        again = again_above d e law;
+        begun = begun_above d e law;
+      }
+
+  pub notes_take : Takes notes_toks (AreNotes m) (notes_at m)
+  unfolding notes_at
+  notes_take tokens x f =
+      let behind : Note → List TokenValue = λ n. Marked ColonColon ∷ note_toks n in
+      let law = note_law l.depth m.depth allow.depth in
+      let t = many_takes behind (λ i n. IsNote n m m.depth) (is_mark ColonColon) _
+      (λ i ys wanted y g. let u = law.takes (drop 1 ys) y g in
+      record { parts = (marked wanted ⟫ split_of u).is; fits = u.fits }) 0 tokens x f in
+      record { parts = t.parts; fits = all_of (λ n. IsNote n m m.depth) 0 x.0 t.fits }
+
+  pub notes_again : (notes : List Note) (rest : List TokenValue) → AreNotes l notes → Ends rest
+      → next_is ColonColon rest ≡ false → notes_at m (notes_toks notes ++ rest) ≡ Ok (notes, rest)
+  unfolding notes_at
+  notes_again notes rest are ends over =
+      let law = note_law l.depth m.depth allow.depth in
+      let each = unbounded law (length notes) in
+      many_again Ends (λ n. Marked ColonColon ∷ note_toks n) (λ n. IsNote n l l.depth)
+      (is_mark ColonColon) (after_token (any_number (note_at m m.depth)))
+      (Shrinks-after_token _ each.shrinks) (length notes) each.again
+      (λ n ts it. refl) (λ n ts it. refl) 0 notes rest (omega arith) are ends over
+
+-- ---- what is read takes a token at least
+
+pub note_list_shrinks : (limits : Limits) (depth : ℕ) → Shrinks (at_most limits.elements
+    (begins_note_basic depth) (note_basic_at limits (note_at limits depth)))
+note_list_shrinks limits depth =
+    let law = note_law limits limits (same limits) depth depth (omega arith) in
+    (bounded (note_basic_law limits limits (same limits) depth depth _ law) limits.elements).shrinks
 
 pub note_args_shrink : (limits : Limits) (depth : ℕ)
     → Shrinks (any_number (note_arg_at limits depth (note_at limits depth)))
-note_args_shrink limits depth = argument_shrinks_from limits depth (note_at limits depth) (note_takes limits depth) (note_starts limits depth)
-
-note_shortens : (limits : Limits) (depth : ℕ) → Shortens (note_at limits depth)
-note_shortens limits depth = shortens_from note_toks (IsInner limits depth) (note_at limits depth) (note_takes limits depth) note_some
+note_args_shrink limits depth =
+    let law = note_law limits limits (same limits) depth depth (omega arith) in
+    (unbounded (note_arg_law limits limits (same limits) depth depth _ law) 0).shrinks
 
 pub notes_shrink : (limits : Limits) (depth : ℕ) → Shrinks (any_number (note_at limits depth))
-notes_shrink limits depth i = note_shortens limits depth
-
-pub notes_take : (limits : Limits) → Takes notes_toks (AreNotes limits) (notes_at limits)
-unfolding notes_at
-notes_take limits tokens x e =
-    let behind : Note → List TokenValue = λ n. Marked ColonColon ∷ note_toks n in
-    many_takes behind (IsInner limits limits.depth) (is_mark ColonColon) (after_token (any_number (note_at limits limits.depth)))
-    (λ i ys y wanted found. let u = note_takes limits limits.depth (drop 1 ys) y found in
-    record { parts = marked_tokens ColonColon ys wanted ∙ ap (λ (zs : List TokenValue). Marked ColonColon ∷ zs) u.parts; fits = u.fits }) 0 tokens x e
+notes_shrink limits depth =
+    (unbounded (note_law limits limits (same limits) depth depth (omega arith)) 0).shrinks

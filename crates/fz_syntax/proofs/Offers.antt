@@ -4,15 +4,15 @@ use Rattle.std.proofs.Common.{◌≡◌, ℕ, zero, suc, ◌+◌, Bool, true, fa
 use Rattle.std.specs.Prelude.{◌≤◌, ◌<◌, ◌⊎◌, Option, Some, None, IfSome, IfNone, is_some}
 use Rattle.std.specs.List.{flat_map}
 use Rattle.std.proofs.lemmas.List.{append-nil}
-use Rattle.fz_lex.specs.Ahead.{tokens_ahead}
-use Rattle.fz_lex.specs.Left.{left, source_of}
-use Rattle.fz_lex.specs.Lexing.{SpannedToken, LexesToSpanned, most_bytes, AreWithinLimit, LexesWithinLimits}
-use Rattle.fz_lex.specs.View.{IsLexicalFault, IsPlacedWithin, spanned}
-use Rattle.fz_lex.specs.declared.ahead.Tokens.{Tokens}
-use Rattle.fz_lex.specs.declared.token.Token.{Token}
-use Rattle.fz_lex.specs.Token.{TokenValue}
-use Rattle.fz_lex.specs.declared.error.SyntaxError.{SyntaxError}
-use Rattle.fz_lex.specs.declared.error.SyntaxError.TheVariants as errors
+use Rattle.fz_tree.specs.of_lex.Ahead.{tokens_ahead}
+use Rattle.fz_tree.specs.of_lex.Left.{left, source_of}
+use Rattle.fz_tree.specs.of_lex.Lexing.{SpannedToken, LexesToSpanned, most_bytes, AreWithinLimit, LexesWithinLimits}
+use Rattle.fz_tree.specs.of_lex.View.{IsLexicalFault, IsPlacedWithin, spanned}
+use Rattle.fz_tree.specs.of_lex.declared.ahead.Tokens.{Tokens}
+use Rattle.fz_tree.specs.of_lex.declared.token.Token.{Token}
+use Rattle.fz_tree.specs.of_lex.Token.{TokenValue}
+use Rattle.fz_tree.specs.of_lex.declared.error.SyntaxError.{SyntaxError}
+use Rattle.fz_tree.specs.of_lex.declared.error.SyntaxError.TheVariants as errors
 use Rattle.fz_tree.specs.Tree as tree
 use Rattle.fz_syntax.specs.declared.parser.cursor.Parser.{Parser}
 use Rattle.fz_syntax.specs.declared.parser.refusal.Refusal.{Refusal}
@@ -120,13 +120,7 @@ too_long_refused source long = record { no_tree = λ t text. let short = text.le
 fault_or_memory : {B : Type 0} (e : SyntaxError) (read : Result B Fault)
     → IsWhole (λ (b : B). b) (Err e) read → (e ≡ errors.Memory) ⊎ ((f : Fault) × (read ≡ Err f))
 fault_or_memory errors.Memory read h = inl refl
-fault_or_memory errors.TooLong read h = inr (h.0, h.1)
-fault_or_memory (errors.BadByte p) read h = inr (h.0, h.1)
-fault_or_memory (errors.TooLarge p) read h = inr (h.0, h.1)
-fault_or_memory (errors.Float p) read h = inr (h.0, h.1)
-fault_or_memory (errors.Syntax p) read h = inr (h.0, h.1)
-fault_or_memory (errors.TooDeep p) read h = inr (h.0, h.1)
-fault_or_memory (errors.TooMany p) read h = inr (h.0, h.1)
+fault_or_memory _ read h = inr (h.0, h.1)
 
 no_tree_left : {R B : Type 0} (part : Part R B) (i : Rest) (e : SyntaxError) → IsWithin part i
     → (e ≡ errors.Memory) ⊎ ((f : Fault) × (whole (part.read (lexemes i.parser)) ≡ Err f))

@@ -3,14 +3,14 @@ use Rattle.std.proofs.Common.{Vec, Global, ◌≡◌, ◌∙◌, ◌≤◌, ℕ,
 use Rattle.std.specs.Prelude.{MatchResult}
 use Rattle.std.specs.List.{All, AllByRecursion}
 use Rattle.std.proofs.lemmas.List.Elements.{All-from_recursion}
-use Rattle.fz_lex.specs.Token.{TokenValue, IsTokenText}
-use Rattle.fz_lex.specs.Lexing.{SpannedToken, LexesToSpanned, nothing, most_bytes, AreWithinLimit, IsTextOfTokens}
-use Rattle.fz_lex.specs.Found.{AreInOrder}
-use Rattle.fz_lex.specs.Ahead.{tokens_ahead}
-use Rattle.fz_lex.proofs.Texts.{words_are_words}
-use Rattle.fz_lex.proofs.AheadLaws.{lexed_ahead}
-use Rattle.fz_lex.specs.declared.error.SyntaxError.{SyntaxError}
-use Rattle.fz_lex.specs.declared.error.SyntaxError.TheVariants as errors
+use Rattle.fz_tree.specs.of_lex.Token.{TokenValue, IsTokenText}
+use Rattle.fz_tree.specs.of_lex.Lexing.{SpannedToken, LexesToSpanned, nothing, most_bytes, AreWithinLimit, IsTextOfTokens}
+use Rattle.fz_tree.specs.of_lex.Found.{AreInOrder}
+use Rattle.fz_tree.specs.of_lex.Ahead.{tokens_ahead}
+use Rattle.fz_tree.proofs.of_lex.Texts.{words_are_words}
+use Rattle.fz_tree.proofs.of_lex.AheadLaws.{lexed_ahead}
+use Rattle.fz_tree.specs.of_lex.declared.error.SyntaxError.{SyntaxError}
+use Rattle.fz_tree.specs.of_lex.declared.error.SyntaxError.TheVariants as errors
 use Rattle.fz_tree.specs.View.{bare_printed, bare_items}
 use Rattle.fz_syntax.specs.declared.parser.cursor.Parser.{Parser}
 use Rattle.fz_tree.specs.declared.tree.Printed.{Printed as Item}
@@ -23,9 +23,9 @@ use Rattle.fz_syntax.specs.Outcome.{IsWhole}
 use Rattle.fz_tree.specs.Refusals.{IsValue}
 use Rattle.fz_syntax.specs.Walk.{ahead, lexemes}
 use Rattle.fz_syntax.proofs.Whole.{found_of, only_of}
-use Rattle.fz_syntax.proofs.ItemLaws.{tree_takes}
-use Rattle.fz_syntax.proofs.TreeAgain.{tree_of_toks}
-use Rattle.fz_syntax.proofs.PrintedLaws.{items_take, items_of_toks}
+use Rattle.fz_syntax.proofs.ExprLaws.{same}
+use Rattle.fz_syntax.proofs.ItemLaws.{tree_takes, tree_of_toks}
+use Rattle.fz_syntax.proofs.PrintedLaws.{items_takes, items_of_toks}
 
 -- the tokens that a source is cut into
 abbrev pub values : List SpannedToken → List TokenValue
@@ -58,7 +58,7 @@ module _ (source : List ℕ) (p : Parser) (all : ahead p ≡ tokens_ahead source
   unfolding tree_of
   tree_found t short lexes numbers read =
       let result : Result Tree SyntaxError = Ok t in
-      let h = found_of (λ (u : Tree). u) toks (HasShape the_limits) (tree_at the_limits) (tree_takes the_limits) result (lexemes p) read in
+      let h = found_of (λ (u : Tree). u) toks (HasShape the_limits) (tree_at the_limits) (tree_takes _ _ (same the_limits)) result (lexemes p) read in
       record {
         lexes = text_of (toks t) short lexes numbers h.1;
         of_grammar = record { shape = h.0; texts = subst (AllByRecursion IsTokenText) (seen (toks t) h.1) (of_values (tokens_ahead source 0) (words_are_words source (tokens_ahead source 0) lexes)) };
@@ -67,7 +67,7 @@ module _ (source : List ℕ) (p : Parser) (all : ahead p ≡ tokens_ahead source
   -- a tree of which the source is a text is the one that was read
   pub tree_read : (t : Tree) → IsTextOfTree source t → tree_of the_limits (lexemes p) ≡ Ok t
   tree_read t text =
-      ap (tree_of the_limits) (ap values all ∙ tokens_are source (toks t) text.lexes) ∙ tree_of_toks the_limits t text.of_grammar.shape
+      ap (tree_of the_limits) (ap values all ∙ tokens_are source (toks t) text.lexes) ∙ tree_of_toks _ _ (same the_limits) t text.of_grammar.shape
 
   -- the items that were read are some of which the source is a text
   pub items_found : (v : Vec Item Global) → length source ≤ most_bytes
@@ -77,7 +77,7 @@ module _ (source : List ℕ) (p : Parser) (all : ahead p ≡ tokens_ahead source
   unfolding items_of
   items_found v short lexes numbers read =
       let result : Result (Vec Item Global) SyntaxError = Ok v in
-      let h = found_of (λ (x : Vec Item Global). bare_items x.items) itoks (AllByRecursion (IsPrinted the_limits)) (items_at the_limits) (items_take the_limits) result (lexemes p) read in
+      let h = found_of (λ (x : Vec Item Global). bare_items x.items) itoks (AllByRecursion (IsPrinted the_limits)) (items_at the_limits) (items_takes _ _ (same the_limits)) result (lexemes p) read in
       record { lexes = text_of (itoks (bare_items v.items)) short lexes numbers h.1; of_grammar = h.0 }
 
   -- items of which the source is a text are those that were read
@@ -87,7 +87,7 @@ module _ (source : List ℕ) (p : Parser) (all : ahead p ≡ tokens_ahead source
       → IsValue (λ (x : Vec Item Global). bare_items x.items) result items
   unfolding items_of
   items_only result read items text =
-      only_of (λ (x : Vec Item Global). bare_items x.items) itoks (AllByRecursion (IsPrinted the_limits)) (items_at the_limits) (items_of_toks the_limits) result (lexemes p) read items text.of_grammar (ap values all ∙ tokens_are source (itoks items) text.lexes)
+      only_of (λ (x : Vec Item Global). bare_items x.items) itoks (AllByRecursion (IsPrinted the_limits)) (items_at the_limits) (items_of_toks _ _ (same the_limits)) result (lexemes p) read items text.of_grammar (ap values all ∙ tokens_are source (itoks items) text.lexes)
 
 -- the empty text is one of no items
 pub none_text : IsTextOfItems [] []
@@ -102,13 +102,7 @@ empty_of_none : {X : Type 0} (items_of : X → List Item) (result : Result X Syn
     → MatchResult result (λ given. items_of given ≡ []) (λ e. e ≡ errors.Memory)
 empty_of_none items_of (Ok v) h = none_seen (items_of v) h
 empty_of_none items_of (Err errors.Memory) h = refl
-empty_of_none items_of (Err errors.TooLong) h = absurd h
-empty_of_none items_of (Err (errors.BadByte p)) h = absurd h
-empty_of_none items_of (Err (errors.TooLarge p)) h = absurd h
-empty_of_none items_of (Err (errors.Float p)) h = absurd h
-empty_of_none items_of (Err (errors.Syntax p)) h = absurd h
-empty_of_none items_of (Err (errors.TooDeep p)) h = absurd h
-empty_of_none items_of (Err (errors.TooMany p)) h = absurd h
+empty_of_none items_of (Err _) h = absurd h
 
 -- what is read of the empty text
 pub empty_of_only : {X : Type 0} (items_of : X → List Item) (result : Result X SyntaxError)

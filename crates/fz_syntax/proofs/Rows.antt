@@ -1,8 +1,8 @@
 -- The definitions, computed on worked texts. Each row gives the tokens of a text and its tree.
 use Rattle.std.proofs.Common.{◌≡◌, pos, true, false, List, [], ◌∷◌, Some, None, Ok, Err, refl}
 use Rattle.std.specs.Prelude.{codes}
-use Rattle.fz_lex.specs.declared.token.Mark.TheVariants.{OpenParen, CloseParen, OpenBracket, CloseBracket, OpenBrace, CloseBrace, Comma, Semicolon, Colon, ColonColon, DotDot}
-use Rattle.fz_lex.specs.Token.{TokenValue, Word, Whole, FloatText, Marked}
+use Rattle.fz_tree.specs.of_lex.declared.token.Mark.TheVariants.{OpenParen, CloseParen, OpenBracket, CloseBracket, OpenBrace, CloseBrace, Comma, Semicolon, Colon, ColonColon, DotDot}
+use Rattle.fz_tree.specs.of_lex.Token.{TokenValue, Word, Whole, FloatText, Marked}
 use Rattle.fz_tree.specs.Tree.{Number, Range, Lit, Named, One, Called, NoMoreArgs, MoreArgs, OneBasic, NoteFloat, NoteLiteral, IntBase, SetBase, Param, Decl, Constraint, Solve, Satisfy}
 use Rattle.fz_tree.specs.Tokens.{decl_toks, constraint_toks, solve_toks, param_toks}
 use Rattle.fz_tree.specs.Text.{the_limits, is_reserved}

@@ -3,9 +3,9 @@
 use Rattle.std.proofs.Common.{◌≡◌, ℕ, ◌+◌, true, false, cond, List, [], ◌∷◌, ◌++◌, drop, Ok, Err, refl, sym, ap, ◌∙◌, arith, length-drop}
 use Rattle.fz_syntax.specs.declared.parser.refusal.Refusal.{Refusal}
 use Rattle.fz_syntax.specs.declared.parser.refusal.Refusal.TheVariants as refusals
-use Rattle.fz_lex.specs.declared.token.Mark.{Mark}
-use Rattle.fz_lex.specs.declared.token.Mark.TheVariants.{Comma}
-use Rattle.fz_lex.specs.Token.{TokenValue}
+use Rattle.fz_tree.specs.of_lex.declared.token.Mark.{Mark}
+use Rattle.fz_tree.specs.of_lex.declared.token.Mark.TheVariants.{Comma}
+use Rattle.fz_tree.specs.of_lex.Token.{TokenValue}
 use Rattle.fz_syntax.specs.Reading.{Syntax, Float, TooDeep, TooMany, Fault, FaultKind, Read, Reader, ◌>>=◌, is_mark, next_is, many_at, after_token, separated_at}
 use Rattle.fz_syntax.specs.Outcome.{Fails}
 use Rattle.fz_syntax.proofs.Lists.{Shrinks, loop_step, loop_fails, loop_ends, with_front}
@@ -17,10 +17,7 @@ fault kind left = record { kind = kind; left = left }
 pub fails_bind : {A B : Type 0} (e : Refusal) (read : Read A) (f : A × List TokenValue → Read B)
     (left : List TokenValue) → Fails e read left → Fails e (read >>= f) left
 fails_bind refusals.Memory read f left h = tt
-fails_bind refusals.Syntax read f left h = ap (λ r. r >>= f) h
-fails_bind refusals.Float read f left h = ap (λ r. r >>= f) h
-fails_bind refusals.TooDeep read f left h = ap (λ r. r >>= f) h
-fails_bind refusals.TooMany read f left h = ap (λ r. r >>= f) h
+fails_bind _ read f left h = ap (λ r. r >>= f) h
 
 -- two readings that fail alike
 pub fails_like : {A B : Type 0} (e : Refusal) (read : Read A) (all : Read B)
@@ -52,29 +49,3 @@ pub separated_fails : {A : Type 0} (e : Refusal) (element : ℕ → Reader A)
     → Fails e (separated_at element tokens) left
 unfolding separated_at
 separated_fails e element tokens left h = fails_bind e (element 0 tokens) _ left h
-
--- a mark was taken, and the part behind it
-pub marked_step : {A : Type 0} (m : Mark) (part : ℕ → Reader A) → Shrinks part
-    → (front : List A) (i : ℕ) (before after : List TokenValue) (x : A) (rest : List TokenValue)
-    (all : Read (List A)) → next_is m before ≡ true → Taken m before after
-    → part i after ≡ Ok (x, rest)
-    → with_front front (many_at (is_mark m) (after_token part) i before) ≡ all → with_front (front ++ x ∷ []) (many_at (is_mark m) (after_token part) (i + 1) rest) ≡ all
-marked_step m part shrinks front i before after x rest all wanted taken found so_far =
-    let behind : after ≡ drop 1 before = taken ∙ ap (λ b. cond b (drop 1 before) before) wanted in
-    loop_step (is_mark m) (after_token part) (Shrinks-after_token part shrinks) front i before x rest all wanted (ap (part i) (sym behind) ∙ found) so_far
-
-pub marked_fails : {A : Type 0} (e : Refusal) (m : Mark) (part : ℕ → Reader A) (front : List A)
-    (i : ℕ) (before after left : List TokenValue) (all : Read (List A)) → next_is m before ≡ true
-    → Taken m before after
-    → with_front front (many_at (is_mark m) (after_token part) i before) ≡ all → Fails e (part i after) left → Fails e all left
-marked_fails e m part front i before after left all wanted taken so_far h =
-    let behind : after ≡ drop 1 before = taken ∙ ap (λ b. cond b (drop 1 before) before) wanted in
-    fails_like e (part i after) all left (λ f found. loop_fails (is_mark m) (after_token part) front i before f all wanted (ap (part i) (sym behind) ∙ found) so_far) h
-
-pub marked_ends : {A : Type 0} (m : Mark) (part : ℕ → Reader A) (front : List A) (i : ℕ)
-    (before after : List TokenValue) (all : Read (List A)) → next_is m before ≡ false
-    → Taken m before after
-    → with_front front (many_at (is_mark m) (after_token part) i before) ≡ all → all ≡ Ok (front, after)
-marked_ends m part front i before after all wanted taken so_far =
-    let behind : after ≡ before = taken ∙ ap (λ b. cond b (drop 1 before) before) wanted in
-    loop_ends (is_mark m) (after_token part) front i before all wanted so_far ∙ ap (λ ts. Ok (front, ts)) (sym behind)

@@ -4,20 +4,20 @@ use Rattle.std.proofs.Common.{true, false, ◌≡◌, ◌<◌, ℕ, Bool, List, 
 use Rattle.std.specs.Prelude.{IfOk, if◌then◌else◌, ◌==◌, codes}
 use Rattle.std.specs.List.{flat_map}
 use Rattle.std.specs.Bool.{OnFalse}
-use Rattle.std.proofs.lemmas.List.{append-nil, map-append}
+use Rattle.std.proofs.lemmas.List.{append-nil, append_cancel_right, map-append}
 use Rattle.std.proofs.lemmas.Bool.{eqb-true, cases_Bool}
 use Rattle.std.proofs.lemmas.Grind.{flat_map-append}
-use Rattle.fz_lex.specs.of_base.declared.span.Span.{Span}
-use Rattle.fz_lex.specs.Token.{TokenValue, Word, Marked}
-use Rattle.fz_lex.specs.Lexing.{SpannedToken}
-use Rattle.fz_lex.specs.Left.{left, listed_comma, source_of}
-use Rattle.fz_lex.specs.declared.ahead.Listed.{Listed}
-use Rattle.fz_lex.specs.View.{token_value, spanned}
-use Rattle.fz_lex.specs.declared.token.Mark.{Mark}
-use Rattle.fz_lex.specs.declared.token.Mark.TheVariants.{OpenParen, CloseParen, OpenBracket, CloseBracket, Comma}
-use Rattle.fz_lex.specs.declared.token.TokenKind.{TokenKind}
-use Rattle.fz_lex.specs.declared.token.TokenKind.TheVariants as kinds
-use Rattle.fz_lex.specs.declared.token.Token.{Token}
+use Rattle.fz_tree.specs.of_lex.of_base.declared.span.Span.{Span}
+use Rattle.fz_tree.specs.of_lex.Token.{TokenValue, Word, Marked}
+use Rattle.fz_tree.specs.of_lex.Lexing.{SpannedToken}
+use Rattle.fz_tree.specs.of_lex.Left.{left, listed_comma, source_of}
+use Rattle.fz_tree.specs.of_lex.declared.ahead.Listed.{Listed}
+use Rattle.fz_tree.specs.of_lex.View.{token_value, spanned}
+use Rattle.fz_tree.specs.of_lex.declared.token.Mark.{Mark}
+use Rattle.fz_tree.specs.of_lex.declared.token.Mark.TheVariants.{OpenParen, CloseParen, OpenBracket, CloseBracket, Comma}
+use Rattle.fz_tree.specs.of_lex.declared.token.TokenKind.{TokenKind}
+use Rattle.fz_tree.specs.of_lex.declared.token.TokenKind.TheVariants as kinds
+use Rattle.fz_tree.specs.of_lex.declared.token.Token.{Token}
 use Rattle.fz_tree.specs.Tree as tree
 use Rattle.fz_tree.specs.Tokens.{mark, word, literal_toks, var_toks, array_word}
 use Rattle.fz_tree.specs.View.{lexeme, bare_literal, bare_literal_kind}
@@ -36,7 +36,7 @@ use Rattle.fz_tree.specs.declared.tree.NoteBasic.{NoteBasic}
 use Rattle.fz_tree.specs.declared.tree.PrintedValue.{PrintedValue}
 use Rattle.fz_syntax.specs.Placed.{PlacedToken, AgreeWith, unplaced, plain, placed_mark, placed_word, placed_separated, placed_between, placed_name, starting_at, ending_at, placed_literal, placed_parts, placed_args, placed_arg, placed_note_basic, placed_printed_value}
 use Rattle.fz_syntax.specs.Walk.{ahead, lexemes, start_of, end_of, Consumed, Passed, Walk, placed_listed}
-use Rattle.fz_syntax.proofs.ListLaws.{Takes, marked_tokens, worded_tokens, mark_takes, word_takes}
+use Rattle.fz_syntax.proofs.Laws.{Takes, marked_tokens, worded_tokens, mark_takes, word_takes}
 use Rattle.fz_syntax.proofs.PrintedLaws.{array_tokens}
 
 -- ---- tokens that were taken
@@ -80,17 +80,6 @@ passed w = record { taken = w.taken; on = w.on }
 pub skip_passed : (p q : Parser) (t : SpannedToken) (rest : List SpannedToken) → ahead p ≡ t ∷ rest
     → ahead q ≡ rest → q.reached ≡ t.end → source_of q.tokens ≡ source_of p.tokens → Passed p q
 skip_passed p q t rest before after upto same = record { taken = t ∷ []; on = consumed_one p q t rest before after upto same }
-
--- no token is taken
-pub passed_still : (p q : Parser) → ahead q ≡ ahead p → q.reached ≡ p.reached
-    → source_of q.tokens ≡ source_of p.tokens → Passed p q
-passed_still p q left upto same = record { taken = []; on = consumed_none p q left upto same }
-
--- the same of what a method gave
-pub passed_on : {X : Type 0} (p q r : Parser) (result : Result X Refusal) → Passed p q
-    → IfOk result (λ x. Passed q r) → IfOk result (λ x. Passed p r)
-passed_on p q r (Ok x) a b = passed_then a b
-passed_on p q r (Err e) a b = tt
 
 -- ---- and their byte ranges
 
@@ -144,27 +133,11 @@ values_agree : (ts : List SpannedToken) → AgreeWith (plain (values ts)) ts
 values_agree [] = tt
 values_agree (t ∷ ts) = (record { token = refl; start = tt; end = tt }, values_agree ts)
 
-same_front : (xs ys zs : List TokenValue) → xs ++ zs ≡ ys ++ zs → xs ≡ ys
-same_front [] [] zs e = refl
-same_front [] (y ∷ ys) zs e =
-    let shorter : length zs ≡ length (y ∷ (ys ++ zs)) = ap length e in
-    let both = length-append ys zs in
-    absurd (omega (arith, shorter, both))
-same_front (x ∷ xs) [] zs e =
-    let longer : length (x ∷ (xs ++ zs)) ≡ length zs = ap length e in
-    let both = length-append xs zs in
-    absurd (omega (arith, longer, both))
-same_front (x ∷ xs) (y ∷ ys) zs e =
-    let first : x ≡ y = cc in
-    let tails : xs ++ zs ≡ ys ++ zs = cc in
-    let rest : xs ≡ ys = same_front xs ys zs tails in
-    cc (first, rest)
-
 pub plain_walk : {p q : Parser} (ts : List TokenValue) → Passed p q → lexemes p ≡ ts ++ lexemes q
     → Walk p q (plain ts)
 plain_walk {p} {q} ts w e =
     let both : values w.taken ++ lexemes q ≡ ts ++ lexemes q = sym (map-append (λ (t : SpannedToken). t.token) w.taken (ahead q)) ∙ (sym (ap values w.on.split) ∙ e) in
-    record { taken = w.taken; on = w.on; agree = subst (λ (us : List TokenValue). AgreeWith (plain us) w.taken) (same_front (values w.taken) ts (lexemes q) both) (values_agree w.taken) }
+    record { taken = w.taken; on = w.on; agree = subst (λ (us : List TokenValue). AgreeWith (plain us) w.taken) (append_cancel_right (values w.taken) ts (lexemes q) both) (values_agree w.taken) }
 
 -- what was read is spelled so
 pub read_walk : {A : Type 0} {p q : Parser} (toks : A → List TokenValue) (Is : A → Type 0)
@@ -236,25 +209,6 @@ array_walk {p} {q} r n (Ok v) w worded behind = subst (λ (s : List PlacedToken)
 array_walk r n (Err e) w worded behind = tt
 
 -- ---- names
-
-word_is : (kind : TokenKind) (text : List ℕ) → is_name (token_value kind text) ≡ true
-    → Word text ≡ token_value kind text
-word_is kinds.Word text named = refl
-word_is (kinds.Whole z) text named = absurd cc
-word_is kinds.FloatText text named = absurd cc
-word_is kinds.Str text named = absurd cc
-word_is (kinds.Mark m) text named = absurd cc
-
--- the first token is taken as a name
-pub name_walk : (p q : Parser) (t : Token) (rest : List SpannedToken) (n : Name)
-    → is_name (lexeme t) ≡ true → ahead p ≡ spanned t ∷ rest → ahead q ≡ rest
-    → q.reached ≡ t.span.end → source_of q.tokens ≡ source_of p.tokens
-    → n.text.now ≡ t.text.now → n.span.start ≡ t.span.start → n.span.end ≡ t.span.end → Walk p q (placed_name n)
-name_walk p q t rest n named before after upto same text start end = record {
-  taken = spanned t ∷ [];
-  on = consumed_one p q (spanned t) rest before after upto same;
-  agree = (record { token = ap Word text ∙ word_is t.kind t.text.now named; start = start; end = end }, tt);
-}
 
 -- ---- literals
 

@@ -2,29 +2,23 @@
 use Rattle.std.proofs.Common.{ℕ, ◌≡◌, ◌∙◌, ◌<◌, List, [], ◌∷◌, length, Result, Ok, Err, ap, arith}
 use Rattle.std.specs.Prelude.{IfOk}
 use Rattle.std.proofs.lemmas.List.{append-nil}
-use Rattle.fz_lex.specs.declared.error.SyntaxError.{SyntaxError}
-use Rattle.fz_lex.specs.declared.error.SyntaxError.TheVariants as errors
+use Rattle.fz_tree.specs.of_lex.declared.error.SyntaxError.{SyntaxError}
+use Rattle.fz_tree.specs.of_lex.declared.error.SyntaxError.TheVariants as errors
 use Rattle.fz_syntax.specs.declared.parser.refusal.Refusal.{Refusal}
 use Rattle.fz_syntax.specs.declared.parser.refusal.Refusal.TheVariants as refusals
-use Rattle.fz_lex.specs.Token.{TokenValue}
+use Rattle.fz_tree.specs.of_lex.Token.{TokenValue}
 use Rattle.fz_syntax.specs.Reading.{Fault, FaultKind, Read, Syntax, Float, TooDeep, TooMany, Reader, ended, whole}
 use Rattle.fz_syntax.specs.Outcome.{IsFault, IsWhole, IsRefusal, IsErrorOf, Fails, unexpected_kind}
-use Rattle.fz_lex.specs.of_base.declared.span.Span.{Span}
-use Rattle.fz_lex.specs.Lexing.{SpannedToken, LexesWithinLimits}
-use Rattle.fz_lex.specs.View.{IsLexicalFault}
+use Rattle.fz_tree.specs.of_lex.of_base.declared.span.Span.{Span}
+use Rattle.fz_tree.specs.of_lex.Lexing.{SpannedToken, LexesWithinLimits}
+use Rattle.fz_tree.specs.of_lex.View.{IsLexicalFault}
 use Rattle.fz_tree.specs.Refusals.{IsValue, IsRefusalOf}
-use Rattle.fz_syntax.proofs.ListLaws.{Takes}
+use Rattle.fz_syntax.proofs.Laws.{Takes}
 
 fault_of : {X A : Type 0} (view : X → A) (e : SyntaxError) (f : Fault) (read : Result A Fault)
     → read ≡ Err f → IsFault e f.kind → IsWhole view (Err e) read
 fault_of view errors.Memory f read is k = tt
-fault_of view errors.TooLong f read is k = (f, is, k)
-fault_of view (errors.BadByte p) f read is k = (f, is, k)
-fault_of view (errors.TooLarge p) f read is k = (f, is, k)
-fault_of view (errors.Float p) f read is k = (f, is, k)
-fault_of view (errors.Syntax p) f read is k = (f, is, k)
-fault_of view (errors.TooDeep p) f read is k = (f, is, k)
-fault_of view (errors.TooMany p) f read is k = (f, is, k)
+fault_of view _ f read is k = (f, is, k)
 
 error_of : (r : Refusal) (e : SyntaxError) (k : FaultKind) → IsErrorOf r e → IsRefusal r k
     → IsFault e k
@@ -93,19 +87,11 @@ value_of : {X A : Type 0} (view : X → A) (result : Result X SyntaxError) (read
     (m : A) → IsWhole view result read → read ≡ Ok m → IsValue view result m
 value_of view (Ok x) read m e f = same_ok (view x) m read e f
 value_of view (Err errors.Memory) read m h f = tt
-value_of view (Err errors.TooLong) read m h f = no_fault h.0 m read h.1 f
-value_of view (Err (errors.BadByte p)) read m h f = no_fault h.0 m read h.1 f
-value_of view (Err (errors.TooLarge p)) read m h f = no_fault h.0 m read h.1 f
-value_of view (Err (errors.Float p)) read m h f = no_fault h.0 m read h.1 f
-value_of view (Err (errors.Syntax p)) read m h f = no_fault h.0 m read h.1 f
-value_of view (Err (errors.TooDeep p)) read m h f = no_fault h.0 m read h.1 f
-value_of view (Err (errors.TooMany p)) read m h f = no_fault h.0 m read h.1 f
+value_of view (Err _) read m h f = no_fault h.0 m read h.1 f
 
 errors_none : (k : FaultKind) → IsFault errors.TooLong k → ⊥
 errors_none Syntax h = h
-errors_none Float h = h
-errors_none TooDeep h = h
-errors_none TooMany h = h
+errors_none _ h = h
 
 -- what is of the grammar within the limits and has these tokens is what is given
 pub only_of : {X A : Type 0} (view : X → A) (toks : A → List TokenValue) (Is : A → Type 0)
@@ -113,30 +99,13 @@ pub only_of : {X A : Type 0} (view : X → A) (toks : A → List TokenValue) (Is
     → (result : Result X SyntaxError) (tokens : List TokenValue) → IsWhole view result (whole (read tokens)) → (x : A) → Is x → tokens ≡ toks x → IsValue view result x
 only_of view toks Is read again result tokens h x is e = value_of view result (whole (read tokens)) x h (ap (λ ts. whole (read ts)) e ∙ again x is)
 
--- the grammar doesn't refuse a text as too long
-pub not_too_long : {X A : Type 0} (view : X → A) (result : Result X SyntaxError)
-    (read : Result A Fault) → IsWhole view result read → result ≡ Err errors.TooLong → ⊥
-not_too_long view (Ok x) read h e = absurd cc
-not_too_long view (Err errors.Memory) read h e = absurd cc
-not_too_long view (Err errors.TooLong) read h e = errors_none h.0.kind h.2
-not_too_long view (Err (errors.BadByte p)) read h e = absurd cc
-not_too_long view (Err (errors.TooLarge p)) read h e = absurd cc
-not_too_long view (Err (errors.Float p)) read h e = absurd cc
-not_too_long view (Err (errors.Syntax p)) read h e = absurd cc
-not_too_long view (Err (errors.TooDeep p)) read h e = absurd cc
-not_too_long view (Err (errors.TooMany p)) read h e = absurd cc
-
 byte_none : (p : Span) (k : FaultKind) → IsFault (errors.BadByte p) k → ⊥
 byte_none p Syntax h = h
-byte_none p Float h = h
-byte_none p TooDeep h = h
-byte_none p TooMany h = h
+byte_none p _ h = h
 
 large_none : (p : Span) (k : FaultKind) → IsFault (errors.TooLarge p) k → ⊥
 large_none p Syntax h = h
-large_none p Float h = h
-large_none p TooDeep h = h
-large_none p TooMany h = h
+large_none p _ h = h
 
 -- the grammar finds its own faults alone, and here the source lexes
 pub grammar_refuses : {X A : Type 0} (view : X → A) (source : List ℕ) (e : SyntaxError)
@@ -146,10 +115,7 @@ grammar_refuses view source errors.Memory read tokens lexed h = tt
 grammar_refuses view source errors.TooLong read tokens lexed h = absurd (errors_none h.0.kind h.2)
 grammar_refuses view source (errors.BadByte p) read tokens lexed h = absurd (byte_none p h.0.kind h.2)
 grammar_refuses view source (errors.TooLarge p) read tokens lexed h = absurd (large_none p h.0.kind h.2)
-grammar_refuses view source (errors.Float p) read tokens lexed h = (tokens, lexed)
-grammar_refuses view source (errors.Syntax p) read tokens lexed h = (tokens, lexed)
-grammar_refuses view source (errors.TooDeep p) read tokens lexed h = (tokens, lexed)
-grammar_refuses view source (errors.TooMany p) read tokens lexed h = (tokens, lexed)
+grammar_refuses view source _ read tokens lexed h = (tokens, lexed)
 
 -- the lexer finds its own
 pub lexer_refuses : (source : List ℕ) (e : SyntaxError) → IsLexicalFault source e
@@ -158,7 +124,4 @@ lexer_refuses source errors.Memory f = tt
 lexer_refuses source errors.TooLong f = f
 lexer_refuses source (errors.BadByte p) f = f
 lexer_refuses source (errors.TooLarge p) f = f
-lexer_refuses source (errors.Float p) f = absurd f
-lexer_refuses source (errors.Syntax p) f = absurd f
-lexer_refuses source (errors.TooDeep p) f = absurd f
-lexer_refuses source (errors.TooMany p) f = absurd f
+lexer_refuses source _ f = absurd f

@@ -10,8 +10,8 @@ mod reader;
 
 ghost use Rattle.fz_tree.specs.Refusals.{TextHasOneTree, TextHasOneListOfItems};
 
-pub use fz_lex::fz_base::Span;
-pub use fz_lex::{Mark, SyntaxError, Token, TokenKind, lex};
+pub use fz_tree::fz_lex::fz_base::Span;
+pub use fz_tree::fz_lex::{Mark, SyntaxError, Token, TokenKind, lex};
 pub use fz_tree::{
     Ast, Base, Basic, Constraint, Decl, Expr, Goal, Literal, LiteralKind, Name, Note, NoteArg,
     NoteBasic, Param, Predicate, Printed, PrintedValue, Solve, to_text,

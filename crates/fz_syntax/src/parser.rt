@@ -2,7 +2,7 @@
 
 ghost use Rattle.std.specs.Prelude.{ℕ, ◌≡◌, ◌<◌, ◌↔◌, length, List, [], IfOk, IfErr, MatchResult, Err};
 ghost use Rattle.std.specs.List.{AllByRecursion};
-ghost use Rattle.fz_lex.specs.View.{IsPlacedWithin};
+ghost use Rattle.fz_tree.specs.of_lex.View.{IsPlacedWithin};
 ghost use Rattle.fz_syntax.specs.Walk.{Walk, ahead, lexemes};
 ghost use Rattle.fz_syntax.specs.Placed.{ArePlacedIn, placed_tree, placed_items};
 ghost use Rattle.fz_syntax.specs.Spots.{Stand, spots, item_spots};
@@ -14,8 +14,8 @@ ghost use Rattle.fz_syntax.specs.Reading.{tree_of};
 ghost use Rattle.fz_syntax.specs.ReadingItems.{items_of};
 ghost use Rattle.fz_tree.specs.Tokens.{toks, itoks};
 ghost use Rattle.fz_tree.specs.Tree as tree;
-ghost use Rattle.fz_lex.specs.Lexing.{most_bytes};
-ghost use Rattle.fz_lex.specs.declared.error.SyntaxError.TheVariants.{TooLong, Memory};
+ghost use Rattle.fz_tree.specs.of_lex.Lexing.{most_bytes};
+ghost use Rattle.fz_tree.specs.of_lex.declared.error.SyntaxError.TheVariants.{TooLong, Memory};
 
 mod annotations;
 pub(crate) mod cursor;
@@ -29,7 +29,7 @@ mod types;
 
 use crate::parser::cursor::Parser;
 use crate::reader::PredicateItems;
-use fz_lex::{MOST_BYTES, SyntaxError, check_tokens};
+use fz_tree::fz_lex::{MOST_BYTES, SyntaxError, check_tokens};
 use fz_tree::{Ast, Printed};
 use std::alloc::Global;
 

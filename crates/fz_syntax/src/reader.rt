@@ -3,14 +3,14 @@
 //! after an error.
 
 ghost use Rattle.std.specs.Prelude.{◌≡◌, ◌<◌, [], length, IfErr, IfOk, Err};
-ghost use Rattle.fz_lex.specs.Lexing.{most_bytes};
-ghost use Rattle.fz_lex.specs.declared.error.SyntaxError.TheVariants.{TooLong};
+ghost use Rattle.fz_tree.specs.of_lex.Lexing.{most_bytes};
+ghost use Rattle.fz_tree.specs.of_lex.declared.error.SyntaxError.TheVariants.{TooLong};
 ghost use Rattle.fz_syntax.specs.Offering.{IsLeft, IsRefused, IsRefusedBy, IsTextOfAll, IsWithin, Offers, Took, TookAll, TookOne, all_items, from_constraints, from_decls, from_predicates, from_solve, left_of};
 
 use crate::parser::cursor::Parser;
 use crate::parser::lists::trimmed;
 use crate::parser::refusal::Refusal;
-use fz_lex::{MOST_BYTES, SyntaxError, check_tokens};
+use fz_tree::fz_lex::{MOST_BYTES, SyntaxError, check_tokens};
 use fz_tree::{Constraint, Decl, Predicate, Solve};
 use std::alloc::Global;
 

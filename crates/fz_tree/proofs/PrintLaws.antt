@@ -5,11 +5,13 @@ use Rattle.std.specs.Prelude.{codes}
 use Rattle.std.specs.List.{flat_map, AllByRecursion}
 use Rattle.std.specs.Fmt.{signed_decimal}
 use Rattle.std.proofs.lemmas.List.{append-nil}
-use Rattle.fz_lex.specs.Token.{TokenValue, Word, Whole, FloatText, StringText, Marked, IsTokenText, unsigned, decimal}
+use Rattle.fz_lex.specs.Token.{TokenValue, mark_text, Word, Whole, FloatText, StringText, Marked, IsTokenText, unsigned, decimal}
 use Rattle.fz_lex.specs.Lexing.{IsTokenWithinLimit}
+use Rattle.fz_lex.specs.declared.token.Mark.{Mark}
 use Rattle.fz_lex.specs.declared.token.Mark.TheVariants.{OpenParen, CloseParen, OpenBracket, CloseBracket, OpenBrace, CloseBrace, Comma, Semicolon, Colon, ColonColon, Equals, DotDot}
 use Rattle.fz_lex.proofs.Covers.{EndsNumber}
 use Rattle.fz_lex.proofs.Joined.{Joins, done, text}
+use Rattle.fz_lex.proofs.Laws.{EndsMark}
 use Rattle.fz_lex.proofs.Lexed.{all_right}
 use Rattle.fz_lex.proofs.Texts.{all_left}
 use Rattle.fz_lex.proofs.Printed.{ends_at_byte, ends_at_dots, blank_joins, line_feed_joins, word_joins, whole_joins, float_joins, string_joins, mark_joins}
@@ -112,29 +114,9 @@ float_prints float = record { joins = λ h rest T e j. float_joins float rest T 
 string_prints : (string : List ℕ) → Prints EndsNumber string (StringText string ∷ [])
 string_prints string = record { joins = λ h rest T e j. string_joins string rest T h.0.0 j }
 
-comma_prints : Prints Anything (codes ",") (mark Comma)
-comma_prints = record { joins = λ h rest T e j. mark_joins Comma rest T tt j }
-
-dots_print : Prints Anything (codes "..") (mark DotDot)
-dots_print = record { joins = λ h rest T e j. mark_joins DotDot rest T tt j }
-
-open_paren_prints : Prints Anything (codes "(") (mark OpenParen)
-open_paren_prints = record { joins = λ h rest T e j. mark_joins OpenParen rest T tt j }
-
-close_paren_prints : Prints Anything (codes ")") (mark CloseParen)
-close_paren_prints = record { joins = λ h rest T e j. mark_joins CloseParen rest T tt j }
-
-open_bracket_prints : Prints Anything (codes "[") (mark OpenBracket)
-open_bracket_prints = record { joins = λ h rest T e j. mark_joins OpenBracket rest T tt j }
-
-close_bracket_prints : Prints Anything (codes "]") (mark CloseBracket)
-close_bracket_prints = record { joins = λ h rest T e j. mark_joins CloseBracket rest T tt j }
-
-open_brace_prints : Prints Anything (codes "{") (mark OpenBrace)
-open_brace_prints = record { joins = λ h rest T e j. mark_joins OpenBrace rest T tt j }
-
-close_brace_prints : Prints Anything (codes "}") (mark CloseBrace)
-close_brace_prints = record { joins = λ h rest T e j. mark_joins CloseBrace rest T tt j }
+mark_prints : (m : Mark) → ((rest : List ℕ) → EndsMark m rest)
+    → Prints Anything (mark_text m) (mark m)
+mark_prints m ends = record { joins = λ h rest T e j. mark_joins m rest T (ends rest) j }
 
 colon_prints : Prints Anything (codes ": ") (mark Colon)
 colon_prints = record { joins = λ h rest T e j. mark_joins Colon (codes " " ++ rest) T (λ c. omega (arith, c)) (blank_joins rest T j) }
@@ -158,7 +140,7 @@ behind_blank {bytes} {tokens} p = record { joins = λ h rest T e j. blank_joins 
 
 behind_comma : {bytes : List ℕ} {tokens : List TokenValue} → Prints EndsNumber bytes tokens
     → Prints EndsNumber (codes "," ++ bytes) (Marked Comma ∷ tokens)
-behind_comma p = free comma_prints p
+behind_comma p = free (mark_prints Comma (λ _. tt)) p
 
 separated_prints : {A : Type 0} (f : A → List ℕ) (g : A → List TokenValue)
     → ((x : A) → Prints EndsNumber (f x) (g x)) → (xs : List A)
@@ -170,22 +152,22 @@ separated_prints f g each (x ∷ xs) =
 
 parens_print : {bytes : List ℕ} {tokens : List TokenValue} → Prints EndsNumber bytes tokens
     → Prints Anything (codes "(" ++ bytes ++ codes ")") (in_parens tokens)
-parens_print p = then (free open_paren_prints p) close_paren_prints (λ rest e. close_paren_ends rest)
+parens_print p = then (free (mark_prints OpenParen (λ _. tt)) p) (mark_prints CloseParen (λ _. tt)) (λ rest e. close_paren_ends rest)
 
 brackets_print : {bytes : List ℕ} {tokens : List TokenValue} → Prints EndsNumber bytes tokens
     → Prints Anything (codes "[" ++ bytes ++ codes "]") (in_brackets tokens)
-brackets_print p = then (free open_bracket_prints p) close_bracket_prints (λ rest e. bracket_ends rest)
+brackets_print p = then (free (mark_prints OpenBracket (λ _. tt)) p) (mark_prints CloseBracket (λ _. tt)) (λ rest e. bracket_ends rest)
 
 braces_print : {bytes : List ℕ} {tokens : List TokenValue} → Prints EndsNumber bytes tokens
     → Prints Anything (codes "{" ++ bytes ++ codes "}") (in_braces tokens)
-braces_print p = then (free open_brace_prints p) close_brace_prints (λ rest e. brace_ends rest)
+braces_print p = then (free (mark_prints OpenBrace (λ _. tt)) p) (mark_prints CloseBrace (λ _. tt)) (λ rest e. brace_ends rest)
 
 -- ---- expressions
 
 literal_prints : (l : Literal) → Prints EndsNumber (literal_text l) (literal_toks l)
 literal_prints (Number n) = number_prints n
 literal_prints (Truth b) = name_prints (truth_word b)
-literal_prints (Range low high) = free (then (number_prints low) dots_print (λ rest e. ends_at_dots rest)) (number_prints high)
+literal_prints (Range low high) = free (then (number_prints low) (mark_prints DotDot (λ _. tt)) (λ rest e. ends_at_dots rest)) (number_prints high)
 literal_prints (Braces numbers) = closed (braces_print (separated_prints signed_decimal number_toks number_prints numbers))
 
 basic_prints : (b : Basic) → Prints EndsNumber (basic_text b) (basic_toks b)
@@ -269,18 +251,18 @@ var_prints true = keyword_prints (codes "var")
 var_prints false = nothing_prints
 
 array_opens : Prints Anything (codes "array [") (word (codes "array") ++ mark OpenBracket)
-array_opens = free (keyword_prints (codes "array")) open_bracket_prints
+array_opens = free (keyword_prints (codes "array")) (mark_prints OpenBracket (λ _. tt))
 
 array_closes : Prints Anything (codes "] of ") (mark CloseBracket ++ word (codes "of"))
-array_closes = free close_bracket_prints (behind_blank (keyword_prints (codes "of")))
+array_closes = free (mark_prints CloseBracket (λ _. tt)) (behind_blank (keyword_prints (codes "of")))
 
 prefix_prints : (length : Option ℕ) → Prints Anything (prefix_text length) (prefix_toks length)
 prefix_prints None = nothing_prints
-prefix_prints (Some n) = then (free (free array_opens (then one_prints dots_print (λ rest e. ends_at_dots rest))) (number_prints (pos n))) array_closes (λ rest e. bracket_ends _)
+prefix_prints (Some n) = then (free (free array_opens (then one_prints (mark_prints DotDot (λ _. tt)) (λ rest e. ends_at_dots rest))) (number_prints (pos n))) array_closes (λ rest e. bracket_ends _)
 
 any_index_prints : (o : Option ℕ) → Prints EndsNumber (any_index_text o) (any_index_toks o)
 any_index_prints None = name_prints (codes "int")
-any_index_prints (Some n) = free (then one_prints dots_print (λ rest e. ends_at_dots rest)) (number_prints (pos n))
+any_index_prints (Some n) = free (then one_prints (mark_prints DotDot (λ _. tt)) (λ rest e. ends_at_dots rest)) (number_prints (pos n))
 
 param_prefix_prints : (array : Option (List (Option ℕ)))
     → Prints Anything (param_prefix_text array) (param_prefix_toks array)

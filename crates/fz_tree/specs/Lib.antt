@@ -4,3 +4,4 @@ pub mod Tokens
 pub mod Text
 pub mod Print
 pub mod Refusals
+pub use Rattle.fz_lex.specs as of_lex

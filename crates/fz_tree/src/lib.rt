@@ -5,6 +5,7 @@
 mod printer;
 mod tree;
 
+pub use fz_lex;
 pub use printer::to_text;
 pub use tree::{
     Ast, Base, Basic, Constraint, Decl, Expr, Goal, Literal, LiteralKind, Name, Note, NoteArg,

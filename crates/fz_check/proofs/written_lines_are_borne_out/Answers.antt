@@ -1,5 +1,5 @@
 use Rattle.std.proofs.Common.{map}
-use Rattle.fz_judge.specs.of_verdict.View.{located_block}
+use Rattle.fz_judge.specs.BlockView.{located_block}
 use Rattle.fz_check.proofs.ReportLemmas.{borne_out}
 use Rattle.fz_check.proofs.written_lines_are_borne_out.Goals as goal
 

@@ -1,10 +1,10 @@
 // Whether elements are all different.
 ghost use Rattle.std.specs.Prelude.{◌≡◌, ◌≤◌, drop, length, IfOk};
-ghost use Rattle.fz_meaning.specs.Relations.{is_among, all_different};
-ghost use Rattle.fz_arguments.specs.Views.{ints};
+ghost use Rattle.fz_data.specs.of_meaning.Relations.{is_among, all_different};
+ghost use Rattle.fz_kernel.specs.Views.{ints};
 
 use crate::distinct::all_different;
-use fz_arguments::Elements;
+use crate::elements::Elements;
 use std::alloc::{AllocError, Global};
 
 // Up to this many elements each pair is compared, which takes no memory.

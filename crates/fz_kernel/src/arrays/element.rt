@@ -1,10 +1,9 @@
 // The element at an index.
 ghost use Rattle.std.specs.Prelude.{◌≡◌, ◌+◌, ◌≤◌, ◌<◌, ℕ, pos, IfSome, IfNone, option_map};
-ghost use Rattle.fz_meaning.specs.Relations.{◌=ℤ◌, ◌=ᴮ◌, ◌=ˢ◌, element_at, is_element};
-ghost use Rattle.fz_arguments.specs.Views.{ints, bools, sets};
+ghost use Rattle.fz_data.specs.of_meaning.Relations.{element_at};
+ghost use Rattle.fz_kernel.specs.Views.{ints, bools, sets};
 
-use crate::sets::same_set;
-use fz_arguments::Elements;
+use crate::elements::Elements;
 use fz_base::IntSet;
 
 // The index counted from 0, of one that is counted from 1; none where it is no index of `count`
@@ -54,35 +53,5 @@ pub fn set_element<'s>(index: i64, elements: &Elements<'s>) -> Option<&'s IntSet
     match place_of(i128::from(index), elements.len()) {
         Some(place) => Some(elements.set(place)),
         None => None,
-    }
-}
-
-/// Whether the element at an index counted from 1 is `c`.
-pub fn is_int_element(index: i64, elements: &Elements, c: i64) -> bool
-    ensures exact { result ≡ is_element ◌=ℤ◌ index (ints elements.now) c }
-{
-    match int_element(index, elements) {
-        Some(element) => element == c,
-        None => false,
-    }
-}
-
-/// Whether the element at an index counted from 1 is `c`.
-pub fn is_bool_element(index: i64, elements: &Elements, c: bool) -> bool
-    ensures exact { result ≡ is_element ◌=ᴮ◌ index (bools elements.now) c }
-{
-    match bool_element(index, elements) {
-        Some(element) => element == c,
-        None => false,
-    }
-}
-
-/// Whether the element at an index counted from 1 is `c`.
-pub fn is_set_element(index: i64, elements: &Elements, c: &IntSet) -> bool
-    ensures exact { result ≡ is_element ◌=ˢ◌ index (sets elements.now) c.now }
-{
-    match set_element(index, elements) {
-        Some(element) => same_set(element, c),
-        None => false,
     }
 }

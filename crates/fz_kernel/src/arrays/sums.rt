@@ -1,11 +1,11 @@
 // Sums over arrays.
 ghost use Rattle.std.specs.Prelude.{◌≡◌, true, false, IfSome, IfNone};
-ghost use Rattle.fz_meaning.specs.Relations.{total, products, where_true};
-ghost use Rattle.fz_meaning.specs.States.{leaves_128};
-ghost use Rattle.fz_arguments.specs.Views.{ints, bools};
+ghost use Rattle.fz_data.specs.of_meaning.Relations.{total, products, where_true};
+ghost use Rattle.fz_data.specs.of_meaning.States.{leaves_128};
+ghost use Rattle.fz_kernel.specs.Views.{ints, bools};
 
+use crate::elements::Elements;
 use crate::numbers::product;
-use fz_arguments::Elements;
 
 /// The sum of `a[i] * b[i]`, added from the left; none where a partial sum leaves signed 128 bits.
 #[inline(always)]

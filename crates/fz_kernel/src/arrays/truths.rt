@@ -1,10 +1,10 @@
 // Booleans in arrays.
 ghost use Rattle.std.specs.Prelude.{◌≡◌, not, length};
 ghost use Rattle.std.specs.List.{list_all, list_any, filter};
-ghost use Rattle.fz_meaning.specs.Relations.{is_odd};
-ghost use Rattle.fz_arguments.specs.Views.{bools};
+ghost use Rattle.fz_data.specs.of_meaning.Relations.{is_odd};
+ghost use Rattle.fz_kernel.specs.Views.{bools};
 
-use fz_arguments::Elements;
+use crate::elements::Elements;
 
 /// Whether all are true.
 pub fn all_true(elements: &Elements) -> bool

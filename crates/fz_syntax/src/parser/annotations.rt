@@ -4,7 +4,7 @@ ghost use Rattle.std.specs.Prelude.{◌≡◌, ◌≤◌, ◌<◌, ◌++◌, len
 ghost use Rattle.fz_tree.specs.View.{bare_note, bare_arg, bare_basic, bare_notes};
 ghost use Rattle.fz_syntax.specs.Outcome.{Gives};
 ghost use Rattle.fz_syntax.specs.Reading.{mark_at, at_most, separated_at, note_at, note_args_at, note_arg_at, note_list_at, note_basic_at, begins_note_basic, any_number, notes_at, list_at};
-ghost use Rattle.fz_lex.specs.declared.token.Mark.TheVariants.{CloseParen, CloseBracket};
+ghost use Rattle.fz_tree.specs.of_lex.declared.token.Mark.TheVariants.{CloseParen, CloseBracket};
 ghost use Rattle.fz_tree.specs.Text.{the_limits};
 ghost use Rattle.fz_syntax.specs.Placed.{placed_mark, placed_separated, placed_note, placed_arg, placed_args, placed_note_basic, placed_notes};
 ghost use Rattle.fz_syntax.specs.Walk.{Walk, lexemes};
@@ -12,7 +12,7 @@ ghost use Rattle.fz_syntax.specs.Walk.{Walk, lexemes};
 use crate::parser::cursor::{MAX_DEPTH, MAX_ELEMENTS, Parser};
 use crate::parser::lists::trimmed;
 use crate::parser::refusal::Refusal;
-use fz_lex::{Mark, TokenKind};
+use fz_tree::fz_lex::{Mark, TokenKind};
 use fz_tree::{Note, NoteArg, NoteBasic};
 
 impl<'a> Parser<'a> {

@@ -3,8 +3,8 @@
 ghost use Rattle.std.specs.Prelude.{List, ◌∷◌, ◌≡◌, ◌≤◌, ◌<◌, ◌-◌, drop, length, if◌then◌else◌, IfOk};
 ghost use Rattle.std.specs.Bool.{OnTrue, OnFalse};
 ghost use Rattle.std.specs.List.{All};
-ghost use Rattle.fz_lex.specs.View.{IsSpanWithin, IsPlacedWithin};
-ghost use Rattle.fz_lex.specs.Left.{left};
+ghost use Rattle.fz_tree.specs.of_lex.View.{IsSpanWithin, IsPlacedWithin};
+ghost use Rattle.fz_tree.specs.of_lex.Left.{left};
 ghost use Rattle.fz_tree.specs.View.{bare_name};
 ghost use Rattle.fz_syntax.specs.Outcome.{Gives, IsRefusal, IsErrorOf, unexpected_kind};
 ghost use Rattle.fz_syntax.specs.Reading.{next_is, next_word, next_passes, is_float, mark_at, word_at, name_at, whole_at, is_name, is_whole, begins_index, begins_literal, begins_basic, begins_note_basic, is_quoted, begins_decl};
@@ -14,9 +14,9 @@ use crate::parser::kinds::{
 };
 use crate::parser::lists::SpareLists;
 use crate::parser::refusal::Refusal;
-use fz_lex::fz_base::Span;
-use fz_lex::{Mark, SyntaxError, TokenKind, Tokens};
 use fz_tree::Name;
+use fz_tree::fz_lex::fz_base::Span;
+use fz_tree::fz_lex::{Mark, SyntaxError, TokenKind, Tokens};
 use std::alloc::Global;
 
 pub(crate) const MAX_ELEMENTS: usize = 1_048_576;
@@ -41,9 +41,9 @@ pub(crate) struct Parser<'a> {
 impl<'a> Parser<'a> {
     ghost use Rattle.fz_syntax.specs.Walk.{Passed, Walk, start_of, ahead, lexemes};
     ghost use Rattle.fz_syntax.specs.Placed.{placed_name};
-    ghost use Rattle.fz_lex.specs.Lexing.{SpannedToken};
-    ghost use Rattle.fz_lex.specs.Ahead.{tokens_ahead};
-    ghost use Rattle.fz_lex.specs.Left.{source_of};
+    ghost use Rattle.fz_tree.specs.of_lex.Lexing.{SpannedToken};
+    ghost use Rattle.fz_tree.specs.of_lex.Ahead.{tokens_ahead};
+    ghost use Rattle.fz_tree.specs.of_lex.Left.{source_of};
 
     /// A parser at the first token of a source.
     pub(crate) fn new(alloc: Global, source: &'a [u8]) -> Parser<'a>

@@ -4,8 +4,8 @@ ghost use Rattle.std.specs.Prelude.{◌≡◌, ◌<◌, ◌≤◌, ◌∷◌, �
 ghost use Rattle.fz_tree.specs.View.{lexeme, bare_literal, bare_expression, bare_expressions, bare_expr};
 ghost use Rattle.fz_syntax.specs.Outcome.{Gives, IsListed};
 ghost use Rattle.fz_syntax.specs.Reading.{mark_at, whole_at, is_whole, begins_literal, begins_basic, at_most, separated_at, braces_at, from_whole, literal_at, basic_at, expr_list_at, expr_at, list_at, literal_basic_at};
-ghost use Rattle.fz_lex.specs.Token.{Whole, Marked};
-ghost use Rattle.fz_lex.specs.declared.token.Mark.TheVariants.{CloseBracket, Comma};
+ghost use Rattle.fz_tree.specs.of_lex.Token.{Whole, Marked};
+ghost use Rattle.fz_tree.specs.of_lex.declared.token.Mark.TheVariants.{CloseBracket, Comma};
 ghost use Rattle.fz_tree.specs.Text.{the_limits};
 ghost use Rattle.fz_syntax.specs.Placed.{placed_mark, placed_separated, placed_literal, placed_basic, placed_expr};
 ghost use Rattle.fz_syntax.specs.Walk.{Passed, Walk, placed_listed, lexemes};
@@ -14,7 +14,7 @@ use crate::parser::cursor::{MAX_ELEMENTS, Parser};
 use crate::parser::kinds::{kind_of, plain_of};
 use crate::parser::lists::trimmed;
 use crate::parser::refusal::Refusal;
-use fz_lex::{Mark, Token, TokenKind};
+use fz_tree::fz_lex::{Mark, Token, TokenKind};
 use fz_tree::{Basic, Expr, Literal, LiteralKind};
 
 impl<'a> Parser<'a> {

@@ -4,7 +4,7 @@ ghost use Rattle.std.specs.Prelude.{◌≡◌, ◌≤◌, ◌++◌, codes, lengt
 ghost use Rattle.fz_tree.specs.View.{bare_expr, bare_param, bare_predicate, bare_constraint, bare_goal, bare_solve, bare_value, bare_decl};
 ghost use Rattle.fz_syntax.specs.Outcome.{Gives};
 ghost use Rattle.fz_syntax.specs.Reading.{mark_at, separated_at, expr_at, any_number, param_at, predicate_at, list_at, next_word, constraint_at, goal_at, solve_at, decl_at, value_at, given_value_at, may_lack_value};
-ghost use Rattle.fz_lex.specs.declared.token.Mark.TheVariants.{CloseParen};
+ghost use Rattle.fz_tree.specs.of_lex.declared.token.Mark.TheVariants.{CloseParen};
 ghost use Rattle.fz_tree.specs.Text.{the_limits};
 ghost use Rattle.fz_syntax.specs.Placed.{placed_mark, placed_separated, placed_expr, placed_param, placed_predicate, placed_constraint, placed_goal, placed_solve, placed_value, placed_decl};
 ghost use Rattle.fz_syntax.specs.Walk.{Walk, lexemes};
@@ -13,7 +13,7 @@ use crate::parser::cursor::Parser;
 use crate::parser::kinds::may_lack_value;
 use crate::parser::lists::trimmed;
 use crate::parser::refusal::Refusal;
-use fz_lex::Mark;
+use fz_tree::fz_lex::Mark;
 use fz_tree::{Constraint, Decl, Expr, Goal, Param, Predicate, Solve};
 
 impl<'a> Parser<'a> {

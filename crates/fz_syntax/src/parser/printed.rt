@@ -7,14 +7,14 @@ ghost use Rattle.fz_syntax.specs.Reading.{any_number, at_most, separated_at, beg
 ghost use Rattle.fz_syntax.specs.ReadingItems.{next_dimensions, index_set_at, index_sets_at, elements_at, printed_array_at, printed_value_at, printed_at};
 ghost use Rattle.fz_tree.specs.Text.{the_limits};
 ghost use Rattle.fz_syntax.specs.Placed.{placed_mark, placed_word, placed_separated, placed_literal, placed_indexes, placed_printed_value, placed_printed, placed_items};
-ghost use Rattle.fz_lex.specs.declared.token.Mark.TheVariants.{CloseBracket, Comma};
+ghost use Rattle.fz_tree.specs.of_lex.declared.token.Mark.TheVariants.{CloseBracket, Comma};
 ghost use Rattle.fz_tree.specs.Tokens.{array_word};
 ghost use Rattle.fz_syntax.specs.Walk.{Passed, Walk, lexemes};
 
 use crate::parser::cursor::{MAX_ELEMENTS, Parser};
 use crate::parser::kinds::dimensions;
 use crate::parser::refusal::Refusal;
-use fz_lex::Mark;
+use fz_tree::fz_lex::Mark;
 use fz_tree::{Literal, Printed, PrintedValue};
 
 impl<'a> Parser<'a> {

@@ -4,14 +4,14 @@ ghost use Rattle.std.specs.Prelude.{◌≡◌, ◌≤◌, length, IfOk};
 ghost use Rattle.fz_tree.specs.View.{bare_literal, bare_bounds, bare_base, bare_indexes};
 ghost use Rattle.fz_syntax.specs.Outcome.{Gives};
 ghost use Rattle.fz_syntax.specs.Reading.{range_at, bounds_at, int_at, base_at, plain_at, one_at, size_at, index_at, any_index_at, at_most, begins_index, indexes_at, param_prefix_at, prefix_at, type_at};
-ghost use Rattle.fz_lex.specs.declared.token.Mark.TheVariants.{CloseBracket};
+ghost use Rattle.fz_tree.specs.of_lex.declared.token.Mark.TheVariants.{CloseBracket};
 ghost use Rattle.fz_tree.specs.Text.{most_indexes, the_limits};
 ghost use Rattle.fz_syntax.specs.Placed.{placed_literal, placed_bounds, placed_base};
 ghost use Rattle.fz_syntax.specs.Walk.{Passed, Walk, lexemes};
 
 use crate::parser::cursor::{MAX_SIZE, Parser};
 use crate::parser::refusal::Refusal;
-use fz_lex::{Mark, TokenKind};
+use fz_tree::fz_lex::{Mark, TokenKind};
 use fz_tree::{Base, Literal, LiteralKind};
 
 /// The most index sets of an array.

@@ -1,4 +1,4 @@
-use Rattle.std.proofs.Common.{◌≡◌, refl, sym, ap, ◌∙◌, FitsSigned, w64, arith, rules}
+use Rattle.std.proofs.Common.{◌≡◌, refl, sym, ap, ◌∙◌, w64, arith, rules}
 use Rattle.std.proofs.lemmas.Int.{to_z-of_z}
 use Rattle.std.proofs.lemmas.Bool.{true≢false}
 use Rattle.std.proofs.lemmas.Nat.Bits.{bit_at-trailing_zeros}
@@ -13,10 +13,7 @@ returns-then-bits-eq0-clause-none c =
     λ n only. true≢false (sym ((only n).1 refl) ∙ ap (λ w. has_bit w n) none ∙ has_none n)
 
 pub returns-then-bits-lowest-clause-found : goal.returns-then-bits-lowest-clause-found
-returns-then-bits-lowest-clause-found c =
-    let at = bit_at-trailing_zeros w64 c.args.bits (omega arith) c.ranges.bits.fits in
-    let fits : FitsSigned w64 c.from.result = search rules in
-    simp to_z-of_z (rw c.from.ensures (one_word c.args.bits (trailing_zeros w64 c.args.bits) at.0 (omega arith)))
+returns-then-bits-lowest-clause-found c = search (rules, bit_at-trailing_zeros, to_z-of_z, one_word)
 
 pub returns-else-bits-lowest-clause-none : goal.returns-else-bits-lowest-clause-none
 returns-else-bits-lowest-clause-none c =

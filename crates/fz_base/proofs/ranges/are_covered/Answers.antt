@@ -2,6 +2,7 @@ use Rattle.std.proofs.Common.{◌≡◌, pos, ◌-◌, FitsSigned, w64, List, le
 use Rattle.std.proofs.lemmas.Bool.{false≢true}
 use Rattle.std.proofs.lemmas.Int.{to_z-of_z}
 use Rattle.std.proofs.lemmas.List.{take_all}
+use Rattle.std.proofs.lemmas.Grind.{common_steps}
 use Rattle.fz_base.specs.declared.ranges.Range.{Range}
 use Rattle.fz_base.proofs.Within.{order_past, lies_in_more, lies_not_in, first_low_fits, first_high_fits}
 use Rattle.fz_base.proofs.ranges.are_covered.Goals as goal
@@ -10,16 +11,7 @@ abbrev nowhere : Range
 nowhere = record { lo = pos 0; hi = pos 0 }
 
 pub returns-then-not-have_all : goal.returns-then-not-have_all
-returns-then-not-have_all c =
-    let rest : List Range = c.covering.rest_a.now in
-    let some = c.in-len1-up.len_at_least in
-    let low : FitsSigned w64 (get_or rest 0 nowhere).lo = first_low_fits rest nowhere some c.covering.invariant.a_in_order in
-    let high : FitsSigned w64 (get_or rest 0 nowhere).hi = first_high_fits rest nowhere some c.covering.invariant.a_in_order in
-    let missing = simp to_z-of_z at (c.have_all.ensures.missing c.if-not-have_all.true) in
-    let alike = simp to_z-of_z at c.reaching-rest_b.ensures.alike in (
-      λ no. absurd (false≢true no),
-      λ whole. absurd (lies_not_in c.covering.rest_b.now c.reaching-rest_b.result.now rest nowhere some alike missing (c.covering.invariant.same.1 whole)),
-    )
+returns-then-not-have_all c = grind (arith, common_steps, get_or, first_low_fits, first_high_fits, to_z-of_z, false≢true, lies_not_in)
 
 pub covering-preserved : goal.covering-preserved
 covering-preserved c =

@@ -1,23 +1,11 @@
 use Rattle.std.proofs.Common.{◌≡◌, ◌+ℤ◌, pos, FitsSigned, w64, to_z, refl, ◌∙◌, arith, rules}
-use Rattle.std.proofs.lemmas.Bool.{false≢true}
 use Rattle.std.proofs.lemmas.Int.{ints, to_z-of_z}
 use Rattle.fz_base.specs.Ranges.{highest, keeps}
-use Rattle.fz_base.proofs.Walk.{reaches_lowest, agree_below, agree_more, agree_all, not_agree, tests_same, tests_differ}
+use Rattle.fz_base.proofs.Walk.{reaches_lowest, agree_below, agree_more, agree_all, tests_same}
 use Rattle.fz_base.proofs.ranges.is_kept.Goals as goal
 
 pub walk-init : goal.walk-init
-walk-init c = record {
-  a_in_order = c.requires.a_in_order;
-  b_in_order = c.requires.b_in_order;
-  c_in_order = c.requires.c_in_order;
-  a_ahead = reaches_lowest c.args.a.now c.requires.a_in_order;
-  b_ahead = reaches_lowest c.args.b.now c.requires.b_in_order;
-  c_ahead = reaches_lowest c.args.c.now c.requires.c_in_order;
-  a_same = λ x h. refl;
-  b_same = λ x h. refl;
-  c_same = λ x h. refl;
-  agree = λ x h. agree_below c.args.rule c.args.a.now c.args.b.now c.args.c.now x c.requires.a_in_order c.requires.b_in_order c.requires.c_in_order h;
-}
+walk-init c = search (rules, reaches_lowest, agree_below)
 
 pub walk-preserved : goal.walk-preserved
 walk-preserved c =
@@ -40,13 +28,7 @@ walk-preserved c =
     })
 
 pub returns-then-in_c-wanted : goal.returns-then-in_c-wanted
-returns-then-in_c-wanted c =
-    let s = c.common_stretch-in_a in (
-      λ no. absurd (false≢true no),
-      λ all. absurd (not_agree c.args.rule s.result.0 s.result.1 s.result.2 (to_z w64 c.walk.at-bits) s.result.3 c.args.a.now c.args.b.now c.args.c.now c.walk.rest_a.now c.walk.rest_b.now c.walk.rest_c.now
-          s.ensures.goes_on c.walk.invariant.a_same c.walk.invariant.b_same c.walk.invariant.c_same s.ensures.a_alike s.ensures.b_alike s.ensures.c_alike
-          (tests_differ s.result.2 c.keeps-wanted.result _ c.if-in_c-wanted.true c.keeps-wanted.ensures) all),
-    )
+returns-then-in_c-wanted c = search rules
 
 pub returns-then-end-eq9223372036854775807 : goal.returns-then-end-eq9223372036854775807
 returns-then-end-eq9223372036854775807 c =

@@ -1,6 +1,6 @@
 use Rattle.std.proofs.Common.{◌≡◌, IfOk, subst}
-use Rattle.fz_meaning.specs.Relations.{counts_lie}
-use Rattle.fz_globals.specs.of_view.Views.{arguments_of, assigned}
+use Rattle.fz_globals.specs.of_meaning.Relations.{counts_lie}
+use Rattle.fz_globals.specs.of_kernel.Views.{arguments_of, assigned}
 use Rattle.fz_builtins.proofs.ElementReadings.{ints_are}
 use Rattle.fz_builtins.proofs.covers.cardinality_between.Goals as goal
 

@@ -1,7 +1,7 @@
 use Rattle.std.proofs.Common.{rules, ◌≡◌, ◌∙◌, FitsSigned, w64}
 use Rattle.std.proofs.lemmas.Int.{to_z-of_z}
-use Rattle.fz_meaning.specs.Relations.{are_channelled}
-use Rattle.fz_globals.specs.of_view.Views.{arguments_of, assigned, ints, sets}
+use Rattle.fz_globals.specs.of_meaning.Relations.{are_channelled}
+use Rattle.fz_globals.specs.of_kernel.Views.{arguments_of, assigned, ints, sets}
 use Rattle.fz_builtins.proofs.ElementReadings.{ints_are, sets_are}
 use Rattle.fz_builtins.proofs.flags.int_set_channel.Goals as goal
 

@@ -1,8 +1,8 @@
 use Rattle.std.proofs.Common.{rules, ◌≡◌, FitsSigned, w64, ℤ, pos, ◌+ℤ◌, ◌-ℤ◌, Bool, ◌&&◌, List, length, ◌∙◌}
 use Rattle.std.proofs.lemmas.Int.{to_z-of_z}
 use Rattle.std.specs.List.{list_all}
-use Rattle.fz_meaning.specs.Relations.{lies_between, loads_are}
-use Rattle.fz_globals.specs.of_view.Views.{arguments_of, assigned, ints}
+use Rattle.fz_globals.specs.of_meaning.Relations.{lies_between, loads_are}
+use Rattle.fz_globals.specs.of_kernel.Views.{arguments_of, assigned, ints}
 use Rattle.fz_builtins.proofs.ElementReadings.{ints_are}
 use Rattle.fz_builtins.proofs.scheduling.bin_packing_load.Goals as goal
 

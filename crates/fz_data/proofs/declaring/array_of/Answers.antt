@@ -1,6 +1,6 @@
 use Rattle.std.proofs.Common.{Some, subst}
 use Rattle.std.proofs.lemmas.Result.{err_from_is_err_and}
-use Rattle.fz_meaning.specs.View.{Tells}
+use Rattle.fz_names.specs.of_meaning.View.{Tells}
 use Rattle.fz_data.specs.Scope.{faults_in}
 use Rattle.fz_data.proofs.declaring.array_of.Goals as goal
 

@@ -1,27 +1,13 @@
 use Rattle.std.proofs.Common.{refl, ap, ◌∙◌, ◌++◌, ◌∷◌, [], arith, map, subst}
 use Rattle.std.proofs.lemmas.List.{length-map, take_all}
-use Rattle.std.proofs.lemmas.Result.{err_from_is_err_and}
-use Rattle.fz_meaning.specs.View.{located_expr}
-use Rattle.fz_meaning.proofs.ScanSteps.{first_more}
-use Rattle.fz_store.specs.declared.store.Store.{Store}
+use Rattle.fz_names.specs.of_meaning.View.{located_expr}
+use Rattle.fz_names.proofs.of_meaning.ScanSteps.{first_more}
+use Rattle.fz_data.specs.declared.store.Store.{Store}
 use Rattle.fz_data.specs.Parts.{argument_view}
 use Rattle.fz_data.specs.Posting.{IsLonger}
 use Rattle.fz_data.specs.Scope.{argument_fault, argument_in}
-use Rattle.fz_data.proofs.Grown.{SoFar, argument_pushed, longer_none, longer_more, none_so_far, next_so_far, segment_is}
-use Rattle.fz_data.proofs.Tells.{tells_stop}
+use Rattle.fz_data.proofs.Grown.{SoFar, argument_pushed, longer_none, longer_more, next_so_far, segment_is}
 use Rattle.fz_data.proofs.posting.arguments_of.Goals as goal
-
-pub returns-in_err-given-clause-tells : goal.returns-in_err-given-clause-tells
-returns-in_err-given-clause-tells c =
-    let p = err_from_is_err_and c.from_residual-in_err-given.result c.from_residual-in_err-given.ensures.1 in
-    rw (p.1, p.2) (tells_stop (argument_fault c.args.scope.now) located_expr c.args.arguments.now c.loop-argument.argument-index c.argument-item.result _ c.loop-argument-test.true c.argument-item.is c.loop-argument.invariant.clean c.in_err-given.ensures.tells)
-
-pub loop-argument-init : goal.loop-argument-init
-loop-argument-init c = record {
-  clean = refl;
-  given = none_so_far IsLonger (argument_view c.args.scope.now.variables.items c.args.scope.now.arrays.items) c.args.store.now c.args.store.now.arguments.items;
-  longer = longer_none c.args.store.now;
-}
 
 pub loop-argument-preserved : goal.loop-argument-preserved
 loop-argument-preserved c =

@@ -1,6 +1,6 @@
 use Rattle.std.proofs.Common.{◌≡◌, None, map, take}
-use Rattle.fz_meaning.specs.Meaning.{first_some}
-use Rattle.fz_meaning.specs.View.{located_expr}
+use Rattle.fz_names.specs.of_meaning.Meaning.{first_some}
+use Rattle.fz_names.specs.of_meaning.View.{located_expr}
 use Rattle.fz_data.specs.Parts.{argument_view}
 use Rattle.fz_data.specs.Posting.{IsLonger}
 use Rattle.fz_data.specs.Scope.{argument_fault, argument_in}

@@ -1,27 +1,12 @@
-use Rattle.std.proofs.Common.{None, refl, arith, map, subst}
+use Rattle.std.proofs.Common.{None, arith, map, subst}
 use Rattle.std.proofs.lemmas.List.{length-map, take_all}
-use Rattle.std.proofs.lemmas.Result.{err_from_is_err_and}
-use Rattle.fz_meaning.specs.View.{located_basic}
-use Rattle.fz_meaning.proofs.ScanSteps.{first_more}
+use Rattle.fz_names.specs.of_meaning.View.{located_basic}
+use Rattle.fz_names.proofs.of_meaning.ScanSteps.{first_more}
 use Rattle.fz_data.specs.Parts.{place_view}
 use Rattle.fz_data.specs.Scope.{fault_in, place_of_part}
-use Rattle.fz_store.specs.Slots.{IsGrown}
-use Rattle.fz_data.proofs.Grown.{SoFar, grown_none, grown_more, grown_one, longer_none, none_so_far, next_so_far, segment_is}
-use Rattle.fz_data.proofs.Tells.{tells_stop}
+use Rattle.fz_data.specs.Slots.{IsGrown}
+use Rattle.fz_data.proofs.Grown.{SoFar, grown_none, grown_more, grown_one, next_so_far, segment_is}
 use Rattle.fz_data.proofs.posting.places_of.Goals as goal
-
-pub returns-in_err-slot-clause-tells : goal.returns-in_err-slot-clause-tells
-returns-in_err-slot-clause-tells c =
-    let p = err_from_is_err_and c.from_residual-in_err-slot.result c.from_residual-in_err-slot.ensures.1 in
-    rw (p.1, p.2) (tells_stop (fault_in c.args.scope.now None) located_basic c.args.parts.now c.loop-part.part-index c.part-item.result _ c.loop-part-test.true c.part-item.is c.loop-part.invariant.clean c.in_err-slot.ensures.tells)
-
-pub loop-part-init : goal.loop-part-init
-loop-part-init c = record {
-  clean = refl;
-  places = none_so_far IsGrown (place_view c.args.scope.now.variables.items c.args.scope.now.arrays.items) c.args.store.now.constants.items c.args.store.now.slots.items;
-  longer = longer_none c.args.store.now;
-  kept = refl;
-}
 
 pub loop-part-preserved : goal.loop-part-preserved
 loop-part-preserved c =

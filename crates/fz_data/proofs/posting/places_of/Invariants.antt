@@ -1,9 +1,9 @@
 use Rattle.std.proofs.Common.{◌≡◌, None, map, take}
-use Rattle.fz_meaning.specs.View.{located_basic}
+use Rattle.fz_names.specs.of_meaning.View.{located_basic}
 use Rattle.fz_data.specs.Parts.{place_view}
 use Rattle.fz_data.specs.Posting.{IsLonger}
 use Rattle.fz_data.specs.Scope.{faults_in, place_of_part}
-use Rattle.fz_store.specs.Slots.{IsGrown}
+use Rattle.fz_data.specs.Slots.{IsGrown}
 use Rattle.fz_data.proofs.Grown.{SoFar}
 use Rattle.fz_data.proofs.posting.places_of.Given as goal
 

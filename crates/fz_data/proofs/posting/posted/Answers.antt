@@ -1,19 +1,12 @@
 use Rattle.std.proofs.Common.{map, ap, ◌∙◌}
-use Rattle.fz_meaning.specs.Meaning.{row_of, first_some}
-use Rattle.fz_meaning.specs.View.{located_expr}
-use Rattle.fz_meaning.specs.of_syntax.View.{bare_notes}
+use Rattle.fz_names.specs.of_meaning.Meaning.{row_of, first_some}
+use Rattle.fz_names.specs.of_meaning.View.{located_expr}
+use Rattle.fz_tree.specs.View.{bare_notes}
 use Rattle.fz_data.specs.Parts.{argument_view}
 use Rattle.fz_data.specs.Scope.{argument_in, defined_in}
-use Rattle.fz_store.specs.Slots.{segment}
+use Rattle.fz_data.specs.Slots.{segment}
 use Rattle.fz_data.proofs.Grown.{longer_none}
 use Rattle.fz_data.proofs.posting.posted.Goals as goal
-
-pub returns-clause-posted : goal.returns-clause-posted
-returns-clause-posted c later h = λ i. record {
-  name = c.args.constraint.now.name.text.now;
-  arguments = (c.in_ok-arguments.ensures.arguments later h ∙ ap (λ xs. map (argument_in c.args.scope.now) (map located_expr xs)) c.deref.ensures.value) i;
-  target = (c.target_of.ensures ∙ ap (λ ns. first_some (defined_in c.args.scope.now) (bare_notes ns)) c.deref-3.ensures.value) i;
-}
 
 pub returns-clause-row : goal.returns-clause-row
 returns-clause-row c =

@@ -1,6 +1,6 @@
 use Rattle.std.proofs.Common.{◌≡◌, None, take}
-use Rattle.fz_meaning.specs.Meaning.{first_some}
-use Rattle.fz_meaning.specs.of_syntax.View.{bare_notes}
+use Rattle.fz_names.specs.of_meaning.Meaning.{first_some}
+use Rattle.fz_tree.specs.View.{bare_notes}
 use Rattle.fz_data.specs.Scope.{defined_in}
 use Rattle.fz_data.proofs.posting.target_of.Given as goal
 

@@ -1,22 +1,10 @@
 use Rattle.std.proofs.Common.{length}
-use Rattle.std.proofs.lemmas.List.{length_push}
-use Rattle.std.proofs.lemmas.Slice.Zip.{zip_turn, zip_end}
-use Rattle.fz_data.proofs.Fitting.{fit_not_long, fit_not, fit_more, fit_all}
+use Rattle.std.proofs.lemmas.Slice.Zip.{zip_end}
+use Rattle.fz_data.proofs.Fitting.{fit_not_long, fit_all}
 use Rattle.fz_data.proofs.rows.have_shapes.Goals as goal
 
 pub returns-then-shapes-arguments : goal.returns-then-shapes-arguments
 returns-then-shapes-arguments c = fit_not_long c.args.cited.now.variables.now c.args.cited.now.arrays.now c.args.store.now c.args.shapes.now c.args.arguments.now c.if-shapes-arguments.true
-
-pub returns-then-not-has_shape : goal.returns-then-not-has_shape
-returns-then-not-has_shape c =
-    let t = zip_turn c.args.shapes.now c.args.arguments.now c.loop-shape.yielded c.into_iter-shape-iterator.result c.loop-shape.shape-iterator c.next.new.self c.next.result (cc) (cc) c.loop-shape.yielded_by (c.in-Some.shape, c.in-Some.argument) c.in-Some.is c.next.ensures.steps in
-    fit_not c.args.cited.now.variables.now c.args.cited.now.arrays.now c.args.store.now c.args.shapes.now c.args.arguments.now (length c.loop-shape.yielded) c.in-Some.shape.now c.in-Some.argument.now t.0 t.1 (t.2 _) (t.3 _) c.loop-shape.invariant c.has_shape.result c.has_shape.ensures c.if-not-has_shape.true
-
-pub loop-shape-preserved : goal.loop-shape-preserved
-loop-shape-preserved c =
-    let t = zip_turn c.args.shapes.now c.args.arguments.now c.loop-shape.yielded c.into_iter-shape-iterator.result c.loop-shape.shape-iterator c.next.new.self c.next.result (cc) (cc) c.loop-shape.yielded_by (c.in-Some.shape, c.in-Some.argument) c.in-Some.is c.next.ensures.steps in
-    rw length_push
-    (fit_more c.args.cited.now.variables.now c.args.cited.now.arrays.now c.args.store.now c.args.shapes.now c.args.arguments.now (length c.loop-shape.yielded) c.in-Some.shape.now c.in-Some.argument.now t.0 t.1 (t.2 _) (t.3 _) c.loop-shape.invariant c.has_shape.result c.has_shape.ensures c.if-not-has_shape.false)
 
 pub returns : goal.returns
 returns c =

@@ -1,6 +1,6 @@
 use Rattle.std.proofs.Common.{Some, None, cond, map, option_map, sym, ap, ◌∙◌}
-use Rattle.fz_meaning.specs.Known.{known_row}
-use Rattle.fz_meaning.proofs.FoundRows.{row_of_known, row_of_unknown}
+use Rattle.fz_names.specs.of_meaning.Known.{known_row}
+use Rattle.fz_names.proofs.of_meaning.FoundRows.{row_of_known, row_of_unknown}
 use Rattle.fz_data.specs.Parts.{argument_view}
 use Rattle.fz_data.proofs.rows.row_of.Goals as goal
 

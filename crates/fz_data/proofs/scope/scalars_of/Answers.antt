@@ -1,27 +1,12 @@
-use Rattle.std.proofs.Common.{Some, map, ap, refl, ◌∙◌}
+use Rattle.std.proofs.Common.{Some, map, ap, ◌∙◌}
 use Rattle.std.proofs.lemmas.List.{take_all}
-use Rattle.std.specs.List.{list_all}
-use Rattle.std.proofs.lemmas.Result.{err_from_is_err_and}
-use Rattle.fz_meaning.specs.View.{located_basic}
-use Rattle.fz_meaning.proofs.ScanSteps.{first_more}
+use Rattle.fz_names.specs.of_meaning.View.{located_basic}
+use Rattle.fz_names.proofs.of_meaning.ScanSteps.{first_more}
 use Rattle.fz_data.specs.Scope.{fault_in, term_in}
-use Rattle.fz_store.specs.Slots.{IsGrown, is_scalar, slot_term}
-use Rattle.fz_data.proofs.Grown.{grown_none, grown_more, none_read, next_read}
-use Rattle.fz_store.proofs.Flat.{one_flat}
-use Rattle.fz_data.proofs.Tells.{tells_stop}
+use Rattle.fz_data.specs.Slots.{IsGrown, slot_term}
+use Rattle.fz_data.proofs.Grown.{grown_none, grown_more, next_read}
+use Rattle.fz_data.proofs.Flat.{one_flat}
 use Rattle.fz_data.proofs.scope.scalars_of.Goals as goal
-
-pub returns-in_err-term-clause-tells : goal.returns-in_err-term-clause-tells
-returns-in_err-term-clause-tells c =
-    let p = err_from_is_err_and c.from_residual-in_err-term.result c.from_residual-in_err-term.ensures.1 in
-    rw (p.1, p.2) (tells_stop (fault_in c.args.scope.now (Some c.args.wanted)) located_basic c.args.parts.now c.loop-part.part-index c.part-item.result _ c.loop-part-test.true c.part-item.is c.loop-part.invariant.clean c.in_err-term.ensures.tells)
-
-pub loop-part-init : goal.loop-part-init
-loop-part-init c = record {
-  clean = refl;
-  terms = none_read IsGrown slot_term c.new-constants.result.items c.in_ok-slots.slots.items c.in_ok-slots.ensures.items;
-  flat = ap (list_all is_scalar) c.in_ok-slots.ensures.items;
-}
 
 pub loop-part-preserved : goal.loop-part-preserved
 loop-part-preserved c = record {

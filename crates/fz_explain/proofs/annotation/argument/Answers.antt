@@ -1,9 +1,9 @@
 use Rattle.std.proofs.Common.{◌≡◌, ◌≤◌, ℕ, refl, ap, sym, ◌∙◌, arith, List, [], ◌∷◌, map, length, Option, None, subst}
-use Rattle.fz_filling.specs.of_syntax.Tree as tree
-use Rattle.fz_filling.specs.of_syntax.declared.Note.{Note}
-use Rattle.fz_filling.specs.of_syntax.declared.NoteArg.{NoteArg}
-use Rattle.fz_filling.specs.of_syntax.declared.NoteArg.TheFolds.{fold_out-Note}
-use Rattle.fz_filling.specs.of_syntax.View.{arg_list, bare_arg, bare_arg_layer, bare_basic_layer, bare_note, bare_note_layer}
+use Rattle.fz_judge.specs.of_syntax.Tree as tree
+use Rattle.fz_judge.specs.of_syntax.declared.Note.{Note}
+use Rattle.fz_judge.specs.of_syntax.declared.NoteArg.{NoteArg}
+use Rattle.fz_judge.specs.of_syntax.declared.NoteArg.TheFolds.{fold_out-Note}
+use Rattle.fz_judge.specs.of_syntax.View.{arg_list, bare_arg, bare_arg_layer, bare_basic_layer, bare_note, bare_note_layer}
 use Rattle.fz_explain.specs.Annotations.{argument_of}
 use Rattle.fz_explain.proofs.annotation.argument.Goals as goal
 

@@ -1,6 +1,6 @@
 use Rattle.std.proofs.Common.{◌≡◌, drop, map}
-use Rattle.fz_filling.specs.of_model.Meaning.{first_some}
-use Rattle.fz_filling.specs.of_syntax.View.{bare_notes}
+use Rattle.fz_judge.specs.of_model.Meaning.{first_some}
+use Rattle.fz_judge.specs.of_syntax.View.{bare_notes}
 use Rattle.fz_explain.specs.Annotations.{argument_of}
 use Rattle.fz_explain.proofs.annotation.argument_of.Given as goal
 

@@ -1,6 +1,6 @@
 use Rattle.std.proofs.Common.{◌≡◌, drop, map}
-use Rattle.fz_filling.specs.of_model.Meaning.{first_some}
-use Rattle.fz_filling.specs.of_syntax.View.{bare_decl}
+use Rattle.fz_judge.specs.of_model.Meaning.{first_some}
+use Rattle.fz_judge.specs.of_syntax.View.{bare_decl}
 use Rattle.fz_explain.specs.Elements.{element_in}
 use Rattle.fz_explain.proofs.element.element_of.Given as goal
 

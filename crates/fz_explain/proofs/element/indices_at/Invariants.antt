@@ -1,5 +1,5 @@
 use Rattle.std.proofs.Common.{◌≡◌, ◌-◌, drop, length, map, Some}
-use Rattle.fz_filling.specs.of_syntax.View.{bare_basic, basic_list}
+use Rattle.fz_judge.specs.of_syntax.View.{bare_basic, basic_list}
 use Rattle.fz_explain.specs.Elements.{indices_in}
 use Rattle.fz_explain.proofs.element.indices_at.Given as goal
 

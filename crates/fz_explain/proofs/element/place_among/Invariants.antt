@@ -1,6 +1,6 @@
 use Rattle.std.proofs.Common.{◌≡◌, drop}
 use Rattle.std.specs.List.{position_from}
-use Rattle.fz_filling.specs.of_syntax.View.{bare_expressions}
+use Rattle.fz_judge.specs.of_syntax.View.{bare_expressions}
 use Rattle.fz_explain.specs.Elements.{is_name}
 use Rattle.fz_explain.proofs.element.place_among.Given as goal
 

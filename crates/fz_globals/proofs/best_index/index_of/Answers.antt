@@ -1,8 +1,8 @@
 use Rattle.std.proofs.Common.{◌≡◌, ◌+ℤ◌, pos, Some, FitsSigned, w64, sym, ap, ◌∙◌, arith, rules}
 use Rattle.std.specs.Int.{w128}
 use Rattle.std.proofs.lemmas.Int.{ints as numerals, to_z-of_z}
-use Rattle.fz_meaning.specs.Relations.{index_from}
-use Rattle.fz_kernel.specs.of_view.Views.{ints}
+use Rattle.fz_kernel.specs.of_meaning.Relations.{index_from}
+use Rattle.fz_kernel.specs.Views.{ints}
 use Rattle.fz_globals.proofs.FirstBest.{stands_there, stands_behind}
 use Rattle.fz_globals.proofs.best_index.index_of.Goals as goal
 

@@ -1,6 +1,6 @@
 use Rattle.std.proofs.Common.{◌≡◌, ◌+ℤ◌, pos, drop}
-use Rattle.fz_meaning.specs.Relations.{index_from}
-use Rattle.fz_kernel.specs.of_view.Views.{ints}
+use Rattle.fz_kernel.specs.of_meaning.Relations.{index_from}
+use Rattle.fz_kernel.specs.Views.{ints}
 use Rattle.fz_globals.proofs.best_index.index_of.Given as goal
 
 abbrev pub invariant-loop-place : goal.invariant-loop-place

@@ -1,6 +1,6 @@
 use Rattle.std.proofs.Common.{◌≡◌, ◌&&◌, true, false, length, nat_eq, FitsSigned, w64, sym, ap, ◌∙◌, rules}
 use Rattle.std.proofs.lemmas.Int.{to_z-of_z}
-use Rattle.fz_kernel.specs.of_view.Views.{ints, sets}
+use Rattle.fz_kernel.specs.Views.{ints, sets}
 use Rattle.fz_globals.specs.Held.{are_held, size_of_all}
 use Rattle.fz_kernel.proofs.Read.{ints_counted}
 use Rattle.fz_globals.proofs.Channelled.{channelled_is}

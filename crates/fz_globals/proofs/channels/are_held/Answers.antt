@@ -1,7 +1,7 @@
 use Rattle.std.proofs.Common.{◌≡◌, ◌+ℤ◌, pos, false, true, FitsSigned, w64, sym, ap, ◌∙◌, rules}
 use Rattle.std.specs.Int.{w128}
 use Rattle.std.proofs.lemmas.Int.{to_z-of_z}
-use Rattle.fz_kernel.specs.of_view.Views.{ints, sets}
+use Rattle.fz_kernel.specs.Views.{ints, sets}
 use Rattle.fz_globals.specs.Held.{are_held, is_held}
 use Rattle.fz_globals.proofs.Channelled.{one_held, one_not_held}
 use Rattle.fz_globals.proofs.channels.are_held.Goals as goal

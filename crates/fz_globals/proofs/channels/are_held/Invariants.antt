@@ -1,5 +1,5 @@
 use Rattle.std.proofs.Common.{◌≡◌, ◌+ℤ◌, pos, drop}
-use Rattle.fz_kernel.specs.of_view.Views.{ints, sets}
+use Rattle.fz_kernel.specs.Views.{ints, sets}
 use Rattle.fz_globals.specs.Held.{are_held}
 use Rattle.fz_globals.proofs.channels.are_held.Given as goal
 

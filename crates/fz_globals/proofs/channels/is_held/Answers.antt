@@ -4,8 +4,8 @@ use Rattle.std.specs.Option.{option_map_or}
 use Rattle.std.specs.FinSet.{contains}
 use Rattle.std.proofs.lemmas.Int.{to_z-of_z}
 use Rattle.fz_base.specs.Sets.{NumberSet}
-use Rattle.fz_meaning.specs.Relations.{element_at}
-use Rattle.fz_kernel.specs.of_view.Views.{sets}
+use Rattle.fz_kernel.specs.of_meaning.Relations.{element_at}
+use Rattle.fz_kernel.specs.Views.{sets}
 use Rattle.fz_kernel.proofs.Read.{sets_counted}
 use Rattle.fz_kernel.proofs.Passed.{element_found, none_found}
 use Rattle.fz_globals.proofs.Led.{as_place}

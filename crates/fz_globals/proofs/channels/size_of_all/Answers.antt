@@ -1,6 +1,6 @@
 use Rattle.std.proofs.Common.{◌≡◌, ◌+◌, drop, arith}
 use Rattle.std.specs.FinSet.{len}
-use Rattle.fz_kernel.specs.of_view.Views.{sets}
+use Rattle.fz_kernel.specs.Views.{sets}
 use Rattle.fz_globals.specs.Held.{size_of_all}
 use Rattle.fz_globals.proofs.Channelled.{one_sized}
 use Rattle.fz_globals.proofs.channels.size_of_all.Goals as goal

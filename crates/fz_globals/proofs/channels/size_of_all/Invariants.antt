@@ -1,5 +1,5 @@
 use Rattle.std.proofs.Common.{◌≡◌, ◌+◌, ◌*◌, ◌≤◌, drop}
-use Rattle.fz_kernel.specs.of_view.Views.{sets}
+use Rattle.fz_kernel.specs.Views.{sets}
 use Rattle.fz_globals.specs.Held.{size_of_all}
 use Rattle.fz_globals.proofs.channels.size_of_all.Given as goal
 

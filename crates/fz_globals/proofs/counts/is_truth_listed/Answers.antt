@@ -1,6 +1,6 @@
 use Rattle.std.proofs.Common.{sym, ◌∙◌}
-use Rattle.fz_meaning.specs.Relations.{◌=ᴮ◌}
-use Rattle.fz_kernel.specs.of_view.Views.{bools}
+use Rattle.fz_kernel.specs.of_meaning.Relations.{◌=ᴮ◌}
+use Rattle.fz_kernel.specs.Views.{bools}
 use Rattle.fz_globals.proofs.Compared.{same_truths}
 use Rattle.fz_globals.proofs.Each.{one_does, not_yet}
 use Rattle.fz_globals.proofs.counts.is_truth_listed.Goals as goal

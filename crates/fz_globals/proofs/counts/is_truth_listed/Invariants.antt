@@ -1,7 +1,7 @@
 use Rattle.std.proofs.Common.{◌≡◌, drop}
 use Rattle.std.specs.List.{list_any}
-use Rattle.fz_meaning.specs.Relations.{◌=ᴮ◌}
-use Rattle.fz_kernel.specs.of_view.Views.{bools}
+use Rattle.fz_kernel.specs.of_meaning.Relations.{◌=ᴮ◌}
+use Rattle.fz_kernel.specs.Views.{bools}
 use Rattle.fz_globals.proofs.counts.is_truth_listed.Given as goal
 
 abbrev pub invariant-loop-place : goal.invariant-loop-place

@@ -1,7 +1,7 @@
 use Rattle.std.proofs.Common.{◌≡◌, ◌++◌, ◌∷◌, [], pos, not, FitsSigned, w64, sym, ap, ◌∙◌, arith, rules}
 use Rattle.std.proofs.lemmas.Int.{ints as numerals, to_z-of_z}
-use Rattle.fz_meaning.specs.Relations.{is_nonzero}
-use Rattle.fz_kernel.specs.of_view.Views.{ints}
+use Rattle.fz_kernel.specs.of_meaning.Relations.{is_nonzero}
+use Rattle.fz_kernel.specs.Views.{ints}
 use Rattle.fz_globals.proofs.Compared.{is_equal, is_other}
 use Rattle.fz_globals.proofs.Each.{one_kept, one_skipped}
 use Rattle.fz_globals.proofs.counts.nonzero_numbers.Goals.{then-number-ne0+in_ok-push, else-number-ne0}

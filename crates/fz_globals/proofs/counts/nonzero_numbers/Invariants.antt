@@ -1,6 +1,6 @@
 use Rattle.std.proofs.Common.{◌≡◌, take, filter}
-use Rattle.fz_meaning.specs.Relations.{is_nonzero}
-use Rattle.fz_kernel.specs.of_view.Views.{ints}
+use Rattle.fz_kernel.specs.of_meaning.Relations.{is_nonzero}
+use Rattle.fz_kernel.specs.Views.{ints}
 use Rattle.fz_globals.proofs.counts.nonzero_numbers.Given as goal
 
 abbrev pub invariant-loop-place : goal.invariant-loop-place

@@ -1,7 +1,7 @@
 use Rattle.std.proofs.Common.{◌≡◌, sym, ◌∙◌, length, arith}
 use Rattle.std.proofs.lemmas.Int.{ints as numerals}
-use Rattle.fz_meaning.specs.Relations.{values_of}
-use Rattle.fz_kernel.specs.of_view.Views.{ints}
+use Rattle.fz_kernel.specs.of_meaning.Relations.{values_of}
+use Rattle.fz_kernel.specs.Views.{ints}
 use Rattle.fz_globals.proofs.Valued.{values-permutation}
 use Rattle.fz_globals.proofs.counts.number_of_values.Goals as goal
 

@@ -1,7 +1,7 @@
 use Rattle.std.proofs.Common.{◌≡◌, FitsSigned, w64, sym, ◌∙◌, rules}
 use Rattle.std.specs.FinSet.{contains}
 use Rattle.std.proofs.lemmas.Int.{to_z-of_z}
-use Rattle.fz_kernel.specs.of_view.Views.{ints}
+use Rattle.fz_kernel.specs.Views.{ints}
 use Rattle.fz_globals.proofs.Each.{one_told, one_left_out}
 use Rattle.fz_globals.proofs.counts.places_in.Goals.{then-contains, else-contains}
 use Rattle.fz_globals.proofs.counts.places_in.Goals as goal

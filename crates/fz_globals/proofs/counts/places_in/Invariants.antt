@@ -1,5 +1,5 @@
 use Rattle.std.specs.FinSet.{contains}
-use Rattle.fz_kernel.specs.of_view.Views.{ints}
+use Rattle.fz_kernel.specs.Views.{ints}
 use Rattle.fz_globals.proofs.Each.{IsTold}
 use Rattle.fz_globals.proofs.counts.places_in.Given as goal
 

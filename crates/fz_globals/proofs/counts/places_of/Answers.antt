@@ -1,7 +1,7 @@
 use Rattle.std.proofs.Common.{◌≡◌, w64, to_z, of_z, arith}
 use Rattle.std.proofs.lemmas.Int.{ints as numerals}
-use Rattle.fz_meaning.specs.Relations.{◌=ℤ◌}
-use Rattle.fz_kernel.specs.of_view.Views.{ints}
+use Rattle.fz_kernel.specs.of_meaning.Relations.{◌=ℤ◌}
+use Rattle.fz_kernel.specs.Views.{ints}
 use Rattle.fz_globals.proofs.Compared.{is_equal, is_other}
 use Rattle.fz_globals.proofs.Each.{one_told, one_left_out}
 use Rattle.fz_globals.proofs.counts.places_of.Goals.{then-int-value, else-int-value}

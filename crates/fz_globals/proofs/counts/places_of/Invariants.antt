@@ -1,5 +1,5 @@
-use Rattle.fz_meaning.specs.Relations.{◌=ℤ◌}
-use Rattle.fz_kernel.specs.of_view.Views.{ints}
+use Rattle.fz_kernel.specs.of_meaning.Relations.{◌=ℤ◌}
+use Rattle.fz_kernel.specs.Views.{ints}
 use Rattle.fz_globals.proofs.Each.{IsTold}
 use Rattle.fz_globals.proofs.counts.places_of.Given as goal
 

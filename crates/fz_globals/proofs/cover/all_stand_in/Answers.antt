@@ -1,5 +1,5 @@
 use Rattle.std.proofs.Common.{rules}
-use Rattle.fz_meaning.specs.Relations.{is_among}
+use Rattle.fz_kernel.specs.of_meaning.Relations.{is_among}
 use Rattle.fz_globals.proofs.cover.all_stand_in.Goals as goal
 
 pub returns : goal.returns

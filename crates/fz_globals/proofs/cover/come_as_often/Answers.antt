@@ -1,5 +1,5 @@
 use Rattle.std.proofs.Common.{rules}
-use Rattle.fz_meaning.specs.Relations.{◌=ℤ◌, count_of}
+use Rattle.fz_kernel.specs.of_meaning.Relations.{◌=ℤ◌, count_of}
 use Rattle.fz_globals.proofs.cover.come_as_often.Goals as goal
 
 pub returns : goal.returns

@@ -1,6 +1,6 @@
 use Rattle.std.proofs.Common.{◌≡◌, ◌&&◌, true, false, int_le, sym, ap, ◌∙◌, rules}
-use Rattle.fz_meaning.specs.Relations.{all_both, count_of}
-use Rattle.fz_kernel.specs.of_view.Views.{ints}
+use Rattle.fz_kernel.specs.of_meaning.Relations.{all_both, count_of}
+use Rattle.fz_kernel.specs.Views.{ints}
 use Rattle.fz_globals.proofs.cover.come_within.Goals as goal
 
 pub returns-then-enough : goal.returns-then-enough

@@ -1,6 +1,6 @@
 use Rattle.std.proofs.Common.{◌≡◌, ap, ◌∙◌}
-use Rattle.fz_meaning.specs.Relations.{counts_lie}
-use Rattle.fz_kernel.specs.of_view.Views.{ints}
+use Rattle.fz_kernel.specs.of_meaning.Relations.{counts_lie}
+use Rattle.fz_kernel.specs.Views.{ints}
 use Rattle.fz_globals.proofs.Each.{counts_lie-permutation}
 use Rattle.fz_globals.proofs.cover.counts_lie.Goals as goal
 

@@ -1,7 +1,7 @@
 use Rattle.std.proofs.Common.{◌≡◌, ◌+◌, ◌∷◌, ◌++◌, [], drop, FitsSigned, w64, sym, ap, ◌∙◌, rules}
 use Rattle.std.specs.Int.{w128}
 use Rattle.std.proofs.lemmas.Int.{to_z-of_z}
-use Rattle.fz_kernel.specs.of_view.Views.{ints}
+use Rattle.fz_kernel.specs.Views.{ints}
 use Rattle.fz_globals.specs.Keys.{key, keys_from}
 use Rattle.fz_globals.proofs.FirstPlaces.{one_more_key}
 use Rattle.fz_globals.proofs.firsts.keys_of.Goals as goal

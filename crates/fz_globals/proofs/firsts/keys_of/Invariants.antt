@@ -1,5 +1,5 @@
 use Rattle.std.proofs.Common.{◌≡◌, ◌++◌, drop}
-use Rattle.fz_kernel.specs.of_view.Views.{ints}
+use Rattle.fz_kernel.specs.Views.{ints}
 use Rattle.fz_globals.specs.Keys.{keys_from}
 use Rattle.fz_globals.proofs.firsts.keys_of.Given as goal
 

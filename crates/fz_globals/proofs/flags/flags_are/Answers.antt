@@ -2,8 +2,8 @@ use Rattle.std.proofs.Common.{◌≡◌, ◌+ℤ◌, pos, FitsSigned, w64, sym, 
 use Rattle.std.specs.Int.{w128}
 use Rattle.std.specs.FinSet.{contains}
 use Rattle.std.proofs.lemmas.Int.{to_z-of_z}
-use Rattle.fz_meaning.specs.Relations.{◌=ᴮ◌, flags_are}
-use Rattle.fz_kernel.specs.of_view.Views.{bools}
+use Rattle.fz_kernel.specs.of_meaning.Relations.{◌=ᴮ◌, flags_are}
+use Rattle.fz_kernel.specs.Views.{bools}
 use Rattle.fz_globals.proofs.Tested.{other_bool, same_bool_here}
 use Rattle.fz_globals.proofs.Flagged.{flag_agrees, flag_differs}
 use Rattle.fz_globals.proofs.flags.flags_are.Goals as goal

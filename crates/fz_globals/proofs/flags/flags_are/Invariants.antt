@@ -1,6 +1,6 @@
 use Rattle.std.proofs.Common.{◌≡◌, ◌+ℤ◌, pos, drop}
-use Rattle.fz_meaning.specs.Relations.{flags_are}
-use Rattle.fz_kernel.specs.of_view.Views.{bools}
+use Rattle.fz_kernel.specs.of_meaning.Relations.{flags_are}
+use Rattle.fz_kernel.specs.Views.{bools}
 use Rattle.fz_globals.proofs.flags.flags_are.Given as goal
 
 abbrev pub invariant-loop-place : goal.invariant-loop-place

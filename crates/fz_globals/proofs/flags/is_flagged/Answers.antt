@@ -2,8 +2,8 @@ use Rattle.std.proofs.Common.{◌≡◌, ◌↔◌, true, false, length, nat_eq,
 use Rattle.std.specs.Int.{int_min}
 use Rattle.std.proofs.lemmas.Int.{to_z-of_z}
 use Rattle.fz_base.specs.Sets.{LiesWithin}
-use Rattle.fz_meaning.specs.Relations.{flags_are}
-use Rattle.fz_kernel.specs.of_view.Views.{bools}
+use Rattle.fz_kernel.specs.of_meaning.Relations.{flags_are}
+use Rattle.fz_kernel.specs.Views.{bools}
 use Rattle.fz_kernel.proofs.Read.{bools_counted}
 use Rattle.fz_globals.proofs.Flagged.{greatest, last_of, none_flagged, within_flagged, not_within}
 use Rattle.fz_globals.proofs.flags.is_flagged.Goals as goal

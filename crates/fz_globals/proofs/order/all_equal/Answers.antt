@@ -1,5 +1,5 @@
 use Rattle.std.proofs.Common.{rules}
-use Rattle.fz_meaning.specs.Relations.{◌=ℤ◌}
+use Rattle.fz_kernel.specs.of_meaning.Relations.{◌=ℤ◌}
 use Rattle.fz_globals.proofs.order.all_equal.Goals as goal
 
 pub returns : goal.returns

@@ -1,8 +1,8 @@
 use Rattle.std.proofs.Common.{◌≡◌, pos, get_or, arith}
 use Rattle.std.proofs.lemmas.Int.{ints as numerals}
 use Rattle.std.proofs.lemmas.Option.{slice_get-get_or}
-use Rattle.fz_meaning.specs.Relations.{◌=ℤ◌}
-use Rattle.fz_kernel.specs.of_view.Views.{ints}
+use Rattle.fz_kernel.specs.of_meaning.Relations.{◌=ℤ◌}
+use Rattle.fz_kernel.specs.Views.{ints}
 use Rattle.fz_globals.proofs.Compared.{is_equal, is_other}
 use Rattle.fz_globals.proofs.Each.{still_same, not_same}
 use Rattle.fz_globals.proofs.order.are_elements.Goals as goal

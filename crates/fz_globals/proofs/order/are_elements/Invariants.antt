@@ -1,6 +1,6 @@
 use Rattle.std.proofs.Common.{◌≡◌, drop}
-use Rattle.fz_meaning.specs.Relations.{◌=ℤ◌, is_same_list}
-use Rattle.fz_kernel.specs.of_view.Views.{ints}
+use Rattle.fz_kernel.specs.of_meaning.Relations.{◌=ℤ◌, is_same_list}
+use Rattle.fz_kernel.specs.Views.{ints}
 use Rattle.fz_globals.proofs.order.are_elements.Given as goal
 
 abbrev pub invariant-loop-place : goal.invariant-loop-place

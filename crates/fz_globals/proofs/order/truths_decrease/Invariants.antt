@@ -1,5 +1,5 @@
 use Rattle.std.proofs.Common.{not, ◌||◌}
-use Rattle.fz_kernel.specs.of_view.Views.{bools}
+use Rattle.fz_kernel.specs.Views.{bools}
 use Rattle.fz_globals.proofs.Neighbours.{PassUpTo}
 use Rattle.fz_globals.proofs.order.truths_decrease.Given as goal
 

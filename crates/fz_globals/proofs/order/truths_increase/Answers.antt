@@ -1,5 +1,5 @@
 use Rattle.std.proofs.Common.{◌≡◌, not, ◌||◌, true, false, length, sym, ◌∙◌, arith, rules}
-use Rattle.fz_kernel.specs.of_view.Views.{bools}
+use Rattle.fz_kernel.specs.Views.{bools}
 use Rattle.fz_kernel.proofs.Read.{bools_counted}
 use Rattle.fz_globals.proofs.Neighbours.{pair_passes, pair_fails, all_pass}
 use Rattle.fz_globals.proofs.order.truths_increase.Goals as goal

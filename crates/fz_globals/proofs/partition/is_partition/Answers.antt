@@ -1,6 +1,6 @@
 use Rattle.std.proofs.Common.{◌≡◌, true, false, length, ap, sym, ◌∙◌, nat_eq, arith, rules}
-use Rattle.fz_meaning.specs.Relations.{is_partition}
-use Rattle.fz_kernel.specs.of_view.Views.{sets}
+use Rattle.fz_kernel.specs.of_meaning.Relations.{is_partition}
+use Rattle.fz_kernel.specs.Views.{sets}
 use Rattle.fz_kernel.proofs.Read.{sets_counted}
 use Rattle.fz_globals.proofs.Parted.{takes_part, is_no_part, all_taken}
 use Rattle.fz_globals.proofs.partition.is_partition.Goals as goal

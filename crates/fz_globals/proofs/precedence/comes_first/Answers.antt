@@ -1,6 +1,6 @@
 use Rattle.std.proofs.Common.{◌≡◌, pos, option_map, sym, ◌∙◌}
 use Rattle.std.proofs.lemmas.Int.{to_z-of_z}
-use Rattle.fz_meaning.specs.Relations.{index_from}
+use Rattle.fz_kernel.specs.of_meaning.Relations.{index_from}
 use Rattle.fz_globals.specs.Keys.{comes_before}
 use Rattle.fz_globals.proofs.FirstPlaces.{precedes_is}
 use Rattle.fz_globals.proofs.precedence.comes_first.Goals as goal

@@ -1,6 +1,6 @@
 use Rattle.std.proofs.Common.{rules}
-use Rattle.fz_meaning.specs.Relations.{precedes}
-use Rattle.fz_kernel.specs.of_view.Views.{ints}
+use Rattle.fz_kernel.specs.of_meaning.Relations.{precedes}
+use Rattle.fz_kernel.specs.Views.{ints}
 use Rattle.fz_globals.proofs.precedence.each_precedes_next.Goals as goal
 
 pub returns : goal.returns

@@ -1,5 +1,5 @@
 use Rattle.std.proofs.Common.{rules}
-use Rattle.fz_meaning.specs.Relations.{precedes}
+use Rattle.fz_kernel.specs.of_meaning.Relations.{precedes}
 use Rattle.fz_globals.proofs.precedence.first_places_rise.Goals as goal
 
 pub returns : goal.returns

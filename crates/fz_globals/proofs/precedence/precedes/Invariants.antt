@@ -1,6 +1,6 @@
 use Rattle.std.proofs.Common.{◌≡◌, drop}
-use Rattle.fz_meaning.specs.Relations.{precedes}
-use Rattle.fz_kernel.specs.of_view.Views.{ints}
+use Rattle.fz_kernel.specs.of_meaning.Relations.{precedes}
+use Rattle.fz_kernel.specs.Views.{ints}
 use Rattle.fz_globals.proofs.precedence.precedes.Given as goal
 
 abbrev pub invariant-loop-place : goal.invariant-loop-place

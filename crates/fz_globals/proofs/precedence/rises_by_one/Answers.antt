@@ -1,8 +1,8 @@
 use Rattle.std.proofs.Common.{◌≡◌, ◌+ℤ◌, pos, true, false, int_le, FitsSigned, w64, to_z, of_z, ap, ◌∙◌, arith, rules}
 use Rattle.std.specs.Int.{int_max}
 use Rattle.std.proofs.lemmas.Int.{ints as numerals, to_z-of_z}
-use Rattle.fz_meaning.specs.Relations.{rises_by_one}
-use Rattle.fz_kernel.specs.of_view.Views.{ints}
+use Rattle.fz_kernel.specs.of_meaning.Relations.{rises_by_one}
+use Rattle.fz_kernel.specs.Views.{ints}
 use Rattle.fz_globals.proofs.Preceding.{rises, rises_too_far}
 use Rattle.fz_globals.proofs.precedence.rises_by_one.Goals as goal
 

@@ -1,6 +1,6 @@
 use Rattle.std.proofs.Common.{◌≡◌, pos, drop}
-use Rattle.fz_meaning.specs.Relations.{rises_by_one}
-use Rattle.fz_kernel.specs.of_view.Views.{ints}
+use Rattle.fz_kernel.specs.of_meaning.Relations.{rises_by_one}
+use Rattle.fz_kernel.specs.Views.{ints}
 use Rattle.fz_globals.proofs.precedence.rises_by_one.Given as goal
 
 abbrev pub invariant-loop-place : goal.invariant-loop-place

@@ -1,6 +1,6 @@
 use Rattle.std.proofs.Common.{◌≡◌, ◌+◌, drop, length, take, Some, slice_get, refl, arith}
-use Rattle.fz_meaning.specs.Relations.{◌=ᴮ◌, is_same_list}
-use Rattle.fz_kernel.specs.of_view.Views.{bools}
+use Rattle.fz_kernel.specs.of_meaning.Relations.{◌=ᴮ◌, is_same_list}
+use Rattle.fz_kernel.specs.Views.{bools}
 use Rattle.fz_kernel.proofs.Read.{bools_counted}
 use Rattle.fz_globals.proofs.InTable.{in_front, behind, goes_on, differs}
 use Rattle.fz_globals.proofs.Tested.{other_bool, same_bool_here}

@@ -1,6 +1,6 @@
 use Rattle.std.proofs.Common.{◌≡◌, drop, length, take}
-use Rattle.fz_meaning.specs.Relations.{◌=ᴮ◌, is_same_list}
-use Rattle.fz_kernel.specs.of_view.Views.{bools}
+use Rattle.fz_kernel.specs.of_meaning.Relations.{◌=ᴮ◌, is_same_list}
+use Rattle.fz_kernel.specs.Views.{bools}
 use Rattle.fz_globals.proofs.tables.bools_stand_at.Given as goal
 
 abbrev pub invariant-loop-place : goal.invariant-loop-place

@@ -1,7 +1,7 @@
 use Rattle.std.proofs.Common.{◌≡◌, ◌+◌, false, true, drop, length, take, Some, slice_get, refl, arith}
 use Rattle.std.proofs.lemmas.Int.{ints as numerals}
-use Rattle.fz_meaning.specs.Relations.{◌=ℤ◌, is_same_list}
-use Rattle.fz_kernel.specs.of_view.Views.{ints}
+use Rattle.fz_kernel.specs.of_meaning.Relations.{◌=ℤ◌, is_same_list}
+use Rattle.fz_kernel.specs.Views.{ints}
 use Rattle.fz_kernel.proofs.Read.{ints_counted}
 use Rattle.fz_globals.proofs.InTable.{in_front, behind, goes_on, differs}
 use Rattle.fz_globals.proofs.tables.ints_stand_at.Goals as goal

@@ -1,6 +1,6 @@
 use Rattle.std.proofs.Common.{◌≡◌, ◌*◌, length, refl, sym, ap, ◌∙◌, arith}
-use Rattle.fz_meaning.specs.Relations.{◌=ᴮ◌, is_row_of, is_same_list}
-use Rattle.fz_kernel.specs.of_view.Views.{bools, slots_of}
+use Rattle.fz_kernel.specs.of_meaning.Relations.{◌=ᴮ◌, is_row_of, is_same_list}
+use Rattle.fz_kernel.specs.Views.{bools, slots_of}
 use Rattle.fz_kernel.proofs.Read.{bools_counted}
 use Rattle.fz_globals.proofs.InTable.{whole_rows, row_fails}
 use Rattle.fz_globals.proofs.tables.is_bool_row_among.Goals as goal

@@ -1,7 +1,7 @@
 use Rattle.std.proofs.Common.{◌≡◌, ◌*◌, drop, length}
 use Rattle.std.specs.List.{list_any}
-use Rattle.fz_meaning.specs.Relations.{◌=ᴮ◌, is_row_of, is_same_list, rows_of}
-use Rattle.fz_kernel.specs.of_view.Views.{bools}
+use Rattle.fz_kernel.specs.of_meaning.Relations.{◌=ᴮ◌, is_row_of, is_same_list, rows_of}
+use Rattle.fz_kernel.specs.Views.{bools}
 use Rattle.fz_globals.proofs.tables.is_bool_row_among.Given as goal
 
 abbrev pub invariant-loop-row : goal.invariant-loop-row

@@ -1,6 +1,6 @@
 use Rattle.std.proofs.Common.{◌≡◌, ◌*◌, length, refl, sym, ap, ◌∙◌, arith}
-use Rattle.fz_meaning.specs.Relations.{◌=ℤ◌, is_row_of, is_same_list}
-use Rattle.fz_kernel.specs.of_view.Views.{ints, slots_of}
+use Rattle.fz_kernel.specs.of_meaning.Relations.{◌=ℤ◌, is_row_of, is_same_list}
+use Rattle.fz_kernel.specs.Views.{ints, slots_of}
 use Rattle.fz_kernel.proofs.Read.{ints_counted}
 use Rattle.fz_globals.proofs.InTable.{whole_rows, row_fails}
 use Rattle.fz_globals.proofs.tables.is_int_row_among.Goals as goal

@@ -1,6 +1,6 @@
 use Rattle.std.proofs.Common.{◌≡◌, ℤ, Bool, drop}
 use Rattle.std.specs.List.{list_all}
-use Rattle.fz_kernel.specs.of_view.Views.{ints}
+use Rattle.fz_kernel.specs.Views.{ints}
 use Rattle.fz_globals.specs.Tests.{Is}
 use Rattle.fz_globals.proofs.testing.all_pass.Given as goal
 

@@ -1,6 +1,6 @@
 use Rattle.std.proofs.Common.{◌≡◌, ℤ, Bool, drop}
-use Rattle.fz_meaning.specs.Relations.{all_both}
-use Rattle.fz_kernel.specs.of_view.Views.{ints}
+use Rattle.fz_kernel.specs.of_meaning.Relations.{all_both}
+use Rattle.fz_kernel.specs.Views.{ints}
 use Rattle.fz_globals.specs.Tests.{IsOfTwo}
 use Rattle.fz_globals.proofs.testing.both_pass.Given as goal
 

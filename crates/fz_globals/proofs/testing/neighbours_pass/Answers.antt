@@ -1,6 +1,6 @@
 use Rattle.std.proofs.Common.{◌≡◌, FitsSigned, w64, true, false, length, sym, ◌∙◌, arith, rules}
 use Rattle.std.proofs.lemmas.Int.{to_z-of_z}
-use Rattle.fz_kernel.specs.of_view.Views.{ints}
+use Rattle.fz_kernel.specs.Views.{ints}
 use Rattle.fz_kernel.proofs.Read.{ints_counted}
 use Rattle.fz_globals.proofs.Neighbours.{pair_passes, pair_fails, all_pass}
 use Rattle.fz_globals.proofs.testing.neighbours_pass.Goals as goal

@@ -1,5 +1,5 @@
 use Rattle.std.proofs.Common.{ℤ, Bool}
-use Rattle.fz_kernel.specs.of_view.Views.{ints}
+use Rattle.fz_kernel.specs.Views.{ints}
 use Rattle.fz_globals.specs.Tests.{IsOfTwo}
 use Rattle.fz_globals.proofs.Neighbours.{PassUpTo}
 use Rattle.fz_globals.proofs.testing.neighbours_pass.Given as goal

@@ -1,7 +1,7 @@
 use Rattle.std.proofs.Common.{◌≡◌, pos, false, true, length, FitsSigned, w64, sym, ap, ◌∙◌, rules}
 use Rattle.std.proofs.lemmas.Int.{to_z-of_z}
-use Rattle.fz_meaning.specs.Relations.{are_places, as_places, lies_between}
-use Rattle.fz_kernel.specs.of_view.Views.{ints}
+use Rattle.fz_kernel.specs.of_meaning.Relations.{are_places, as_places, lies_between}
+use Rattle.fz_kernel.specs.Views.{ints}
 use Rattle.fz_kernel.proofs.Read.{ints_counted}
 use Rattle.fz_globals.proofs.Tested.{passes, fails}
 use Rattle.fz_globals.proofs.Led.{as_place, placed_at, placed_counted}

@@ -1,6 +1,6 @@
 use Rattle.std.proofs.Common.{◌≡◌, length, drop}
-use Rattle.fz_meaning.specs.Relations.{are_places, as_places}
-use Rattle.fz_kernel.specs.of_view.Views.{ints}
+use Rattle.fz_kernel.specs.of_meaning.Relations.{are_places, as_places}
+use Rattle.fz_kernel.specs.Views.{ints}
 use Rattle.fz_globals.proofs.tours.are_indices.Given as goal
 
 abbrev pub invariant-loop-place : goal.invariant-loop-place

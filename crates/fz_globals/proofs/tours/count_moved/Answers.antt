@@ -1,7 +1,7 @@
 use Rattle.std.proofs.Common.{◌≡◌, suc, ◌+◌, ◌-ℤ◌, pos, true, false, drop, length, FitsSigned, w64, sym, ap, ◌∙◌, arith, rules}
 use Rattle.std.proofs.lemmas.Int.{ints as numerals, to_z-of_z}
-use Rattle.fz_meaning.specs.Relations.{◌=ℤ◌, as_places, moved_from}
-use Rattle.fz_kernel.specs.of_view.Views.{ints}
+use Rattle.fz_kernel.specs.of_meaning.Relations.{◌=ℤ◌, as_places, moved_from}
+use Rattle.fz_kernel.specs.Views.{ints}
 use Rattle.fz_globals.proofs.Led.{as_place, placed_at, shifted}
 use Rattle.fz_globals.proofs.Walked.{stays, moves}
 use Rattle.fz_globals.proofs.tours.count_moved.Goals.{then-place_in-place, else-place_in-place}

@@ -1,6 +1,6 @@
 use Rattle.std.proofs.Common.{◌≡◌, ◌+◌, ◌≤◌, pos, drop, length}
-use Rattle.fz_meaning.specs.Relations.{as_places, moved_from}
-use Rattle.fz_kernel.specs.of_view.Views.{ints}
+use Rattle.fz_kernel.specs.of_meaning.Relations.{as_places, moved_from}
+use Rattle.fz_kernel.specs.Views.{ints}
 use Rattle.fz_globals.proofs.tours.count_moved.Given as goal
 
 abbrev pub invariant-loop-place : goal.invariant-loop-place

@@ -1,7 +1,7 @@
 use Rattle.std.proofs.Common.{◌≡◌, ◌+◌, pos, length, Some, slice_get, FitsSigned, w64, sym, subst, ◌∙◌}
 use Rattle.std.proofs.lemmas.Int.{to_z-of_z}
-use Rattle.fz_meaning.specs.Relations.{as_places, moved_from}
-use Rattle.fz_kernel.specs.of_view.Views.{ints}
+use Rattle.fz_kernel.specs.of_meaning.Relations.{as_places, moved_from}
+use Rattle.fz_kernel.specs.Views.{ints}
 use Rattle.fz_globals.proofs.Walked.{NotBack, goes_through, tour_from}
 use Rattle.fz_globals.proofs.tours.is_one_tour.Goals as goal
 

@@ -2,8 +2,8 @@ use Rattle.std.proofs.Common.{◌≡◌, ℤ, ◌+◌, pos, ◌-ℤ◌, false, n
 use Rattle.std.specs.Int.{w128}
 use Rattle.std.specs.Option.{option_map_or}
 use Rattle.std.proofs.lemmas.Int.{to_z-of_z}
-use Rattle.fz_meaning.specs.Relations.{◌=ℤ◌, element_at, as_places}
-use Rattle.fz_kernel.specs.of_view.Views.{ints}
+use Rattle.fz_kernel.specs.of_meaning.Relations.{◌=ℤ◌, element_at, as_places}
+use Rattle.fz_kernel.specs.Views.{ints}
 use Rattle.fz_kernel.proofs.Read.{ints_counted}
 use Rattle.fz_kernel.proofs.Passed.{element_found, none_found}
 use Rattle.fz_globals.proofs.Led.{as_place, placed_at, placed_counted, shifted}

@@ -1,7 +1,7 @@
 use Rattle.std.proofs.Common.{◌≡◌, ◌+◌, ◌≤◌, ℕ, pos, length, Some, FitsSigned, w64, sym, ap, ◌∙◌, rules, refl}
 use Rattle.std.proofs.lemmas.Int.{to_z-of_z}
-use Rattle.fz_meaning.specs.Relations.{as_places, lies_between}
-use Rattle.fz_kernel.specs.of_view.Views.{ints}
+use Rattle.fz_kernel.specs.of_meaning.Relations.{as_places, lies_between}
+use Rattle.fz_kernel.specs.Views.{ints}
 use Rattle.fz_kernel.proofs.Read.{ints_counted}
 use Rattle.fz_kernel.proofs.Passed.{element_found}
 use Rattle.fz_globals.proofs.Tested.{passed_at}

@@ -1,7 +1,7 @@
 use Rattle.std.proofs.Common.{◌≡◌, ◌+◌, ◌<◌, pos, Some, FitsSigned, w64, ap, ◌∙◌, add-one, arith}
 use Rattle.std.proofs.lemmas.Int.{to_z-of_z}
-use Rattle.fz_meaning.specs.Relations.{element_at, as_places, end_of_tour}
-use Rattle.fz_kernel.specs.of_view.Views.{ints}
+use Rattle.fz_kernel.specs.of_meaning.Relations.{element_at, as_places, end_of_tour}
+use Rattle.fz_kernel.specs.Views.{ints}
 use Rattle.fz_globals.proofs.Walked.{NotBack, one_further, back_early, still_ahead}
 use Rattle.fz_globals.proofs.tours.walk.Goals.{else-step-gt0-via-then-step-gt0+else-place-start, else-step-gt0-via-else-step-gt0}
 use Rattle.fz_globals.proofs.tours.walk.Goals as goal

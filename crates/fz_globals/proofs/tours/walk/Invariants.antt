@@ -1,6 +1,6 @@
 use Rattle.std.proofs.Common.{◌≡◌, ◌+◌, ◌<◌, pos, Some, length}
-use Rattle.fz_meaning.specs.Relations.{as_places, end_of_tour}
-use Rattle.fz_kernel.specs.of_view.Views.{ints, slots_of}
+use Rattle.fz_kernel.specs.of_meaning.Relations.{as_places, end_of_tour}
+use Rattle.fz_kernel.specs.Views.{ints, slots_of}
 use Rattle.fz_globals.proofs.Walked.{NotBack}
 use Rattle.fz_globals.proofs.tours.walk.Given as goal
 

@@ -1,8 +1,8 @@
 use Rattle.std.proofs.Common.{option_map, sym, ap, ◌∙◌}
-use Rattle.fz_filling.specs.of_model.View.{located_literal}
-use Rattle.fz_filling.specs.of_verdict.BlockFaults.{literal_fault}
+use Rattle.fz_search.specs.of_model.View.{located_literal}
+use Rattle.fz_judge.specs.BlockFaults.{literal_fault}
 use Rattle.fz_judge.specs.Judged.{refusal}
-use Rattle.fz_filling.proofs.of_model.ScanSteps.{first_more}
+use Rattle.fz_search.proofs.of_model.ScanSteps.{first_more}
 use Rattle.fz_judge.proofs.Lists.{first_found, not_some, told_is_some}
 use Rattle.fz_judge.proofs.faults.elements_fault.Goals as goal
 

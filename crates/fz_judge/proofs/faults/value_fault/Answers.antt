@@ -1,11 +1,11 @@
 use Rattle.std.proofs.Common.{map, option_map, sym, ap, ◌∙◌}
-use Rattle.fz_filling.specs.of_model.Meaning.Place.{Scalar}
-use Rattle.fz_filling.specs.of_model.Parts.{variable_view}
-use Rattle.fz_filling.specs.of_model.Shown.{what_place}
-use Rattle.fz_filling.specs.of_model.Slots.{scalar_term}
-use Rattle.fz_filling.specs.of_model.View.{located_name}
-use Rattle.fz_filling.specs.of_verdict.BlockFaults.{value_fault}
-use Rattle.fz_filling.specs.of_verdict.View.{located_printed_value}
+use Rattle.fz_search.specs.of_model.Meaning.Place.{Scalar}
+use Rattle.fz_search.specs.of_model.Parts.{variable_view}
+use Rattle.fz_search.specs.of_model.Shown.{what_place}
+use Rattle.fz_search.specs.of_model.Slots.{scalar_term}
+use Rattle.fz_search.specs.of_model.View.{located_name}
+use Rattle.fz_judge.specs.BlockFaults.{value_fault}
+use Rattle.fz_judge.specs.BlockView.{located_printed_value}
 use Rattle.fz_judge.specs.Judged.{refusal}
 use Rattle.fz_judge.proofs.faults.value_fault.Goals as goal
 

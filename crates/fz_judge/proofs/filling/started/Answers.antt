@@ -1,6 +1,6 @@
 use Rattle.std.proofs.Common.{◌≡◌, IfSome, IsSomeAnd, subst, sym, arith}
-use Rattle.fz_filling.specs.of_verdict.BlockFaults.{block_fault, items_fault}
-use Rattle.fz_filling.specs.of_verdict.View.{located_block, located_items}
+use Rattle.fz_judge.specs.BlockFaults.{block_fault, items_fault}
+use Rattle.fz_judge.specs.BlockView.{located_block, located_items}
 use Rattle.fz_judge.specs.Judged.{TellsFault}
 use Rattle.fz_judge.proofs.Refusing.{kind_tells, moved_tells, told_within}
 use Rattle.fz_judge.proofs.filling.started.Goals as goal

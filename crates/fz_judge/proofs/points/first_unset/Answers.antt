@@ -1,8 +1,8 @@
 use Rattle.std.proofs.Common.{◌≡◌, List, [], ◌∷◌, length, map, refl, sym, ◌∙◌}
 use Rattle.std.proofs.lemmas.Slice.Zip.{zip_end}
-use Rattle.fz_filling.specs.of_model.declared.Variable.{Variable}
-use Rattle.fz_filling.specs.of_model.Parts.{variable_view}
-use Rattle.fz_filling.specs.of_verdict.Verdict.{first_unset}
+use Rattle.fz_search.specs.of_model.declared.Variable.{Variable}
+use Rattle.fz_search.specs.of_model.Parts.{variable_view}
+use Rattle.fz_judge.specs.Verdict.{first_unset}
 use Rattle.fz_judge.proofs.Lists.{both_end}
 use Rattle.fz_judge.proofs.points.first_unset.Goals as goal
 

@@ -1,6 +1,6 @@
 use Rattle.std.proofs.Common.{◌≡◌, drop, length, map}
-use Rattle.fz_filling.specs.of_model.Parts.{variable_view}
-use Rattle.fz_filling.specs.of_verdict.Verdict.{first_unset}
+use Rattle.fz_search.specs.of_model.Parts.{variable_view}
+use Rattle.fz_judge.specs.Verdict.{first_unset}
 use Rattle.fz_judge.proofs.points.first_unset.Given as goal
 
 abbrev pub invariant-loop-variable : goal.invariant-loop-variable

@@ -1,6 +1,6 @@
 use Rattle.std.proofs.Common.{◌<◌, length, not, option_map, sym, ap, ◌∙◌, arith}
-use Rattle.fz_filling.specs.of_model.Meaning.{points}
-use Rattle.fz_filling.specs.of_model.Shown.{point_name}
+use Rattle.fz_search.specs.of_model.Meaning.{points}
+use Rattle.fz_search.specs.of_model.Shown.{point_name}
 use Rattle.fz_judge.specs.View.{reason_view}
 use Rattle.fz_judge.proofs.Lists.{not_some, seen_is_some}
 use Rattle.fz_judge.proofs.Verdicts.{all_held, held_passes, held_decided, point_violates, point_passes, reason_here, reason_before}

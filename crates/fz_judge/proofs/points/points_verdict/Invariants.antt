@@ -1,6 +1,6 @@
 use Rattle.std.proofs.Common.{◌≡◌, None, option_map, take}
-use Rattle.fz_filling.specs.of_model.Meaning.{first_some, points}
-use Rattle.fz_filling.specs.of_verdict.Verdict.{point_fails, point_undecided}
+use Rattle.fz_search.specs.of_model.Meaning.{first_some, points}
+use Rattle.fz_judge.specs.Verdict.{point_fails, point_undecided}
 use Rattle.fz_judge.specs.View.{reason_view}
 use Rattle.fz_judge.proofs.points.points_verdict.Given as goal
 

@@ -1,10 +1,10 @@
 use Rattle.std.proofs.Common.{map, sym, ap, ◌∙◌}
-use Rattle.fz_filling.specs.of_model.Meaning.Place.{Array}
-use Rattle.fz_filling.specs.of_model.Shown.{scalar_terms}
-use Rattle.fz_filling.specs.of_model.View.{located_literal}
-use Rattle.fz_filling.specs.of_verdict.Solutions.{printed_values}
-use Rattle.fz_filling.specs.of_verdict.Verdict.{has_printed}
-use Rattle.fz_filling.specs.of_verdict.View.{located_printed_value}
+use Rattle.fz_search.specs.of_model.Meaning.Place.{Array}
+use Rattle.fz_search.specs.of_model.Shown.{scalar_terms}
+use Rattle.fz_search.specs.of_model.View.{located_literal}
+use Rattle.fz_judge.specs.Solutions.{printed_values}
+use Rattle.fz_judge.specs.Verdict.{has_printed}
+use Rattle.fz_judge.specs.BlockView.{located_printed_value}
 use Rattle.fz_judge.specs.Working.{have_values}
 use Rattle.fz_judge.proofs.Lists.{ok_then}
 use Rattle.fz_judge.proofs.Printing.{are_same}

@@ -1,8 +1,8 @@
 use Rattle.std.proofs.Common.{sym, ap, ◌∙◌}
-use Rattle.fz_filling.specs.of_model.Shown.{kind_among, what_place}
-use Rattle.fz_filling.specs.of_model.Slots.{scalar_term}
-use Rattle.fz_filling.specs.of_verdict.Verdict.{has_printed}
-use Rattle.fz_filling.specs.of_verdict.View.{located_printed_value}
+use Rattle.fz_search.specs.of_model.Shown.{kind_among, what_place}
+use Rattle.fz_search.specs.of_model.Slots.{scalar_term}
+use Rattle.fz_judge.specs.Verdict.{has_printed}
+use Rattle.fz_judge.specs.BlockView.{located_printed_value}
 use Rattle.fz_judge.proofs.Lists.{ok_then}
 use Rattle.fz_judge.proofs.printed.has_printed.Goals as goal
 

@@ -1,7 +1,7 @@
 use Rattle.std.proofs.Common.{map, ◌∙◌}
-use Rattle.fz_filling.specs.of_model.Shown.{scalar_terms}
-use Rattle.fz_filling.specs.of_model.View.{located_literal}
-use Rattle.fz_filling.specs.of_verdict.Solutions.{printed_values}
+use Rattle.fz_search.specs.of_model.Shown.{scalar_terms}
+use Rattle.fz_search.specs.of_model.View.{located_literal}
+use Rattle.fz_judge.specs.Solutions.{printed_values}
 use Rattle.fz_judge.proofs.Printing.{not_as_many, located_length}
 use Rattle.fz_judge.proofs.printed.have_values.Goals as goal
 

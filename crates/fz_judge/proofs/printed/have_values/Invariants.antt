@@ -1,8 +1,8 @@
 use Rattle.std.proofs.Common.{◌≡◌, drop, length, map}
-use Rattle.fz_filling.specs.of_model.Shown.{scalar_terms}
-use Rattle.fz_filling.specs.of_model.Slots.{slot_term}
-use Rattle.fz_filling.specs.of_model.View.{located_literal}
-use Rattle.fz_filling.specs.of_verdict.Solutions.{printed_values}
+use Rattle.fz_search.specs.of_model.Shown.{scalar_terms}
+use Rattle.fz_search.specs.of_model.Slots.{slot_term}
+use Rattle.fz_search.specs.of_model.View.{located_literal}
+use Rattle.fz_judge.specs.Solutions.{printed_values}
 use Rattle.fz_judge.specs.Working.{have_values}
 use Rattle.fz_judge.proofs.printed.have_values.Given as goal
 

@@ -1,9 +1,9 @@
 use Rattle.std.proofs.Common.{sym, ◌∙◌}
-use Rattle.fz_filling.specs.of_verdict.BlockFaults.{printed_fault}
-use Rattle.fz_filling.specs.of_verdict.Verdict.{printed_fails}
-use Rattle.fz_filling.specs.of_verdict.View.{located_printed}
+use Rattle.fz_judge.specs.BlockFaults.{printed_fault}
+use Rattle.fz_judge.specs.Verdict.{printed_fails}
+use Rattle.fz_judge.specs.BlockView.{located_printed}
 use Rattle.fz_judge.specs.View.{fault_view}
-use Rattle.fz_filling.proofs.of_model.ScanSteps.{first_more}
+use Rattle.fz_search.proofs.of_model.ScanSteps.{first_more}
 use Rattle.fz_judge.proofs.Lists.{first_found, none_at, not_some, seen_is_some}
 use Rattle.fz_judge.proofs.printed.printed_fails.Goals as goal
 

@@ -1,25 +1,20 @@
-use Rattle.std.proofs.Common.{◌≡◌, true, ◌&&◌, List, [], ◌∷◌, length, map, refl, sym, ap, subst, ◌∙◌}
+use Rattle.std.proofs.Common.{◌≡◌, List, [], ◌∷◌, length, map, refl, sym, subst, ◌∙◌}
 use Rattle.std.proofs.lemmas.Slice.Zip.{zip_turn, zip_end}
-use Rattle.fz_filling.specs.of_model.declared.Slot.{Slot}
-use Rattle.fz_filling.specs.of_model.declared.Term.{Term}
-use Rattle.fz_filling.specs.of_model.Slots.{slot_term}
-use Rattle.fz_filling.specs.of_model.Meaning.{Partial}
-use Rattle.fz_filling.specs.of_model.View.{located_literal}
-use Rattle.fz_filling.specs.of_syntax.declared.Literal.{Literal}
-use Rattle.fz_filling.specs.of_verdict.Solutions.{printed_values}
-use Rattle.fz_filling.specs.of_verdict.Filling.{pairs}
-use Rattle.fz_judge.specs.Working.{IsWithin, agree_all, with_all}
-use Rattle.std.proofs.Math.Bool.{and-true}
+use Rattle.fz_search.specs.of_model.declared.Slot.{Slot}
+use Rattle.fz_search.specs.of_model.declared.Term.{Term}
+use Rattle.fz_search.specs.of_model.Slots.{slot_term}
+use Rattle.fz_search.specs.of_model.Meaning.{Partial}
+use Rattle.fz_search.specs.of_model.View.{located_literal}
+use Rattle.fz_stream.specs.of_syntax.declared.Literal.{Literal}
+use Rattle.fz_judge.specs.Solutions.{printed_values}
+use Rattle.fz_judge.specs.Filling.{pairs}
+use Rattle.fz_judge.specs.Working.{IsWithin, with_all}
 use Rattle.fz_judge.proofs.Lists.{both_end, mapped_at}
 use Rattle.fz_judge.proofs.start.set_elements.Goals as goal
 
 no_literals : (K : Partial) (ts : List Term) → with_all K (pairs ts []) ≡ K
 no_literals K [] = refl
 no_literals K (t ∷ ts) = refl
-
-none_disagrees : (K : Partial) (ts : List Term) → agree_all K (pairs ts []) ≡ true
-none_disagrees K [] = refl
-none_disagrees K (t ∷ ts) = refl
 
 pub set_scalar-requires : goal.set_scalar-requires
 set_scalar-requires c =
@@ -32,10 +27,5 @@ set_scalar-requires c =
 pub returns : goal.returns
 returns c =
     let e = zip_end c.args.list.slots.now c.args.literals.now c.loop-slot.yielded c.into_iter-slot-iterator.result c.loop-slot.slot-iterator c.next.new.self c.next.result (cc) (cc) c.loop-slot.yielded_by c.in-None.is c.next.ensures.steps in
-    record {
-      given = sym (c.loop-slot.invariant.given
-          ∙ both_end (λ (xs : List Slot) (ls : List Literal). with_all c.loop-slot.partial (pairs (map (slot_term c.args.list.constants.now) xs) (printed_values (map located_literal ls)))) c.loop-slot.partial (λ ls. refl) (λ xs. no_literals c.loop-slot.partial (map (slot_term c.args.list.constants.now) xs)) c.args.list.slots.now c.args.literals.now (length c.loop-slot.yielded) e);
-      agrees = sym (c.loop-slot.invariant.agree
-          ∙ ap (λ b. c.loop-slot.agrees && b) (both_end (λ (xs : List Slot) (ls : List Literal). agree_all c.loop-slot.partial (pairs (map (slot_term c.args.list.constants.now) xs) (printed_values (map located_literal ls)))) true (λ ls. refl) (λ xs. none_disagrees c.loop-slot.partial (map (slot_term c.args.list.constants.now) xs)) c.args.list.slots.now c.args.literals.now (length c.loop-slot.yielded) e)
-          ∙ and-true c.loop-slot.agrees);
-    }
+    sym (c.loop-slot.invariant.given
+    ∙ both_end (λ (xs : List Slot) (ls : List Literal). with_all c.loop-slot.partial (pairs (map (slot_term c.args.list.constants.now) xs) (printed_values (map located_literal ls)))) c.loop-slot.partial (λ ls. refl) (λ xs. no_literals c.loop-slot.partial (map (slot_term c.args.list.constants.now) xs)) c.args.list.slots.now c.args.literals.now (length c.loop-slot.yielded) e)

@@ -1,10 +1,10 @@
-use Rattle.std.proofs.Common.{◌≡◌, ◌&&◌, drop, length, map}
-use Rattle.fz_filling.specs.of_model.Shown.{scalar_terms}
-use Rattle.fz_filling.specs.of_model.Slots.{slot_term}
-use Rattle.fz_filling.specs.of_model.View.{located_literal}
-use Rattle.fz_filling.specs.of_verdict.Solutions.{printed_values}
-use Rattle.fz_filling.specs.of_verdict.Filling.{pairs}
-use Rattle.fz_judge.specs.Working.{agree_all, with_all}
+use Rattle.std.proofs.Common.{◌≡◌, drop, length, map}
+use Rattle.fz_search.specs.of_model.Shown.{scalar_terms}
+use Rattle.fz_search.specs.of_model.Slots.{slot_term}
+use Rattle.fz_search.specs.of_model.View.{located_literal}
+use Rattle.fz_judge.specs.Solutions.{printed_values}
+use Rattle.fz_judge.specs.Filling.{pairs}
+use Rattle.fz_judge.specs.Working.{with_all}
 use Rattle.fz_judge.proofs.start.set_elements.Given as goal
 
 abbrev pub invariant-loop-slot : goal.invariant-loop-slot
@@ -12,8 +12,5 @@ invariant-loop-slot l = record {
   given : with_all l.fn.partial (pairs (scalar_terms l.list)
       (printed_values (map located_literal l.literals)))
       ≡ with_all l.partial (pairs (map (slot_term l.list.constants.now) (drop (length l.yielded) l.list.slots.now)) (printed_values (map located_literal (drop (length l.yielded) l.literals))));
-  agree : agree_all l.fn.partial
-      (pairs (scalar_terms l.list) (printed_values (map located_literal l.literals)))
-      ≡ (l.agrees && agree_all l.partial (pairs (map (slot_term l.list.constants.now) (drop (length l.yielded) l.list.slots.now)) (printed_values (map located_literal (drop (length l.yielded) l.literals)))));
   long : length l.partial ≡ length l.fn.partial;
 }

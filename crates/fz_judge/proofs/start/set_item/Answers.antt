@@ -1,11 +1,11 @@
 use Rattle.std.proofs.Common.{◌≡◌, None, sym, ap, subst, ◌∙◌}
-use Rattle.fz_filling.specs.of_model.Meaning.{IsPartial, variables_of}
-use Rattle.fz_filling.specs.of_model.Shown.{found_place, what_place}
-use Rattle.fz_filling.specs.of_model.View.{located_name}
-use Rattle.fz_filling.specs.of_verdict.BlockFaults.{value_fault}
-use Rattle.fz_filling.specs.of_verdict.View.{located_printed_value}
+use Rattle.fz_search.specs.of_model.Meaning.{IsPartial, variables_of}
+use Rattle.fz_search.specs.of_model.Shown.{found_place, what_place}
+use Rattle.fz_search.specs.of_model.View.{located_name}
+use Rattle.fz_judge.specs.BlockFaults.{value_fault}
+use Rattle.fz_judge.specs.BlockView.{located_printed_value}
 use Rattle.fz_judge.specs.Judged.{refusal}
-use Rattle.fz_filling.proofs.of_verdict.Start.{map_none}
+use Rattle.fz_judge.proofs.Starts.{map_none}
 use Rattle.fz_judge.proofs.Starting.{all_fit, place_pairs_fit, what_within}
 use Rattle.fz_judge.proofs.start.set_item.Goals as goal
 
@@ -20,5 +20,5 @@ returns-clause-kinds c =
     let none : value_fault (located_name c.args.item.now.name) place (located_printed_value c.args.item.now.value) ≡ None =
     ap (λ vs. value_fault (located_name c.args.item.now.name) (what_place vs x c.in-Some.found.what) (located_printed_value c.args.item.now.value)) (sym c.variables.ensures.all)
     ∙ map_none refusal _ (sym (c.value_fault.ensures x) ∙ c.in_default-value_fault.is) in
-    subst (IsPartial m) (sym (c.in_ok-set_value.ensures.given (variables_of m) x))
+    subst (IsPartial m) (sym (c.in_ok-set_value.ensures (variables_of m) x))
     (all_fit m c.args.partial.now _ c.requires.fits (place_pairs_fit m (located_name c.args.item.now.name) place (located_printed_value c.args.item.now.value) c.in-Some.ensures.kinds none))

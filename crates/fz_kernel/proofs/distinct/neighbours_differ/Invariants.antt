@@ -1,5 +1,5 @@
 use Rattle.std.proofs.Common.{◌≡◌, ℕ, ◌+◌, ◌<◌, ℤ, get_or, false}
-use Rattle.fz_meaning.specs.Relations.{◌=ℤ◌}
+use Rattle.fz_data.specs.of_meaning.Relations.{◌=ℤ◌}
 use Rattle.fz_kernel.proofs.distinct.neighbours_differ.Given as goal
 
 abbrev pub invariant-loop-place : goal.invariant-loop-place

@@ -1,10 +1,9 @@
 use Rattle.std.proofs.Common.{◌≡◌, slice_range, refl, ◌∙◌}
 use Rattle.std.proofs.lemmas.List.{map-append, append-nil}
-use Rattle.std.proofs.lemmas.Result.{err_from_is_err_and}
 use Rattle.fz_lex.specs.Lexing.{nothing, IsTokenWithinLimit}
 use Rattle.fz_lex.specs.View.{spanned, all_spanned}
 use Rattle.fz_lex.proofs.Cuts.{cut_then}
-use Rattle.fz_lex.proofs.Next.{fault_after, all_push}
+use Rattle.fz_lex.proofs.Next.{all_push}
 use Rattle.fz_lex.proofs.lexer.tokens.Goals as goal
 
 pub loop-tokens-init : goal.loop-tokens-init
@@ -14,13 +13,6 @@ loop-tokens-init c = record {
   numbers = rw c.new-tokens.ensures.items tt;
   texts = rw c.new-tokens.ensures.items tt;
 }
-
-pub returns-in_err-token-clause-refused : goal.returns-in_err-token-clause-refused
-returns-in_err-token-clause-refused c =
-    let p = err_from_is_err_and c.from_residual.result c.from_residual.ensures.1 in
-    let now = c.loop-tokens.invariant in
-    let fault = rw now.same_source at c.in_err-token.ensures.fault in
-    rw (p.1, p.2) (fault_after c.args.source.now c.loop-tokens.lexer.place _ now.cut now.numbers _ fault)
 
 pub loop-tokens-preserved : goal.loop-tokens-preserved
 loop-tokens-preserved c =

@@ -26,9 +26,9 @@ returns c =
     let old = c.args.numbered.now in
     let noted = c.note.new.self in
     let name = c.args.name.now in
-    let kept : Kept = record { bytes = c.args.name; entry = c.args.entry; seat = length ks } in
-    let counted : c.len-seat.result ≡ length ks = omega arith in
-    let grew : c.push_reserved.new.self.items ≡ ks ++ kept ∷ [] = c.push_reserved.ensures.items ∙ (λ i. c.reserve.ensures.items i ++ record { bytes = c.args.name; entry = c.args.entry; seat = counted i } ∷ []) in
+    let kept : Kept = record { bytes = c.args.name; entry = c.args.entry } in
+    let counted : c.len.result ≡ length ks = omega arith in
+    let grew : c.push_reserved.new.self.items ≡ ks ++ kept ∷ [] = c.push_reserved.ensures.items ∙ ap (λ zs. zs ++ kept ∷ []) c.reserve.ensures.items in
     let absent = not_found name ks c.requires.new in
     let apart : list_any (same_key kept) os ≡ false = any_found name os ∙ ap is_some (absent_there name ks os old.shapes.items old.places.items old.seats.items c.requires.numbered absent) in
     let put_last = among_others ks os old.shapes.items noted.shapes.items c.note.ensures.kept old.places.items noted.places.items old.seats.items noted.seats.items name c.note.ensures.others c.requires.numbered kept refl in
@@ -40,8 +40,7 @@ returns c =
       numbered = subst (λ zs. IsNumbered zs c.if-not-note.others.keys noted.shapes.items noted.places.items noted.seats.items) (sym grew) (elim c.if-not-note.branch [
         | then-not-note+in_ok-insert w ↦
             let keys : c.if-not-note.others.keys ≡ os ++ kept ∷ [] =
-            ap (λ t. t.keys) w.others-is ∙ w.in_ok-insert.ensures.keys ∙ goes_last os (record { bytes = c.args.name; entry = c.args.entry; seat = c.len-seat.result }) apart
-            ∙ ap (λ n. os ++ record { bytes = c.args.name; entry = c.args.entry; seat = n } ∷ []) counted in
+            ap (λ t. t.keys) w.others-is ∙ w.in_ok-insert.ensures.keys ∙ goes_last os kept apart in
             subst (λ zs. IsNumbered (ks ++ kept ∷ []) zs noted.shapes.items noted.places.items noted.seats.items) (sym keys) (put_last (w.if-not-note.ensures.no_seat refl) (w.if-not-note.ensures.left refl))
         | else-not-note w ↦
             let keys : c.if-not-note.others.keys ≡ os = ap (λ t. t.keys) w.others-is in

@@ -2,8 +2,8 @@ use Rattle.std.proofs.Common.{◌≡◌, ◌+◌, ◌*◌, ℤ, pos, neg_ℤ, �
 use Rattle.std.specs.Int.{w128}
 use Rattle.std.specs.List.{zip}
 use Rattle.std.proofs.lemmas.Int.{ints as numerals, to_z-of_z}
-use Rattle.fz_meaning.specs.Relations.{◌=ℤ◌}
-use Rattle.fz_kernel.specs.of_view.Views.{ints}
+use Rattle.fz_kernel.specs.of_meaning.Relations.{◌=ℤ◌}
+use Rattle.fz_kernel.specs.Views.{ints}
 use Rattle.fz_scheduling.specs.Places.{number_at, span_at}
 use Rattle.fz_scheduling.proofs.Chosen.{chosen, one_chosen, one_left_out, all_chosen}
 use Rattle.fz_scheduling.proofs.Zipped.{next_span}

@@ -1,6 +1,6 @@
 use Rattle.std.specs.List.{zip}
-use Rattle.fz_meaning.specs.Relations.{◌=ℤ◌}
-use Rattle.fz_kernel.specs.of_view.Views.{ints}
+use Rattle.fz_kernel.specs.of_meaning.Relations.{◌=ℤ◌}
+use Rattle.fz_kernel.specs.Views.{ints}
 use Rattle.fz_scheduling.proofs.Chosen.{IsChosen}
 use Rattle.fz_scheduling.proofs.bins.load_of.Given as goal
 

@@ -1,7 +1,7 @@
 use Rattle.std.proofs.Common.{◌<◌, length, w64, to_z, of_z, sym, ap, ◌∙◌, arith, rules}
 use Rattle.std.proofs.lemmas.Int.{to_z-of_z}
-use Rattle.fz_meaning.specs.Relations.{loads_are}
-use Rattle.fz_kernel.specs.of_view.Views.{ints}
+use Rattle.fz_kernel.specs.of_meaning.Relations.{loads_are}
+use Rattle.fz_kernel.specs.Views.{ints}
 use Rattle.fz_scheduling.specs.Places.{number_at}
 use Rattle.fz_scheduling.proofs.Laden.{other_load, its_load}
 use Rattle.fz_scheduling.proofs.Zipped.{next_number}

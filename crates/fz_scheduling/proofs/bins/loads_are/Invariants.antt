@@ -1,6 +1,6 @@
 use Rattle.std.proofs.Common.{◌≡◌, drop, pos, ◌+ℤ◌}
-use Rattle.fz_meaning.specs.Relations.{loads_are}
-use Rattle.fz_kernel.specs.of_view.Views.{ints}
+use Rattle.fz_kernel.specs.of_meaning.Relations.{loads_are}
+use Rattle.fz_kernel.specs.Views.{ints}
 use Rattle.fz_scheduling.proofs.bins.loads_are.Given as goal
 
 abbrev pub invariant-loop-place : goal.invariant-loop-place

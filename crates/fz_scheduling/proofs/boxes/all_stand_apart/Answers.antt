@@ -1,6 +1,6 @@
 use Rattle.std.proofs.Common.{◌∙◌, arith, rules}
-use Rattle.fz_meaning.specs.Relations.{boxes}
-use Rattle.fz_kernel.specs.of_view.Views.{ints}
+use Rattle.fz_kernel.specs.of_meaning.Relations.{boxes}
+use Rattle.fz_kernel.specs.Views.{ints}
 use Rattle.fz_kernel.proofs.Between.{all_pairs_of}
 use Rattle.fz_scheduling.specs.Places.{stand_apart, box_at}
 use Rattle.fz_scheduling.proofs.Zipped.{next_box}

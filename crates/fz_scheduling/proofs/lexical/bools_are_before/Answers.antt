@@ -1,6 +1,6 @@
 use Rattle.std.proofs.Common.{◌≤◌, ◌⊎◌, not, ◌&&◌, length, ltb, ap₂, ◌∙◌, arith}
-use Rattle.fz_meaning.specs.Relations.{◌=ᴮ◌, is_before}
-use Rattle.fz_kernel.specs.of_view.Views.{bools}
+use Rattle.fz_kernel.specs.of_meaning.Relations.{◌=ᴮ◌, is_before}
+use Rattle.fz_kernel.specs.Views.{bools}
 use Rattle.fz_kernel.proofs.Left.{one_ends}
 use Rattle.fz_scheduling.proofs.Before.{ends}
 use Rattle.fz_scheduling.proofs.lexical.bools_are_before.Goals as goal

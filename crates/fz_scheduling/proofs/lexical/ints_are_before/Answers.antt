@@ -1,6 +1,6 @@
 use Rattle.std.proofs.Common.{◌≤◌, ◌⊎◌, int_lt, length, ltb, ap₂, ◌∙◌, arith}
-use Rattle.fz_meaning.specs.Relations.{◌=ℤ◌, is_before}
-use Rattle.fz_kernel.specs.of_view.Views.{ints}
+use Rattle.fz_kernel.specs.of_meaning.Relations.{◌=ℤ◌, is_before}
+use Rattle.fz_kernel.specs.Views.{ints}
 use Rattle.fz_kernel.proofs.Left.{one_ends}
 use Rattle.fz_scheduling.proofs.Before.{ends}
 use Rattle.fz_scheduling.proofs.lexical.ints_are_before.Goals as goal

@@ -1,7 +1,7 @@
 use Rattle.std.proofs.Common.{◌≡◌, drop}
 use Rattle.std.specs.Prelude.{int_lt}
-use Rattle.fz_meaning.specs.Relations.{◌=ℤ◌, is_before}
-use Rattle.fz_kernel.specs.of_view.Views.{ints}
+use Rattle.fz_kernel.specs.of_meaning.Relations.{◌=ℤ◌, is_before}
+use Rattle.fz_kernel.specs.Views.{ints}
 use Rattle.fz_scheduling.proofs.lexical.ints_are_before.Given as goal
 
 abbrev pub invariant-loop-place : goal.invariant-loop-place

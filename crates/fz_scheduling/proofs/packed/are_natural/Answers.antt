@@ -1,6 +1,6 @@
 use Rattle.std.proofs.Common.{◌∙◌, arith, rules}
-use Rattle.fz_meaning.specs.Relations.{is_natural}
-use Rattle.fz_kernel.specs.of_view.Views.{ints}
+use Rattle.fz_kernel.specs.of_meaning.Relations.{is_natural}
+use Rattle.fz_kernel.specs.Views.{ints}
 use Rattle.fz_kernel.proofs.Between.{all_of}
 use Rattle.fz_scheduling.specs.Places.{number_at}
 use Rattle.fz_scheduling.proofs.Zipped.{next_number}

@@ -1,7 +1,7 @@
 use Rattle.std.proofs.Common.{◌<◌, List, ℤ, length, sym, ap, arith}
 use Rattle.std.specs.List.{list_all}
-use Rattle.fz_meaning.specs.Relations.{total, lies_between}
-use Rattle.fz_kernel.specs.of_view.Views.{ints}
+use Rattle.fz_kernel.specs.of_meaning.Relations.{total, lies_between}
+use Rattle.fz_kernel.specs.Views.{ints}
 use Rattle.fz_scheduling.proofs.Windowed.{too_short}
 use Rattle.fz_scheduling.proofs.slides.all_lie_between.Goals as goal
 

@@ -1,7 +1,7 @@
 use Rattle.std.proofs.Common.{◌≡◌, ◌*◌, ◌<◌, pos, neg_ℤ, ◌+ℤ◌, ◌≤ℤ◌, length, FitsSigned, w64, to_z, of_z, ap, subst, ◌∙◌, arith, rules}
 use Rattle.std.specs.Int.{w128}
 use Rattle.std.proofs.lemmas.Int.{ints as numerals}
-use Rattle.fz_kernel.specs.of_view.Views.{ints}
+use Rattle.fz_kernel.specs.Views.{ints}
 use Rattle.fz_scheduling.proofs.Windowed.{one_summed}
 use Rattle.fz_scheduling.proofs.slides.front_sum.Goals as goal
 

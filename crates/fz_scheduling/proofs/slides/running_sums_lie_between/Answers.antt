@@ -2,8 +2,8 @@ use Rattle.std.proofs.Common.{◌≡◌, ◌+◌, ◌<◌, ◌≤◌, ◌+ℤ◌
 use Rattle.std.specs.Int.{w128}
 use Rattle.std.specs.List.{list_all}
 use Rattle.std.proofs.lemmas.Int.{ints as numerals, to_z-of_z}
-use Rattle.fz_meaning.specs.Relations.{total, lies_between, windows}
-use Rattle.fz_kernel.specs.of_view.Views.{ints}
+use Rattle.fz_kernel.specs.of_meaning.Relations.{total, lies_between, windows}
+use Rattle.fz_kernel.specs.Views.{ints}
 use Rattle.fz_scheduling.specs.Places.{number_at}
 use Rattle.fz_scheduling.proofs.Windowed.{between_low, between_high, slides_out, slides_on, last_run}
 use Rattle.fz_scheduling.proofs.slides.running_sums_lie_between.Goals as goal

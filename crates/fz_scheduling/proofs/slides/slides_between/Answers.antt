@@ -1,7 +1,7 @@
 use Rattle.std.proofs.Common.{◌≡◌, pos, FitsSigned, w64, ap, sym, ◌∙◌, arith}
 use Rattle.std.proofs.lemmas.Int.{ints as numerals, to_z-of_z}
-use Rattle.fz_meaning.specs.Relations.{lies_between, slides_between}
-use Rattle.fz_kernel.specs.of_view.Views.{ints}
+use Rattle.fz_kernel.specs.of_meaning.Relations.{lies_between, slides_between}
+use Rattle.fz_kernel.specs.Views.{ints}
 use Rattle.fz_scheduling.proofs.Windowed.{runs_of_none}
 use Rattle.fz_scheduling.proofs.slides.slides_between.Goals as goal
 

@@ -1,7 +1,7 @@
 use Rattle.std.proofs.Common.{◌∙◌, arith, rules}
 use Rattle.std.specs.List.{zip}
-use Rattle.fz_meaning.specs.Relations.{Span, is_natural}
-use Rattle.fz_kernel.specs.of_view.Views.{ints}
+use Rattle.fz_kernel.specs.of_meaning.Relations.{Span, is_natural}
+use Rattle.fz_kernel.specs.Views.{ints}
 use Rattle.fz_kernel.proofs.Between.{all_of}
 use Rattle.fz_scheduling.specs.Places.{number_at, span_at}
 use Rattle.fz_scheduling.proofs.Zipped.{next_span}

@@ -1,6 +1,6 @@
 use Rattle.std.proofs.Common.{◌∙◌, arith, rules}
 use Rattle.std.specs.List.{zip}
-use Rattle.fz_kernel.specs.of_view.Views.{ints}
+use Rattle.fz_kernel.specs.Views.{ints}
 use Rattle.fz_kernel.proofs.Between.{all_of}
 use Rattle.fz_scheduling.specs.Places.{keeps_within, number_at, span_at}
 use Rattle.fz_scheduling.proofs.Zipped.{next_task}

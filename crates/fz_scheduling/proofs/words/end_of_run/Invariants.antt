@@ -1,6 +1,6 @@
 use Rattle.std.proofs.Common.{◌≡◌, drop}
-use Rattle.fz_meaning.specs.Relations.{run}
-use Rattle.fz_kernel.specs.of_view.Views.{ints}
+use Rattle.fz_kernel.specs.of_meaning.Relations.{run}
+use Rattle.fz_kernel.specs.Views.{ints}
 use Rattle.fz_scheduling.proofs.words.end_of_run.Given as goal
 
 abbrev pub invariant-loop-place : goal.invariant-loop-place

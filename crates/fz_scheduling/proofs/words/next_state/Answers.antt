@@ -1,8 +1,8 @@
 use Rattle.std.proofs.Common.{◌≡◌, true, ◌+ℤ◌, ◌-ℤ◌, ◌*ℤ◌, pos, w64, FitsSigned, sym, ap, ◌∙◌, rules}
 use Rattle.std.specs.Int.{w128}
 use Rattle.std.proofs.lemmas.Int.{to_z-of_z}
-use Rattle.fz_meaning.specs.Relations.{element_at, lies_between}
-use Rattle.fz_kernel.specs.of_view.Views.{ints}
+use Rattle.fz_kernel.specs.of_meaning.Relations.{element_at, lies_between}
+use Rattle.fz_kernel.specs.Views.{ints}
 use Rattle.fz_scheduling.proofs.Followed.{leads, one_less}
 use Rattle.fz_scheduling.proofs.words.next_state.Goals as goal
 

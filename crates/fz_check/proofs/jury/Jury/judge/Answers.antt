@@ -1,4 +1,4 @@
-use Rattle.fz_judge.specs.of_verdict.View.{located_block}
+use Rattle.fz_judge.specs.BlockView.{located_block}
 use Rattle.fz_judge.specs.View.{verdict_view}
 use Rattle.fz_check.proofs.JuryLemmas.{judges_more}
 use Rattle.fz_check.proofs.jury.Jury.judge.Goals as goal

@@ -1,14 +1,14 @@
 use Rattle.std.proofs.Common.{◌≡◌, ℤ, Bool, true, false, Option, None, Some, IfOk, int_lt, refl, sym, ap, subst, ◌∙◌}
-use Rattle.fz_filling.specs.of_model.Meaning.{Aim, Model, Partial, IsPartial, objective}
-use Rattle.fz_filling.specs.of_model.Meaning.Aim.{Satisfy, Minimize, Maximize}
-use Rattle.fz_filling.specs.of_verdict.Solutions.{Block}
-use Rattle.fz_filling.specs.of_verdict.Completed.{IsCompleted}
-use Rattle.fz_filling.specs.of_verdict.Completed.IsCompleted.{Found, AsFilled, NotBetterThanFound}
-use Rattle.fz_filling.specs.of_verdict.Verdict.{Fault, Verdict, not_better_if, objective_fails, verdict}
-use Rattle.fz_filling.specs.of_verdict.Verdict.Fault.{NotBetter}
-use Rattle.fz_filling.specs.of_verdict.Verdict.Verdict.{Satisfied, Undecided, Violated}
-use Rattle.fz_filling.specs.of_verdict.View.{located_block}
-use Rattle.fz_filling.proofs.of_verdict.Accepted.{satisfied_after}
+use Rattle.fz_search.specs.of_model.Meaning.{Aim, Model, Partial, IsPartial, objective}
+use Rattle.fz_search.specs.of_model.Meaning.Aim.{Satisfy, Minimize, Maximize}
+use Rattle.fz_judge.specs.Solutions.{Block}
+use Rattle.fz_judge.specs.Completed.{IsCompleted}
+use Rattle.fz_judge.specs.Completed.IsCompleted.{Found, AsFilled, NotBetterThanFound}
+use Rattle.fz_judge.specs.Verdict.{Fault, Verdict, not_better_if, objective_fails, verdict}
+use Rattle.fz_judge.specs.Verdict.Fault.{NotBetter}
+use Rattle.fz_judge.specs.Verdict.Verdict.{Satisfied, Undecided, Violated}
+use Rattle.fz_judge.specs.BlockView.{located_block}
+use Rattle.fz_judge.proofs.Accepted.{satisfied_after}
 use Rattle.fz_judge.specs.Judged.{JudgeState}
 use Rattle.fz_judge.specs.View.{fault_view, reason_view, verdict_view}
 use Rattle.fz_judge.specs.Working.{compared, not_shown_better}

@@ -1,7 +1,6 @@
 use Rattle.std.proofs.Common.{◌≡◌, ◌∙◌, sym, ap, subst, rules}
-use Rattle.fz_filling.specs.of_verdict.Verdict.{IsFilled}
-use Rattle.fz_filling.specs.of_verdict.View.{located_block}
-use Rattle.fz_judge.specs.declared.start.Proposed.{Proposed}
+use Rattle.fz_judge.specs.Verdict.{IsFilled}
+use Rattle.fz_judge.specs.BlockView.{located_block}
 use Rattle.fz_judge.specs.Judged.{JudgeState}
 use Rattle.fz_judge.specs.Working.{HasRoom}
 use Rattle.fz_judge.proofs.Starting.{has_room}
@@ -12,12 +11,12 @@ pub invariant_of-self-2 : goal.invariant_of-self-2
 invariant_of-self-2 c =
     let same : c.match-self.self.model ≡ c.self.inside.model.now = elim c.match-self.branch [ in-Off w ↦ ap (λ (s : JudgeState). s.model) w.self-is | in-On+in_ok-verdict-in-On w ↦ ap (λ (s : JudgeState). s.model) (w.self-is ∙ w.completed.ensures.same) ] in
     let later : c.self-2.inside.model.now ≡ c.self.inside.model.now = ap (λ (s : JudgeState). s.model) c.self-2.view_is ∙ same in
-    (c.self-2.invariant.0, c.self-2.invariant.1, subst (λ m. HasRoom m c.in_ok-filling.filling.value.partial) (sym later) (has_room c.self.inside.model.now c.in_ok-filling.filling.value.partial c.in_ok-filling.ensures.kinds))
+    (c.self-2.invariant.0, c.self-2.invariant.1, subst (λ m. HasRoom m c.in_ok-filling.filling.value) (sym later) (has_room c.self.inside.model.now c.in_ok-filling.filling.value c.in_ok-filling.ensures.kinds))
 
 pub returns-clause-judged : goal.returns-clause-judged
 returns-clause-judged c = record {
-  filling = c.deref-proposed.result.now.partial;
-  is_filled = subst (λ (p : Proposed). IsFilled c.args.self.now.model (located_block c.args.block.now) p.partial) (sym c.deref-proposed.ensures) (search rules);
+  filling = c.deref-partial.result.now;
+  is_filled = subst (IsFilled c.args.self.now.model (located_block c.args.block.now)) (sym c.deref-partial.ensures) (search rules);
   told = search rules;
   kept_is = search rules;
 }

@@ -1,11 +1,11 @@
 use Rattle.std.proofs.Common.{◌≡◌, ℤ, Option, None, Some, IfSome, refl, sym, ap, subst, ◌∙◌}
-use Rattle.fz_filling.specs.of_model.Meaning.{Model, Partial, objective}
-use Rattle.fz_filling.specs.of_verdict.Solutions.{Block}
-use Rattle.fz_filling.specs.of_verdict.Completed.{IsCompleted, LacksValuesAtMost}
-use Rattle.fz_filling.specs.of_verdict.Completed.IsCompleted.{Found, AsFilled}
-use Rattle.fz_filling.specs.of_verdict.Verdict.{Reason, Verdict}
-use Rattle.fz_filling.specs.of_verdict.Verdict.Verdict.{Satisfied, Undecided}
-use Rattle.fz_filling.specs.of_verdict.View.{located_block}
+use Rattle.fz_search.specs.of_model.Meaning.{Model, Partial, objective}
+use Rattle.fz_judge.specs.Solutions.{Block}
+use Rattle.fz_judge.specs.Completed.{IsCompleted, LacksValuesAtMost}
+use Rattle.fz_judge.specs.Completed.IsCompleted.{Found, AsFilled}
+use Rattle.fz_judge.specs.Verdict.{Reason, Verdict}
+use Rattle.fz_judge.specs.Verdict.Verdict.{Satisfied, Undecided}
+use Rattle.fz_judge.specs.BlockView.{located_block}
 use Rattle.fz_judge.specs.Judged.{JudgeState}
 use Rattle.fz_judge.specs.View.{reason_view}
 use Rattle.fz_judge.specs.Working.{IsFound}

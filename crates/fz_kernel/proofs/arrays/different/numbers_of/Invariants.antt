@@ -1,5 +1,5 @@
 use Rattle.std.proofs.Common.{◌≡◌, take}
-use Rattle.fz_arguments.specs.Views.{ints}
+use Rattle.fz_kernel.specs.Views.{ints}
 use Rattle.fz_kernel.proofs.arrays.different.numbers_of.Given as goal
 
 abbrev pub invariant-loop-place : goal.invariant-loop-place

@@ -1,7 +1,7 @@
 use Rattle.std.proofs.Common.{◌≡◌, ◌+◌, drop, FitsSigned, w64, sym, ◌∙◌, rules}
 use Rattle.std.proofs.lemmas.Int.{to_z-of_z}
-use Rattle.fz_meaning.specs.Relations.{is_among}
-use Rattle.fz_arguments.specs.Views.{ints}
+use Rattle.fz_data.specs.of_meaning.Relations.{is_among}
+use Rattle.fz_kernel.specs.Views.{ints}
 use Rattle.fz_kernel.proofs.Different.{found_again, not_again}
 use Rattle.fz_kernel.proofs.arrays.different.pairs_differ.Goals as goal
 

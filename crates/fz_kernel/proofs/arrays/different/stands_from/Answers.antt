@@ -1,7 +1,7 @@
 use Rattle.std.proofs.Common.{◌≡◌, w64, to_z, of_z, drop, ap, ◌∙◌, arith}
 use Rattle.std.proofs.lemmas.Int.{ints as numerals, to_z-of_z}
-use Rattle.fz_meaning.specs.Relations.{is_among}
-use Rattle.fz_arguments.specs.Views.{ints}
+use Rattle.fz_data.specs.of_meaning.Relations.{is_among}
+use Rattle.fz_kernel.specs.Views.{ints}
 use Rattle.fz_kernel.proofs.Different.{stands_here, stands_elsewhere}
 use Rattle.fz_kernel.proofs.arrays.different.stands_from.Goals as goal
 

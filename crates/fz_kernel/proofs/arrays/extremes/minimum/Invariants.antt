@@ -1,5 +1,5 @@
 use Rattle.std.proofs.Common.{◌≡◌, true, take}
-use Rattle.fz_arguments.specs.Views.{ints}
+use Rattle.fz_kernel.specs.Views.{ints}
 use Rattle.fz_kernel.proofs.Best.{is_best, not_below}
 use Rattle.fz_kernel.proofs.arrays.extremes.minimum.Given as goal
 

@@ -1,4 +1,4 @@
-use Rattle.fz_arguments.specs.Views.{ints}
+use Rattle.fz_kernel.specs.Views.{ints}
 use Rattle.fz_kernel.proofs.Added.{IsAdded}
 use Rattle.fz_kernel.proofs.arrays.sums.sum_of_products.Given as goal
 

@@ -2,8 +2,8 @@ use Rattle.std.proofs.Common.{◌≡◌, pos, neg_ℤ, ◌*◌, ◌+ℤ◌, ◌�
 use Rattle.std.specs.Int.{w128}
 use Rattle.std.proofs.lemmas.Int.{ints as numerals}
 use Rattle.std.proofs.lemmas.Option.{slice_get-get_or}
-use Rattle.fz_meaning.specs.Relations.{where_true}
-use Rattle.fz_arguments.specs.Views.{ints, bools}
+use Rattle.fz_data.specs.of_meaning.Relations.{where_true}
+use Rattle.fz_kernel.specs.Views.{ints, bools}
 use Rattle.fz_kernel.proofs.Left.{one_ends}
 use Rattle.fz_kernel.proofs.Read.{ints_counted, bools_counted}
 use Rattle.fz_kernel.proofs.Added.{one_counted, one_passed, none_true_left, all_counted}

@@ -1,4 +1,4 @@
-use Rattle.fz_arguments.specs.Views.{ints, bools}
+use Rattle.fz_kernel.specs.Views.{ints, bools}
 use Rattle.fz_kernel.proofs.Added.{IsCounted}
 use Rattle.fz_kernel.proofs.arrays.sums.sum_where_true.Given as goal
 

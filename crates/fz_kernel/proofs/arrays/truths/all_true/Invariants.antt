@@ -1,6 +1,6 @@
 use Rattle.std.proofs.Common.{◌≡◌, drop}
 use Rattle.std.specs.List.{list_all}
-use Rattle.fz_arguments.specs.Views.{bools}
+use Rattle.fz_kernel.specs.Views.{bools}
 use Rattle.fz_kernel.proofs.arrays.truths.all_true.Given as goal
 
 abbrev pub invariant-loop-place : goal.invariant-loop-place

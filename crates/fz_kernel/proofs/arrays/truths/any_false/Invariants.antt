@@ -1,6 +1,6 @@
 use Rattle.std.proofs.Common.{◌≡◌, drop, not}
 use Rattle.std.specs.List.{list_any}
-use Rattle.fz_arguments.specs.Views.{bools}
+use Rattle.fz_kernel.specs.Views.{bools}
 use Rattle.fz_kernel.proofs.arrays.truths.any_false.Given as goal
 
 abbrev pub invariant-loop-place : goal.invariant-loop-place

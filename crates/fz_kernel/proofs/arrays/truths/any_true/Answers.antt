@@ -1,6 +1,6 @@
 use Rattle.std.proofs.Common.{true, false, sym, ap, ◌∙◌, rules}
 use Rattle.std.specs.List.{list_any}
-use Rattle.fz_arguments.specs.Views.{bools}
+use Rattle.fz_kernel.specs.Views.{bools}
 use Rattle.fz_kernel.proofs.Left.{next_is}
 use Rattle.fz_kernel.proofs.arrays.truths.any_true.Goals as goal
 

@@ -1,5 +1,5 @@
 use Rattle.std.proofs.Common.{◌≡◌, ◌+◌, drop, sym, subst}
-use Rattle.fz_arguments.specs.Views.{bools}
+use Rattle.fz_kernel.specs.Views.{bools}
 use Rattle.fz_kernel.proofs.Passed.{turned, odd_of, one_true, one_false}
 use Rattle.fz_kernel.proofs.arrays.truths.odd_number_true.Goals.{then-truth, else-truth}
 use Rattle.fz_kernel.proofs.arrays.truths.odd_number_true.Goals as goal

@@ -1,5 +1,5 @@
 use Rattle.std.proofs.Common.{◌≡◌, drop}
-use Rattle.fz_arguments.specs.Views.{bools}
+use Rattle.fz_kernel.specs.Views.{bools}
 use Rattle.fz_kernel.proofs.Passed.{turned, odd_of}
 use Rattle.fz_kernel.proofs.arrays.truths.odd_number_true.Given as goal
 

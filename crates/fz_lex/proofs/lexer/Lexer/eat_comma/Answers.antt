@@ -1,5 +1,5 @@
 use Rattle.std.proofs.Common.{◌≡◌, ◌<◌, ◌∙◌, length, get_or, arith}
-use Rattle.fz_lex.proofs.AheadLaws.{stop_stays, ahead_comma}
+use Rattle.fz_lex.proofs.AheadLaws.{stop_stays}
 use Rattle.fz_lex.proofs.Next.{comma_cut}
 use Rattle.fz_lex.proofs.lexer.Lexer.eat_comma.Goals as goal
 
@@ -9,10 +9,3 @@ invariant_of-self c =
     let before : old.place < length old.source.now = omega (arith, old.within) in
     let comma : get_or old.source.now old.place 0 ≡ 44 = omega arith in
     record { within = omega arith; stop = stop_stays old.source.now old.place _ _ old.within (omega arith) (comma_cut old.source.now old.place before comma) tt ∙ old.stop }
-
-pub returns-clause-ahead : goal.returns-clause-ahead
-returns-clause-ahead c =
-    let old = c.args.self.now in
-    let before : old.place < length old.source.now = omega (arith, old.within) in
-    let comma : get_or old.source.now old.place 0 ≡ 44 = omega arith in
-    ahead_comma old.source.now old.place before comma

@@ -11,11 +11,6 @@ take-requires-clause-front c =
     let len = rw take_rest at c.word_len.ensures.value in
     (word_front bytes c.word_len.result begins len, tt)
 
-pub take-requires-in-Some-clause-front : goal.take-requires-in-Some-clause-front
-take-requires-in-Some-clause-front c =
-    let front = rw c.in-Some.is at c.mark_front.ensures.front in
-    (rw take_rest at front, tt)
-
 pub overflow_add-result : goal.overflow_add-result
 overflow_add-result c =
     let old = c.args.self.now in

@@ -1,17 +1,9 @@
-use Rattle.std.proofs.Common.{rules, ◌+◌, ◌∙◌, slice_range, refl}
+use Rattle.std.proofs.Common.{◌+◌, ◌∙◌, slice_range, refl}
 use Rattle.fz_lex.specs.Lexing.{SpannedToken}
 use Rattle.fz_lex.specs.View.{token_value}
 use Rattle.fz_lex.proofs.AheadLaws.{stop_stays}
-use Rattle.fz_lex.proofs.Next.{found_within, found_moves, found_cut, found_limit}
+use Rattle.fz_lex.proofs.Next.{found_within, found_cut, found_limit}
 use Rattle.fz_lex.proofs.lexer.Lexer.take.Goals as goal
-
-pub overflow_add-end : goal.overflow_add-end
-overflow_add-end c =
-    let old = c.args.self.now in
-    let a = c.args in
-    let r = c.requires in
-    let w = found_within old.source.now old.place a.start r.within r.gap a.kind a.len r.front in
-    search rules
 
 pub invariant_of-self : goal.invariant_of-self
 invariant_of-self c =
@@ -29,18 +21,3 @@ invariant_of-self c =
     let limit = found_limit source old.place start r.within r.gap kind len r.front in
     let same = stop_stays source old.place end t old.within within cut limit in
     record { within = within; stop = same ∙ old.stop }
-
-pub returns-clause-next : goal.returns-clause-next
-returns-clause-next c =
-    let old = c.args.self.now in
-    let source = old.source.now in
-    let start = c.args.start in
-    let kind = c.args.kind in
-    let len = c.args.len in
-    let r = c.requires in (
-      found_cut source old.place start r.within r.gap kind len _ r.front refl refl refl,
-      found_limit source old.place start r.within r.gap kind len r.front,
-      refl,
-      found_moves source old.place start r.within r.gap kind len r.front,
-      refl,
-    )

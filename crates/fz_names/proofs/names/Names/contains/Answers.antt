@@ -1,24 +1,8 @@
 use Rattle.std.proofs.Common.{is_some, ap, ◌∙◌, sym}
 use Rattle.std.specs.Map.{lookup}
 use Rattle.fz_names.specs.Naming.{has_text}
-use Rattle.fz_names.proofs.Noted.{any_found, declared_as, free_absent, seated, unseated}
+use Rattle.fz_names.proofs.Noted.{any_found, declared_as, unseated}
 use Rattle.fz_names.proofs.names.Names.contains.Goals as goal
-
-pub returns-then-is_free : goal.returns-then-is_free
-returns-then-is_free c =
-    let n = c.self.inside in
-    let absent = free_absent c.args.name.now n.listed.items n.others.keys n.numbered.shapes.items n.numbered.places.items n.numbered.seats.items c.self.invariant.2 (sym c.if-is_free.ensures) in
-    record {
-      declared = ap is_some (sym absent) ∙ sym (declared_as n.parameters.items c.args.name.now n.listed.items) ∙ ap (λ m. is_some (lookup (has_text c.args.name.now) m)) c.self.view_is;
-    }
-
-pub returns-then-is_some : goal.returns-then-is_some
-returns-then-is_some c =
-    let n = c.self.inside in
-    let there = seated c.args.name.now n.listed.items n.others.keys n.numbered.shapes.items n.numbered.places.items n.numbered.seats.items c.self.invariant.2 (ap is_some (sym c.get.ensures) ∙ sym c.is_some.ensures ∙ c.if-is_some.true) in
-    record {
-      declared = c.if-is_some.true ∙ sym there ∙ sym (declared_as n.parameters.items c.args.name.now n.listed.items) ∙ ap (λ m. is_some (lookup (has_text c.args.name.now) m)) c.self.view_is;
-    }
 
 pub returns-else-is_some : goal.returns-else-is_some
 returns-else-is_some c =

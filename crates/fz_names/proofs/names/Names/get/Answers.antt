@@ -1,7 +1,7 @@
 use Rattle.std.proofs.Common.{Some, option_map, sym, ap, ◌∙◌, subst}
 use Rattle.std.specs.Map.{lookup}
-use Rattle.fz_names.specs.Naming.{has_text, standing_view, stands_for, IsAmongTerms}
-use Rattle.fz_names.proofs.Noted.{elsewhere, none_stands, there_found, there_stands, there_among}
+use Rattle.fz_names.specs.Naming.{has_text, stands_for, IsAmongTerms}
+use Rattle.fz_names.proofs.Noted.{elsewhere, there_found, there_stands, there_among}
 use Rattle.fz_names.proofs.names.Names.get.Goals as goal
 
 pub standing_of-requires : goal.standing_of-requires
@@ -21,15 +21,6 @@ returns-in-Some c =
     record {
       stands = ap Some c.standing_of.ensures.stands ∙ ap (λ ts. Some (stands_for ts entry)) c.deref.ensures.value
           ∙ sym (there_stands n.parameters.items c.args.name.now n.listed.items entry found) ∙ ap (lookup (has_text c.args.name.now)) c.self.view_is;
-    }
-
-pub returns-in_err-entry : goal.returns-in_err-entry
-returns-in_err-entry c =
-    let n = c.self.inside in
-    let same = elsewhere c.args.name.now n.listed.items n.others.keys n.numbered.shapes.items n.numbered.places.items n.numbered.seats.items c.self.invariant.2 (sym c.in_default.ensures) in
-    record {
-      stands = ap (option_map standing_view) c.from_residual.ensures
-          ∙ sym (none_stands n.parameters.items c.args.name.now n.listed.items (ap (option_map (λ k. k.entry)) (sym same) ∙ sym c.in_err-entry.ensures)) ∙ ap (lookup (has_text c.args.name.now)) c.self.view_is;
     }
 
 pub standing_of-requires-2 : goal.standing_of-requires-2

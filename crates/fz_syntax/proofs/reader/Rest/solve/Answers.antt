@@ -1,5 +1,5 @@
 use Rattle.std.proofs.Common.{◌≡◌, ◌∙◌, sym}
-use Rattle.fz_lex.specs.Left.{source_of}
+use Rattle.fz_tree.specs.of_lex.Left.{source_of}
 use Rattle.fz_syntax.specs.Offering.{from_solve}
 use Rattle.fz_syntax.proofs.Offers.{left_refused, more_refused, solve_left, some_left, none_left}
 use Rattle.fz_syntax.proofs.reader.Rest.solve.Goals as goal

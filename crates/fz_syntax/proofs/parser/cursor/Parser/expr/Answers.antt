@@ -1,4 +1,4 @@
-use Rattle.fz_lex.specs.declared.token.Mark.TheVariants.{OpenBracket}
+use Rattle.fz_tree.specs.of_lex.declared.token.Mark.TheVariants.{OpenBracket}
 use Rattle.fz_syntax.proofs.Walks.{ate, walk_then}
 use Rattle.fz_syntax.proofs.parser.cursor.Parser.expr.Goals as goal
 

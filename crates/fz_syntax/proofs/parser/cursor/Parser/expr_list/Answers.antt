@@ -1,4 +1,4 @@
-use Rattle.fz_lex.specs.declared.token.Mark.TheVariants.{CloseBracket}
+use Rattle.fz_tree.specs.of_lex.declared.token.Mark.TheVariants.{CloseBracket}
 use Rattle.fz_syntax.specs.Placed.{placed_basic}
 use Rattle.fz_syntax.proofs.Walks.{ate, mark_walk, walk_then, walk_from, walk_empty}
 use Rattle.fz_syntax.proofs.parser.cursor.Parser.expr_list.Goals as goal

@@ -1,9 +1,9 @@
 use Rattle.std.proofs.Common.{◌∙◌, arith}
 use Rattle.std.proofs.lemmas.Result.{err_from_is_err_and}
-use Rattle.fz_lex.specs.declared.token.Mark.TheVariants.{Comma}
+use Rattle.fz_tree.specs.of_lex.declared.token.Mark.TheVariants.{Comma}
 use Rattle.fz_syntax.specs.Reading.{indexes_at}
 use Rattle.fz_tree.specs.Text.{the_limits}
-use Rattle.fz_syntax.proofs.ItemLaws.{indexes_shrink, listed_index}
+use Rattle.fz_syntax.proofs.TypeLaws.{indexes_shrink, listed_index}
 use Rattle.fz_syntax.proofs.Running.{separated_init, keeps_on, stops, is_whole_list}
 use Rattle.fz_syntax.proofs.Separated.{separated_fails}
 use Rattle.fz_syntax.proofs.Walks.{passed_then}

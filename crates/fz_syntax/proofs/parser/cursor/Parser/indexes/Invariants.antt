@@ -1,9 +1,9 @@
 use Rattle.std.proofs.Common.{◌≡◌, ◌≤◌, length}
-use Rattle.fz_lex.specs.declared.token.Mark.TheVariants.{Comma}
+use Rattle.fz_tree.specs.of_lex.declared.token.Mark.TheVariants.{Comma}
 use Rattle.fz_syntax.specs.Walk.{Passed, lexemes}
 use Rattle.fz_syntax.specs.Reading.{indexes_at}
 use Rattle.fz_tree.specs.Text.{the_limits}
-use Rattle.fz_syntax.proofs.ItemLaws.{listed_index}
+use Rattle.fz_syntax.proofs.TypeLaws.{listed_index}
 use Rattle.fz_syntax.proofs.Running.{Continues}
 use Rattle.fz_syntax.proofs.parser.cursor.Parser.indexes.Given as goal
 

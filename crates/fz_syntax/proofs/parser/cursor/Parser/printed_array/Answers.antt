@@ -1,4 +1,4 @@
-use Rattle.fz_lex.specs.declared.token.Mark.TheVariants.{OpenParen, CloseParen, OpenBracket}
+use Rattle.fz_tree.specs.of_lex.declared.token.Mark.TheVariants.{OpenParen, CloseParen, OpenBracket}
 use Rattle.fz_syntax.specs.Placed.{placed_between, placed_elements, placed_indexes, placed_word}
 use Rattle.std.proofs.Common.{ℕ, ◌++◌, ◌∙◌, map, sym, ap}
 use Rattle.std.proofs.lemmas.List.{length-map}
@@ -6,6 +6,7 @@ use Rattle.fz_tree.specs.Tokens.{array_word}
 use Rattle.fz_tree.specs.View.{bare_literal}
 use Rattle.fz_tree.specs.Text.{the_limits}
 use Rattle.fz_syntax.proofs.PrintedLaws.{index_sets_take}
+use Rattle.fz_syntax.proofs.ExprLaws.{same}
 use Rattle.fz_syntax.proofs.Walks.{mark_walk, walk_then}
 use Rattle.fz_syntax.proofs.parser.cursor.Parser.printed_array.Goals as goal
 
@@ -15,4 +16,4 @@ returns-clause-walked c =
 
 pub returns-clause-worded : goal.returns-clause-worded
 returns-clause-worded c =
-    ap (λ (n : ℕ). placed_word (array_word n) ++ placed_between OpenParen CloseParen (placed_indexes c.in_ok-indexes.indexes.items ++ placed_elements c.in_ok-elements.elements.items)) (sym (length-map c.in_ok-indexes.indexes.items bare_literal) ∙ (index_sets_take the_limits c.args.dimensions _ (map bare_literal c.in_ok-indexes.indexes.items, _) c.in_ok-indexes.ensures.read).fits.0)
+    ap (λ (n : ℕ). placed_word (array_word n) ++ placed_between OpenParen CloseParen (placed_indexes c.in_ok-indexes.indexes.items ++ placed_elements c.in_ok-elements.elements.items)) (sym (length-map c.in_ok-indexes.indexes.items bare_literal) ∙ (index_sets_take _ _ (same the_limits) c.args.dimensions _ (map bare_literal c.in_ok-indexes.indexes.items, _) c.in_ok-indexes.ensures.read).fits.0)

@@ -11,7 +11,7 @@ use Rattle.fz_syntax.proofs.parser.cursor.Parser.printed_items.Given as goal
 
 abbrev pub invariant-loop-self : goal.invariant-loop-self
 invariant-loop-self l = record {
-  gathers : Gathers is_name (printed_at the_limits) (map bare_printed l.items.items)
+  gathers : Gathers is_name (any_number (printed_at the_limits)) (map bare_printed l.items.items)
       (lexemes l.self) (many_at is_name (any_number (printed_at the_limits)) 0 (lexemes l.fn.self));
   shorter : length (lexemes l.self) ≤ length (lexemes l.fn.self);
   same_end : l.self.end ≡ l.fn.self.end;

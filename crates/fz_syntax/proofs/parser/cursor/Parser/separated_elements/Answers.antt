@@ -1,6 +1,6 @@
 use Rattle.std.proofs.Common.{◌≡◌, ◌<◌, [], ◌∙◌, length, refl, sym, ap, subst, map, arith}
 use Rattle.std.proofs.lemmas.Result.{err_from_is_err_and}
-use Rattle.fz_lex.specs.declared.token.Mark.TheVariants.{Comma}
+use Rattle.fz_tree.specs.of_lex.declared.token.Mark.TheVariants.{Comma}
 use Rattle.fz_syntax.specs.Placed.{placed_literal}
 use Rattle.fz_syntax.proofs.Walks.{walk_zero, walk_more, walk_then, walk_kept, walk_none, walk_end, separated_end, with_comma, ate}
 use Rattle.fz_syntax.specs.Walk.{Walk, lexemes}

@@ -1,6 +1,6 @@
 use Rattle.std.proofs.Common.{◌∙◌, ap, map, refl, arith}
 use Rattle.std.proofs.lemmas.Result.{err_from_is_err_and}
-use Rattle.fz_lex.specs.declared.token.Mark.TheVariants.{Comma}
+use Rattle.fz_tree.specs.of_lex.declared.token.Mark.TheVariants.{Comma}
 use Rattle.fz_syntax.specs.Placed.{placed_basic}
 use Rattle.fz_syntax.proofs.Walks.{separated_first, separated_more, some_pushed, walk_as, walk_end, walk_kept, walk_still, ate}
 use Rattle.fz_tree.specs.View.{bare_expression}

@@ -1,0 +1,243 @@
+-- A known-solution that extends a block agrees with each value that the filling gives.
+use Rattle.std.proofs.Common.{◌≡◌, ℕ, suc, zero, ◌+◌, true, false, cond, List, [], ◌∷◌, Option, Some, None, refl, sym, ap, subst, ◌∙◌, option_map, slice_get, IsTrue, ◌⊎◌, inl, inr, IsSomeAnd, arith, take, drop, ◌==◌, add-zero, zero-add, eqb-true}
+use Rattle.std.specs.List.{AllByRecursion, enumerate_from}
+use Rattle.std.specs.Option.{option_map_or, option_or}
+use Rattle.fz_base.specs.declared.value.Value.{Value}
+use Rattle.fz_search.specs.of_model.declared.Kind.{Kind}
+use Rattle.fz_search.specs.of_model.Relations.{kind_of}
+use Rattle.fz_search.specs.of_model.Builtins.{ArgValue}
+use Rattle.fz_search.specs.of_model.Builtins.ArgValue.{OneValue, ManyValues}
+use Rattle.fz_search.specs.of_model.Meaning.{Place, Argument, Variable, Model, Point, Partial, Assignment, value, values, value_at, give, whole, option_cons, terms_in, argument_value, argument_values, row_of, row_holds, points, inside, find_name, HoldsUnder, IsAssignment, FitVariables, variables_of}
+use Rattle.fz_search.specs.of_model.States.{HoldsIfKnown, IsKnownSolution}
+use Rattle.fz_search.specs.of_model.declared.Term.{Term}
+use Rattle.fz_search.specs.of_model.declared.Term.TheVariants.{Var, Fixed}
+use Rattle.fz_search.specs.of_model.Meaning.Place.{Scalar, Array}
+use Rattle.fz_search.specs.of_model.Meaning.Argument.{One, ListOf}
+use Rattle.fz_search.specs.of_model.Meaning.Point.{DomainPoint, DefinitionPoint, ArrayPoint, ConstraintPoint}
+use Rattle.fz_search.specs.of_model.Steps.{Gives, IsTarget}
+use Rattle.fz_search.proofs.of_model.Lists.{all_append, all_right, all_drop, all_take, all_enumerated, all_both}
+use Rattle.fz_search.proofs.of_model.Points.{points_fit}
+use Rattle.fz_search.proofs.of_model.States.{intro}
+use Rattle.fz_search.proofs.of_model.Steps.{some_of, PointFits, only_value, option_cons_parts, map_some}
+use Rattle.fz_judge.specs.Solutions.{Block, Printed, PrintedValue, ExtendsItems, Extends, HasPrinted, printed_values}
+use Rattle.fz_judge.specs.Filling.{IsFirstStep, Chain, counted_from, IsFilling, HasAllOf, pairs, pairs_at, printed_scalars, first_printed, start_from, start}
+use Rattle.fz_judge.specs.Filling.Chain.{Ends, Step}
+
+-- what holds of each point holds of the one of a first step
+pub at_first_step : (P : Point → Type 0) (m : Model) (K : Partial) (from k n : ℕ) (v : Value)
+    → AllByRecursion P (points m) → (s : IsFirstStep m K from k n v) → P s.point
+at_first_step P m K from k n v h s =
+    let each : AllByRecursion (λ q. P q.1) (enumerate_from 0 (points m)) = all_enumerated P 0 (points m) h in
+    let counted : AllByRecursion (λ q. P q.1) (counted_from from (enumerate_from 0 (points m))) =
+    all_append (λ q. P q.1) (drop from (enumerate_from 0 (points m))) (take from (enumerate_from 0 (points m))) (all_drop (λ q. P q.1) from (enumerate_from 0 (points m)) each) (all_take (λ q. P q.1) from (enumerate_from 0 (points m)) each) in
+    (all_right (λ q. P q.1) s.skipped ((k, s.point) ∷ s.rest) (subst (AllByRecursion (λ q. P q.1)) s.order counted)).0
+
+-- ---- one partial assignment under another
+
+module _ (K L : Partial) (under : HasAllOf K L) where
+  pub value_under : (t : Term) (v : Value) → value K t ≡ Some v → value L t ≡ Some v
+  value_under (Var n) v e = under n v e
+  value_under (Fixed w) v e = e
+
+  pub values_under : (ts : List Term) (vs : List Value) → values K ts ≡ Some vs
+      → values L ts ≡ Some vs
+  values_under [] vs e = e
+  values_under (t ∷ ts) vs e =
+      let (v, ws, is, are, cons) = option_cons_parts (value K t) (values K ts) vs e in
+      (λ i. option_cons (value_under t v is i) (values_under ts ws are i)) ∙ ap Some (sym cons)
+
+  argument_under : (x : Argument) (a : ArgValue) → argument_value K x ≡ Some a
+      → argument_value L x ≡ Some a
+  argument_under (One (Scalar k t)) a e = let (v, is, same) = map_some OneValue (value K t) a e in ap (option_map OneValue) (value_under t v is) ∙ ap Some same
+  argument_under (One (Array name k ts)) a e = let (vs, is, same) = map_some ManyValues (values K ts) a e in ap (option_map ManyValues) (values_under ts vs is) ∙ ap Some same
+  argument_under (ListOf ps) a e = let (vs, is, same) = map_some ManyValues (values K (terms_in (ListOf ps))) a e in ap (option_map ManyValues) (values_under (terms_in (ListOf ps)) vs is) ∙ ap Some same
+
+  pub arguments_under : (xs : List Argument) (as' : List ArgValue) → argument_values K xs ≡ Some as'
+      → argument_values L xs ≡ Some as'
+  arguments_under [] as' e = e
+  arguments_under (x ∷ xs) as' e =
+      let (a, bs, is, are, cons) = option_cons_parts (argument_value K x) (argument_values K xs) as' e in
+      (λ i. option_cons (argument_under x a is i) (arguments_under xs bs are i)) ∙ ap Some (sym cons)
+
+-- what has a value with one value of the variable has one with another
+module _ (K : Partial) (n : ℕ) (v w : Value) where
+  value_at_defined : (K : Partial) (n k : ℕ) (u : Value) → value_at (give K n v) k ≡ Some u
+      → (t : Value) × (value_at (give K n w) k ≡ Some t)
+  value_at_defined [] n k u e = (u, e)
+  value_at_defined (o ∷ K) zero zero u e = (w, refl)
+  value_at_defined (o ∷ K) zero (suc k) u e = (u, e)
+  value_at_defined (o ∷ K) (suc n) zero u e = (u, e)
+  value_at_defined (o ∷ K) (suc n) (suc k) u e = value_at_defined K n k u e
+
+  value_defined : (t : Term) (u : Value) → value (give K n v) t ≡ Some u
+      → (s : Value) × (value (give K n w) t ≡ Some s)
+  value_defined (Var k) u e = value_at_defined K n k u e
+  value_defined (Fixed s) u e = (s, refl)
+
+  values_defined : (ts : List Term) (us : List Value) → values (give K n v) ts ≡ Some us
+      → (ss : List Value) × (values (give K n w) ts ≡ Some ss)
+  values_defined [] us e = ([], refl)
+  values_defined (t ∷ ts) us e =
+      let (u, rest, is, are, cons) = option_cons_parts (value (give K n v) t) (values (give K n v) ts) us e in
+      let (s, s_is) = value_defined t u is in
+      let (ss, ss_are) = values_defined ts rest are in
+      (s ∷ ss, λ i. option_cons (s_is i) (ss_are i))
+
+  argument_defined : (x : Argument) (a : ArgValue) → argument_value (give K n v) x ≡ Some a
+      → (b : ArgValue) × (argument_value (give K n w) x ≡ Some b)
+  argument_defined (One (Scalar k t)) a e = let (u, is, same) = map_some OneValue (value (give K n v) t) a e in let (s, s_is) = value_defined t u is in (OneValue s, ap (option_map OneValue) s_is)
+  argument_defined (One (Array name k ts)) a e = let (us, is, same) = map_some ManyValues (values (give K n v) ts) a e in let (ss, ss_are) = values_defined ts us is in (ManyValues ss, ap (option_map ManyValues) ss_are)
+  argument_defined (ListOf ps) a e =
+      let (us, is, same) = map_some ManyValues (values (give K n v) (terms_in (ListOf ps))) a e in
+      let (ss, ss_are) = values_defined (terms_in (ListOf ps)) us is in
+      (ManyValues ss, ap (option_map ManyValues) ss_are)
+
+  arguments_defined : (xs : List Argument) (as' : List ArgValue)
+      → argument_values (give K n v) xs ≡ Some as'
+      → (bs : List ArgValue) × (argument_values (give K n w) xs ≡ Some bs)
+  arguments_defined [] as' e = ([], refl)
+  arguments_defined (x ∷ xs) as' e =
+      let (a, rest, is, are, cons) = option_cons_parts (argument_value (give K n v) x) (argument_values (give K n v) xs) as' e in
+      let (b, b_is) = argument_defined x a is in
+      let (bs, bs_are) = arguments_defined xs rest are in
+      (b ∷ bs, λ i. option_cons (b_is i) (bs_are i))
+
+given_or_before : (K : Partial) (n k : ℕ) (v u : Value) → value_at (give K n v) k ≡ Some u
+    → ((k ≡ n) × (u ≡ v)) ⊎ (value_at K k ≡ Some u)
+given_or_before [] n k v u e = inr e
+given_or_before (o ∷ K) zero zero v u e = inl (refl, cc)
+given_or_before (o ∷ K) zero (suc k) v u e = inr e
+given_or_before (o ∷ K) (suc n) zero v u e = inr e
+given_or_before (o ∷ K) (suc n) (suc k) v u e = elim (given_or_before K n k v u e) [ inl h ↦ inl (ap suc h.0, h.1) | inr h ↦ inr h ]
+
+under_give : (K L : Partial) (n : ℕ) (v : Value) → HasAllOf K L → value_at L n ≡ Some v
+    → HasAllOf (give K n v) L
+under_give K L n v under at k u e = elim (given_or_before K n k v u e) [ inl h ↦ ap (value_at L) h.0 ∙ at ∙ ap Some (sym h.1) | inr h ↦ under k u h ]
+
+-- ---- a step
+
+pub some_and : {A : Type 0} (P : A → Type 0) (o : Option A) (x : A) → IsSomeAnd o P → o ≡ Some x
+    → P x
+some_and P o x h e = subst (λ p. IsSomeAnd p P) e h
+
+-- an assignment gives each variable a value of its kind
+pub assigned : (xs : List Variable) (A : Assignment) (n : ℕ) (k : Kind) → FitVariables xs (whole A)
+    → option_map (λ x. x.kind) (slice_get xs n) ≡ Some k
+    → (w : Value) × (value_at (whole A) n ≡ Some w) × (kind_of w ≡ k)
+assigned [] A n k h e = cc
+assigned (x ∷ xs) [] n k h e = absurd h
+assigned (x ∷ xs) (a ∷ A) zero k h e = let same : x.kind ≡ k = cc in (a, refl, h.0 ∙ same)
+assigned (x ∷ xs) (a ∷ A) (suc n) k h e = assigned xs A n k h.1 e
+
+-- where the point holds with one value of the variable, it holds with the one that a known-solution
+-- has
+holds_too : (A : Assignment) (K : Partial) (p : Point) (n : ℕ) (v w : Value) → IsTarget K p n
+    → HasAllOf (give K n w) (whole A) → HoldsIfKnown (whole A) p → HoldsUnder (give K n v) p
+    → HoldsUnder (give K n w) p
+holds_too A K (DomainPoint x k) n v w target under h s =
+    let (u, at, in') = some_of (λ z. IsTrue (inside x.domain z)) (value_at (give K n v) k) s in
+    let (t, t_at) = value_defined K n v w (Var k) u at in
+    intro (λ z. IsTrue (inside x.domain z)) (value_at (give K n w) k) t t_at (some_and (λ v. IsTrue (inside x.domain v)) (value_at (whole A) k) t h (under k t t_at))
+holds_too A K (DefinitionPoint x k e) n v w target under h s =
+    let (u, l, rest) = some_of (λ v'. IsSomeAnd (value (give K n v) e) (λ w'. v' ≡ w')) (value_at (give K n v) k) s in
+    let (u', r, _) = some_of (λ w'. u ≡ w') (value (give K n v) e) rest in
+    let (a, a_at) = value_defined K n v w (Var k) u l in
+    let (b, b_at) = value_defined K n v w e u' r in
+    let equal : a ≡ b = some_and (λ w. a ≡ w) (value (whole A) e) b (some_and (λ v. IsSomeAnd (value (whole A) e) (λ w. v ≡ w)) (value_at (whole A) k) a h (under k a a_at)) (value_under (give K n w) (whole A) under e b b_at) in
+    intro (λ v'. IsSomeAnd (value (give K n w) e) (λ w'. v' ≡ w')) (value_at (give K n w) k) a a_at (intro (λ w'. a ≡ w') (value (give K n w) e) b b_at equal)
+holds_too A K (ArrayPoint name d ts) n v w target under h s = absurd target
+holds_too A K (ConstraintPoint k p) n v w target under h s =
+    (elim (row_of p) as (λ o. (o ≡ None) ⊎ IsSomeAnd o (λ r. IsSomeAnd (argument_values (whole A) p.arguments) (λ vs. IsTrue (row_holds r vs)))
+    → IsSomeAnd o (λ r. IsSomeAnd (argument_values (give K n v) p.arguments) (λ vs. IsTrue (row_holds r vs))) → IsSomeAnd o (λ r. IsSomeAnd (argument_values (give K n w) p.arguments) (λ vs. IsTrue (row_holds r vs)))) [
+      | None ↦ λ _ s. absurd s
+      | Some r ↦ λ h s. elim h [
+        | inl e ↦ cc
+        | inr h ↦
+            let (vs, are, _) = some_of (λ vs. IsTrue (row_holds r vs)) (argument_values (give K n v) p.arguments) s in
+            let (ws, w_are) = arguments_defined K n v w p.arguments vs are in
+            intro (λ vs. IsTrue (row_holds r vs)) (argument_values (give K n w) p.arguments) ws w_are
+            (some_and (λ vs. IsTrue (row_holds r vs)) (argument_values (whole A) p.arguments) ws h (arguments_under (give K n w) (whole A) under p.arguments ws w_are))
+      ]
+    ]) h s
+
+-- a known-solution has the value of a forced step
+step_agrees : (m : Model) (A : Assignment) (K : Partial) (p : Point) (n : ℕ) (v : Value)
+    → IsAssignment m A → HoldsIfKnown (whole A) p → PointFits m p → HasAllOf K (whole A)
+    → Gives m K p n v → value_at (whole A) n ≡ Some v
+step_agrees m A K p n v assignment h fits under g =
+    let (w, at, kind) = assigned (variables_of m) A n (kind_of v) assignment g.of_kind in
+    let same : v ≡ w = only_value m K p n v w fits g kind (holds_too A K p n v w g.target (under_give K (whole A) n w under at) h g.then_holds) in
+    at ∙ ap Some (sym same)
+
+-- along the chain a known-solution that agrees with the start agrees with the end
+pub chain_agrees : (m : Model) (A : Assignment) {K : Partial} {from : ℕ} {F : Partial}
+    → IsKnownSolution m A → HasAllOf K (whole A) → Chain m K from F → HasAllOf F (whole A)
+chain_agrees m A solution under (Ends h) = under
+chain_agrees m A solution under (Step {K = K} {from = from} {k = k} {n = n} {v = v} s rest) =
+    let both : HoldsIfKnown (whole A) s.point × PointFits m s.point =
+    at_first_step (λ p. HoldsIfKnown (whole A) p × PointFits m p) m K from k n v (all_both (HoldsIfKnown (whole A)) (PointFits m) (points m) solution.each_holds (points_fit m)) s in
+    chain_agrees m A solution (under_give K (whole A) n v under (step_agrees m A K s.point n v solution.assignment both.0 both.1 under s.gives)) rest
+
+-- ---- the start
+
+abbrev pub Agrees : Partial → (Term × Value) → Type 0
+Agrees K q = value K q.0 ≡ Some q.1
+
+-- the printed scalars of a block have the printed values where the assignment extends the block
+pairs_agree : (K : Partial) (ts : List Term) (vs : List Value) → values K ts ≡ Some vs
+    → AllByRecursion (Agrees K) (pairs ts vs)
+pairs_agree K [] vs e = tt
+pairs_agree K (t ∷ ts) [] e = tt
+pairs_agree K (t ∷ ts) (v ∷ vs) e =
+    let (u, us, is, are, cons) = option_cons_parts (value K t) (values K ts) (v ∷ vs) e in
+    let first : v ≡ u = cc in
+    let rest : vs ≡ us = cc in
+    (is ∙ ap Some (sym first), pairs_agree K ts vs (are ∙ ap Some (sym rest)))
+
+place_agrees : (K : Partial) (p : Place) (printed : PrintedValue) → HasPrinted K p printed
+    → AllByRecursion (Agrees K) (pairs_at p printed)
+place_agrees K (Scalar k t) (PrintedValue.OneValue l) h = (h, tt)
+place_agrees K (Scalar k t) (PrintedValue.ArrayOf is ls) h = absurd h
+place_agrees K (Array name k ts) (PrintedValue.OneValue l) h = absurd h
+place_agrees K (Array name k ts) (PrintedValue.ArrayOf is ls) h = pairs_agree K ts (printed_values ls) h
+
+item_agrees : (A : Assignment) (o : Option Place) (printed : PrintedValue)
+    → IsSomeAnd o (λ p. HasPrinted (whole A) p printed)
+    → AllByRecursion (Agrees (whole A)) (option_map_or (λ p. pairs_at p printed) o [])
+item_agrees A None printed h = absurd h
+item_agrees A (Some p) printed h = place_agrees (whole A) p printed h
+
+pub printed_agree : (m : Model) (A : Assignment) (items : List Printed) → ExtendsItems m A items
+    → AllByRecursion (Agrees (whole A)) (printed_scalars m items)
+printed_agree m A [] h = tt
+printed_agree m A (i ∷ block) h =
+    all_append (Agrees (whole A)) (option_map_or (λ p. pairs_at p i.value) (find_name m i.name.text) []) (printed_scalars m block) (item_agrees A (find_name m i.name.text) i.value h.0) (printed_agree m A block h.1)
+
+-- the value where a variable is printed first is one of those printed
+first_agrees : (K : Partial) (qs : List (Term × Value)) (n : ℕ) (v : Value)
+    → AllByRecursion (Agrees K) qs → first_printed qs n ≡ Some v → value_at K n ≡ Some v
+first_agrees K [] n v h e = cc
+first_agrees K ((Fixed w, u) ∷ qs) n v h e = first_agrees K qs n v h.1 e
+first_agrees K ((Var k, u) ∷ qs) n v h e =
+    (elim (k == n) as (λ b. (k == n) ≡ b → option_or (cond b (Some u) None) (first_printed qs n) ≡ Some v → value_at K n ≡ Some v) [
+      | true ↦ λ same e. let is : u ≡ v = cc in ap (value_at K) (sym (same_number k n same)) ∙ h.0 ∙ ap Some is
+      | false ↦ λ _ e. first_agrees K qs n v h.1 e
+    ]) refl e
+  where
+    same_number : (a b : ℕ) → (a == b) ≡ true → a ≡ b
+    same_number a b e = eqb-true a b e
+
+start_is : (qs : List (Term × Value)) (n : ℕ) (xs : List Variable) (k : ℕ) (v : Value)
+    → value_at (start_from qs n xs) k ≡ Some v → first_printed qs (n + k) ≡ Some v
+start_is qs n [] k v e = cc
+start_is qs n (x ∷ xs) zero v e = ap (first_printed qs) (add-zero n) ∙ e
+start_is qs n (x ∷ xs) (suc k) v e = let count : n + suc k ≡ suc n + k = omega arith in ap (first_printed qs) count ∙ start_is qs (suc n) xs k v e
+
+start_agrees : (m : Model) (A : Assignment) (block : Block) → Extends m A block
+    → HasAllOf (start m block) (whole A)
+start_agrees m A block h n v e = first_agrees (whole A) (printed_scalars m block.items) n v (printed_agree m A block.items h) (ap (first_printed (printed_scalars m block.items)) (sym (zero-add n)) ∙ start_is (printed_scalars m block.items) 0 (variables_of m) n v e)
+
+-- a known-solution that extends a block agrees with its filling
+pub filling_agrees : (m : Model) (A : Assignment) (block : Block) (F : Partial)
+    → IsKnownSolution m A → Extends m A block → IsFilling m block F → HasAllOf F (whole A)
+filling_agrees m A block F solution extends filling = chain_agrees m A solution (start_agrees m A block extends) filling

@@ -1,0 +1,134 @@
+-- The start of a block without fault, and so its filling, gives each variable a value of its kind
+-- or none.
+use Rattle.std.proofs.Common.{◌≡◌, ℕ, suc, zero, ◌+◌, true, false, not, cond, List, [], ◌∷◌, length, Option, Some, None, refl, sym, ap, subst, ◌∙◌, option_map, slice_get, IfSome, arith, ◌==◌, add-zero, eqb-true}
+use Rattle.std.specs.List.{AllByRecursion}
+use Rattle.std.specs.Option.{option_map_or, option_or}
+use Rattle.fz_base.specs.declared.value.Value.{Value}
+use Rattle.fz_search.specs.of_model.declared.Kind.{Kind}
+use Rattle.fz_search.specs.of_model.Relations.{kind_of, same_kind}
+use Rattle.fz_search.specs.of_model.Located.{Name, Literal, LocatedTree}
+use Rattle.fz_search.specs.of_model.Names.{HasNoFault, literal_value, model_of}
+use Rattle.fz_search.specs.of_model.Meaning.{Place, Variable, Model, Partial, give, variables_of, find_name, first_some, FitVariables, IsPartial}
+use Rattle.fz_search.specs.of_model.declared.Term.{Term}
+use Rattle.fz_search.specs.of_model.declared.Term.TheVariants.{Var, Fixed}
+use Rattle.fz_search.specs.of_model.Meaning.Place.{Scalar, Array}
+use Rattle.fz_search.specs.of_model.Steps.{kind_at}
+use Rattle.fz_search.proofs.of_model.NamedKinds.{TermFits, PlaceFits, named_fits}
+use Rattle.fz_search.proofs.of_model.Lists.{all_append}
+use Rattle.fz_search.proofs.of_model.Partials.{give_fits}
+use Rattle.fz_search.proofs.of_model.Scope.{same_kind_is}
+use Rattle.fz_judge.specs.Solutions.{Printed, PrintedValue, Block, printed_values}
+use Rattle.fz_judge.specs.BlockFaults.{BlockFault, fault_if, literal_fault, value_fault, printed_fault, items_fault, block_fault, moved}
+use Rattle.fz_judge.specs.Solutions.PrintedValue.{OneValue, ArrayOf}
+use Rattle.fz_judge.specs.BlockFaults.BlockFaultKind.{UnknownName, WrongKind, WrongLength}
+use Rattle.fz_judge.specs.Filling.{Chain, pairs, pairs_at, printed_scalars, first_printed, start_from, start}
+use Rattle.fz_judge.specs.Filling.Chain.{Ends, Step}
+use Rattle.fz_judge.specs.Verdict.{IsFilled, IsProposed}
+use Rattle.fz_judge.proofs.Accepted.{or_none, first_none}
+use Rattle.fz_judge.proofs.Violated.{chain_grows}
+
+-- ---- what is printed has the kind
+
+-- a variable has the kind of the value that is printed for it
+abbrev pub PairFits : Model → (Term × Value) → Type 0
+PairFits m q = TermFits m (kind_of q.1) q.0
+
+literal_kind : (k : Kind) (l : Literal) → literal_fault k l ≡ None
+    → kind_of (literal_value l.what) ≡ k
+literal_kind k l e = same_kind_is (kind_of (literal_value l.what)) k ((elim (same_kind (kind_of (literal_value l.what)) k) as (λ b. fault_if (not b) WrongKind l.span ≡ None → b ≡ true) [ true ↦ λ _. refl | false ↦ λ e. cc ]) e)
+
+pairs_fit : (m : Model) (k : Kind) (ts : List Term) (ls : List Literal)
+    → AllByRecursion (TermFits m k) ts → AllByRecursion (λ l. literal_fault k l ≡ None) ls
+    → AllByRecursion (PairFits m) (pairs ts (printed_values ls))
+pairs_fit m k [] ls h e = tt
+pairs_fit m k (t ∷ ts) [] h e = tt
+pairs_fit m k (t ∷ ts) (l ∷ ls) h e = (subst (λ j. TermFits m j t) (sym (literal_kind k l e.0)) h.0, pairs_fit m k ts ls h.1 e.1)
+
+pub place_pairs_fit : (m : Model) (x : Name) (p : Place) (v : PrintedValue) → PlaceFits m p
+    → value_fault x p v ≡ None → AllByRecursion (PairFits m) (pairs_at p v)
+place_pairs_fit m x (Scalar k t) (OneValue l) h e = (subst (λ j. TermFits m j t) (sym (literal_kind k l e)) h, tt)
+place_pairs_fit m x (Scalar k t) (ArrayOf is ls) h e = cc
+place_pairs_fit m x (Array y k ts) (OneValue l) h e = cc
+place_pairs_fit m x (Array y k ts) (ArrayOf is ls) h e =
+    pairs_fit m k ts ls h (first_none (literal_fault k) ls (or_none (fault_if (not (length ls == length ts)) WrongLength x.span) (first_some (literal_fault k) ls) e).1)
+
+module _ (t : LocatedTree) (sound : HasNoFault t) where
+  item_fits : (i : Printed) → printed_fault (model_of t) i ≡ None
+      → AllByRecursion (PairFits (model_of t))
+      (option_map_or (λ p. pairs_at p i.value) (find_name (model_of t) i.name.text) [])
+  item_fits i e =
+      (elim (find_name (model_of t) i.name.text) as (λ o. find_name (model_of t) i.name.text ≡ o → (elim o [ None ↦ Some (record { kind = UnknownName; at = i.name.span }) | Some p ↦ value_fault i.name p i.value ]) ≡ None
+      → AllByRecursion (PairFits (model_of t)) (option_map_or (λ p. pairs_at p i.value) o [])) [
+        | None ↦ λ _ e. tt
+        | Some p ↦ λ found e. place_pairs_fit (model_of t) i.name p i.value (named_fits t sound i.name.text p found) e
+      ]) refl e
+
+  items_fit : (items : List Printed) → AllByRecursion (λ i. printed_fault (model_of t) i
+      ≡ None) items → AllByRecursion (PairFits (model_of t)) (printed_scalars (model_of t) items)
+  items_fit [] h = tt
+  items_fit (i ∷ items) h = all_append (PairFits (model_of t)) (option_map_or (λ p. pairs_at p i.value) (find_name (model_of t) i.name.text) []) (printed_scalars (model_of t) items) (item_fits i h.0) (items_fit items h.1)
+
+-- ---- the start
+
+first_fits : (m : Model) (qs : List (Term × Value)) (n : ℕ) (v : Value)
+    → AllByRecursion (PairFits m) qs → first_printed qs n ≡ Some v → kind_at m n ≡ Some (kind_of v)
+first_fits m [] n v h e = cc
+first_fits m ((Fixed w, u) ∷ qs) n v h e = first_fits m qs n v h.1 e
+first_fits m ((Var k, u) ∷ qs) n v h e =
+    (elim (k == n) as (λ b. (k == n) ≡ b → option_or (cond b (Some u) None) (first_printed qs n) ≡ Some v → kind_at m n ≡ Some (kind_of v)) [
+      | true ↦ λ same e. let is : u ≡ v = cc in ap (kind_at m) (sym (eqb-true k n same)) ∙ h.0 ∙ ap (λ z. Some (kind_of z)) is
+      | false ↦ λ _ e. first_fits m qs n v h.1 e
+    ]) refl e
+
+abbrev KindsAre : List (Term × Value) → ℕ → List Variable → Type 0
+KindsAre qs n xs = (k : ℕ) (x : Variable) (v : Value) → slice_get xs k ≡ Some x → first_printed qs (n + k) ≡ Some v → kind_of v ≡ x.kind
+
+start_fits : (qs : List (Term × Value)) (n : ℕ) (xs : List Variable) → KindsAre qs n xs
+    → FitVariables xs (start_from qs n xs)
+start_fits qs n [] h = tt
+start_fits qs n (x ∷ xs) h = (
+  fits_here (first_printed qs n) refl,
+  start_fits qs (suc n) xs (λ k y v at e. let count : suc n + k ≡ n + suc k = omega arith in h (suc k) y v at (ap (first_printed qs) (sym count) ∙ e)),
+)
+  where
+    fits_here : (o : Option Value) → first_printed qs n ≡ o → IfSome o (λ v. kind_of v ≡ x.kind)
+    fits_here None e = tt
+    fits_here (Some v) e = h zero x v refl (ap (first_printed qs) (add-zero n) ∙ e)
+
+pub map_none : {A B : Type 0} (f : A → B) (o : Option A) → option_map f o ≡ None → o ≡ None
+map_none f None e = refl
+map_none f (Some x) e = cc
+
+no_items_fault : (m : Model) (block : Block) → block_fault m block ≡ None
+    → items_fault m block.items ≡ None
+no_items_fault m block e = map_none (λ (f : BlockFault). record { kind = f.kind; at = moved block.offset f.at }) (items_fault m block.items) e
+
+kind_is : (xs : List Variable) (k : ℕ) (x : Variable) (j : Kind) → slice_get xs k ≡ Some x
+    → option_map (λ y. y.kind) (slice_get xs k) ≡ Some j → j ≡ x.kind
+kind_is xs k x j at e = let same : Some x.kind ≡ Some j = sym (ap (option_map (λ y. y.kind)) at) ∙ e in cc
+
+-- The start of a block without fault is a partial assignment.
+pub start_is_partial : (t : LocatedTree) → HasNoFault t → (block : Block)
+    → block_fault (model_of t) block ≡ None → IsPartial (model_of t) (start (model_of t) block)
+start_is_partial t sound block e =
+    let fit : AllByRecursion (PairFits (model_of t)) (printed_scalars (model_of t) block.items) = items_fit t sound block.items (first_none (printed_fault (model_of t)) block.items (no_items_fault (model_of t) block e)) in
+    start_fits (printed_scalars (model_of t) block.items) 0 (variables_of (model_of t))
+    (λ k x v at printed.
+    let number : 0 + k ≡ k = omega arith in
+    kind_is (variables_of (model_of t)) k x (kind_of v) at (first_fits (model_of t) (printed_scalars (model_of t) block.items) k v fit (ap (first_printed (printed_scalars (model_of t) block.items)) (sym number) ∙ printed)))
+
+-- ---- the chain
+
+pub chain_is_partial : (m : Model) {K : Partial} {from : ℕ} {F : Partial} → IsPartial m K
+    → Chain m K from F → IsPartial m F
+chain_is_partial m h (Ends k) = h
+chain_is_partial m h (Step {K = K} {n = n} {v = v} s rest) = chain_is_partial m (give_fits (variables_of m) K n v h s.gives.of_kind) rest
+
+-- The filling of a block without fault is a partial assignment that has every value of the start.
+pub filling_proposed : (t : LocatedTree) (block : Block) (F : Partial) → HasNoFault t
+    → IsFilled (model_of t) block F → IsProposed (model_of t) block F
+filling_proposed t block F sound filled = record {
+  no_fault = filled.no_fault;
+  partial = chain_is_partial (model_of t) (start_is_partial t sound block filled.no_fault) filled.filling;
+  has_start = chain_grows (model_of t) filled.filling;
+}

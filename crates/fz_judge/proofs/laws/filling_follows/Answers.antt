@@ -1,0 +1,5 @@
+use Rattle.fz_judge.proofs.Chains.{filling_agrees}
+use Rattle.fz_judge.proofs.laws.filling_follows.Goals as goal
+
+pub returns : goal.returns
+returns c = λ m block F A filled solution extends. filling_agrees m A block F solution extends filled

@@ -1,0 +1,70 @@
+-- What the rows of the table have in common: which rows add sums up, and which one fills an element.
+use Rattle.std.proofs.Common.{◌≡◌, Bool, true, false, cond, ◌&&◌, List, [], ◌∷◌, find, Some, refl, sym, subst}
+use Rattle.std.specs.List.{list_all}
+use Rattle.fz_builtins.specs.of_meaning.declared.kind.Kind.TheVariants.{Int as IntKind}
+use Rattle.fz_builtins.specs.of_meaning.Builtins.{Row, builtins, is_named, row_at, rows}
+use Rattle.fz_builtins.specs.of_meaning.Results.{result_of}
+use Rattle.fz_builtins.specs.of_meaning.Builtins.Shape.{ScalarOf, ArrayOf}
+use Rattle.fz_builtins.specs.of_meaning.Results.Result.{UnitTerm}
+use Rattle.fz_builtins.specs.of_meaning.Meaning.{Argument, Partial, fits, have_shapes}
+use Rattle.fz_builtins.specs.of_meaning.States.{sums_leave}
+use Rattle.fz_builtins.proofs.of_meaning.Values.{and_first, and_second}
+use Rattle.fz_builtins.specs.of_meaning.declared.builtin.Builtin.{Builtin}
+use Rattle.fz_builtins.specs.of_meaning.declared.builtin.Builtin.TheVariants.{IntLinEq}
+use Rattle.fz_builtins.specs.of_meaning.declared.known.Known.{Known}
+use Rattle.fz_builtins.specs.of_meaning.Known.{form_at, known_row}
+use Rattle.fz_builtins.specs.of_meaning.declared.known.Form.{Form}
+use Rattle.fz_builtins.specs.of_meaning.declared.known.Form.TheVariants.{Base, Reified, Implied}
+use Rattle.fz_builtins.proofs.of_kernel.Sums.{are_ints, sums_leave_are}
+use Rattle.fz_model.specs.Left.{is_too_large}
+use Rattle.fz_model.specs.Forced.{IsRow}
+
+-- what is asked of each row holds of the one that is found
+found_all : {A : Type 0} (q t : A → Bool) (xs : List A) (x : A) → list_all q xs ≡ true
+    → find t xs ≡ Some x → q x ≡ true
+found_all q t [] x h e = cc
+found_all q t (y ∷ ys) x h e =
+    elim (t y) as (λ b. cond b (Some y) (find t ys) ≡ Some x → q x ≡ true) [
+      | true ↦ λ e. let same : y ≡ x = cc in subst (λ z. q z ≡ true) same (and_first (q y) _ h)
+      | false ↦ λ e. found_all q t ys x (and_second (q y) _ h) e
+    ] e
+
+of_row : (q : Row → Bool) → list_all q rows ≡ true → (r : Row) → IsRow r → q r ≡ true
+of_row q h r (p, e) = found_all q (λ r. is_named p.name r && fits r p.arguments) rows r h e
+
+-- ---- a row adds products of arrays of numbers
+
+all_sum_ints : list_all (λ r. list_all (are_ints r.shapes) r.sums) rows ≡ true
+unfolding rows row_at builtins
+all_sum_ints = refl
+
+-- what leaves 128 bits, as it is read and as it is defined
+pub same_sums : (K : Partial) (xs : List Argument) (r : Row) → IsRow r
+    → have_shapes r.shapes xs ≡ true → is_too_large r K xs ≡ sums_leave K xs r
+same_sums K xs r row h = sym (sums_leave_are K r.shapes xs r.sums (of_row (λ r. list_all (are_ints r.shapes) r.sums) all_sum_ints r row) h)
+
+-- ---- the row that fills an element
+
+unit_base : (b : Builtin) → result_of (row_at b) ≡ UnitTerm → row_at b ≡ row_at IntLinEq
+unfolding row_at result_of
+unit_base IntLinEq e = refl
+unit_base _ e = cc
+
+unit_form : (b : Builtin) (f : Form) → result_of (form_at f (row_at b)) ≡ UnitTerm
+    → form_at f (row_at b) ≡ row_at IntLinEq
+unfolding result_of
+unit_form b Base e = unit_base b e
+unit_form b Reified e = cc
+unit_form b Implied e = cc
+
+pub unit_row : (k : Known) → result_of (known_row k) ≡ UnitTerm → known_row k ≡ row_at IntLinEq
+unit_row k e = unit_form k.builtin k.form e
+
+pub unit_shapes : (row_at IntLinEq).shapes
+    ≡ ArrayOf IntKind ∷ ArrayOf IntKind ∷ ScalarOf IntKind ∷ []
+unfolding row_at
+unit_shapes = refl
+
+pub unit_sums : (row_at IntLinEq).sums ≡ (0, 1) ∷ []
+unfolding row_at
+unit_sums = refl

@@ -1,0 +1,102 @@
+//! Constraints.
+
+ghost use Rattle.std.specs.Prelude.{◌≡◌, IfOk, Some, true, length, map, option_map};
+ghost use Rattle.std.specs.List.{list_any};
+ghost use Rattle.fz_builtins.specs.of_meaning.Meaning.{have_shapes, row_of};
+ghost use Rattle.fz_builtins.specs.of_meaning.States.{state_of_row};
+ghost use Rattle.fz_builtins.specs.of_meaning.Builtins.{row_at};
+ghost use Rattle.fz_builtins.specs.of_meaning.Known.{HasTruth, known_row};
+ghost use Rattle.fz_builtins.specs.of_data.Parts.{constraint_view};
+ghost use Rattle.fz_builtins.specs.of_kernel.Given.{are_read, read_leave};
+ghost use Rattle.fz_builtins.specs.of_kernel.Views.{arguments_of, assigned};
+ghost use Rattle.fz_builtins.specs.Outcomes.{row_outcome};
+ghost use Rattle.fz_builtins.specs.Readings.{truth};
+
+use fz_builtins::fz_data::{ConstraintParts, Partial};
+use fz_builtins::fz_kernel::{ArgumentView, Readiness};
+use fz_builtins::fz_meaning::{Form, Known, State};
+use fz_builtins::{Outcome, of_builtin, products_leave};
+use std::alloc::{AllocError, Global};
+
+/// The state of a constraint: unknown without a row, whatever its values are; then without a value;
+/// then too large; then by its row.
+#[inline(always)]
+pub(crate) fn of_constraint(
+    alloc: Global,
+    parts: ConstraintParts<'_, '_>,
+    partial: &Partial,
+) -> Result<State, AllocError>
+    requires known { option_map known_row parts.posted.now.known ≡ row_of (constraint_view parts) }
+    ensures { IfOk result (λ s. s ≡ state_of_row partial.now (constraint_view parts.entry).arguments
+        (row_of (constraint_view parts.entry))) }
+{
+    let Some(known) = parts.posted.known else {
+        return Ok(State::Unknown);
+    };
+    of_view(alloc, known, &ArgumentView::new(parts, partial))
+}
+
+#[inline]
+fn of_view(alloc: Global, known: Known, view: &ArgumentView<'_, '_>) -> Result<State, AllocError>
+    requires fits { have_shapes (known_row known).shapes (arguments_of view.now) ≡ true }
+    ensures { IfOk result (λ s. s ≡ state_of_row (assigned view.now) (arguments_of view.now)
+        (Some (known_row known))) }
+{
+    match view.readiness(known.shapes()) {
+        Readiness::Missing => Ok(State::NoValue),
+        Readiness::WrongKind => Ok(if is_too_large(known, view) {
+            State::TooLarge
+        } else {
+            State::Fails
+        }),
+        Readiness::Ready => of_ready(alloc, known, view),
+    }
+}
+
+/// The state of a constraint whose scalars have values of the kinds that its row asks for.
+#[inline(always)]
+pub(crate) fn of_ready(
+    alloc: Global,
+    known: Known,
+    view: &ArgumentView<'_, '_>,
+) -> Result<State, AllocError>
+    requires fits { have_shapes (known_row known).shapes (arguments_of view.now) ≡ true }
+    requires ready { are_read (assigned view.now) (known_row known).shapes (arguments_of view.now)
+        ≡ true }
+    ensures { IfOk result (λ s. s ≡ state_of_row (assigned view.now) (arguments_of view.now)
+        (Some (known_row known))) }
+{
+    Ok(of_known(alloc, known, view)?.told())
+}
+
+fn is_too_large(known: Known, view: &ArgumentView<'_, '_>) -> bool
+    ensures { result ≡ list_any (read_leave (assigned view.now) (arguments_of view.now))
+        (known_row known).sums }
+{
+    known
+        .sums()
+        .iter()
+        .any(|places| products_leave(view, places.0, places.1))
+}
+
+// The row's outcome: of a reified form, what it says of the outcome of the base row.
+#[inline(always)]
+fn of_known(alloc: Global, known: Known, view: &ArgumentView<'_, '_>) -> Result<Outcome, AllocError>
+    ensures { IfOk result (λ o. o ≡ row_outcome (known_row known) (assigned view.now)
+        (arguments_of view.now)) }
+{
+    let outcome = of_builtin(alloc, known.builtin, view)?;
+    match known.form {
+        Form::Base => Ok(outcome),
+        Form::Reified => Ok(outcome.compared(last_truth(known, view))),
+        Form::Implied => Ok(outcome.implied_by(last_truth(known, view))),
+    }
+}
+
+// The control variable: the Boolean after the arguments of the base row.
+fn last_truth(known: Known, view: &ArgumentView<'_, '_>) -> bool
+    requires { HasTruth known.form }
+    ensures { result ≡ truth view.now (length (row_at known.builtin).shapes) }
+{
+    view.truth(known.shapes().len() - 1)
+}

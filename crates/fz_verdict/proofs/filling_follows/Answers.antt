@@ -1,5 +1,0 @@
-use Rattle.fz_verdict.proofs.Chain.{filling_agrees}
-use Rattle.fz_verdict.proofs.filling_follows.Goals as goal
-
-pub returns : goal.returns
-returns c = λ m block F A filled solution extends. filling_agrees m A block F solution extends filled
