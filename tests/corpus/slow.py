@@ -315,6 +315,11 @@ def total(a, b):
     return s
 
 
+def where(a, b):
+    """The sum of the numbers whose Booleans are true."""
+    return sum(x for x, y in zip(a, b) if y)
+
+
 def element(a, b):
     return b[a - 1] if 1 <= a <= len(b) else None
 
@@ -324,30 +329,44 @@ TESTS = {
     "int_ne": ("I I", lambda a, b: a != b),
     "int_le": ("I I", lambda a, b: a <= b),
     "int_lt": ("I I", lambda a, b: a < b),
+    "int_ge": ("I I", lambda a, b: a >= b),
+    "int_gt": ("I I", lambda a, b: a > b),
     "int_lin_eq": ("[I] [I] I", lambda a, b, c: total(a, b) == c),
     "int_lin_ne": ("[I] [I] I", lambda a, b, c: total(a, b) != c),
     "int_lin_le": ("[I] [I] I", lambda a, b, c: total(a, b) <= c),
     "bool_eq": ("B B", lambda a, b: a == b),
     "bool_le": ("B B", lambda a, b: a <= b),
     "bool_lt": ("B B", lambda a, b: a < b),
+    "bool_ge": ("B B", lambda a, b: a >= b),
+    "bool_gt": ("B B", lambda a, b: a > b),
     "bool_clause": ("[B] [B]", lambda a, b: any(a) or not all(b)),
     "set_in": ("I S", lambda a, b: a in b),
     "set_eq": ("S S", lambda a, b: a == b),
     "set_ne": ("S S", lambda a, b: a != b),
     "set_subset": ("S S", lambda a, b: a <= b),
     "set_superset": ("S S", lambda a, b: a >= b),
-}
-OTHER_TESTS = {
     "array_bool_xor": ("[B]", lambda a: sum(a) % 2 == 1),
-    "bool_lin_le": ("[I] [B] I", lambda a, b, c: sum(x for x, y in zip(a, b) if y) <= c),
+    "bool_lin_ne": ("[I] [B] I", lambda a, b, c: where(a, b) != c),
+    "bool_lin_le": ("[I] [B] I", lambda a, b, c: where(a, b) <= c),
+    "bool_lin_lt": ("[I] [B] I", lambda a, b, c: where(a, b) < c),
+    "bool_lin_ge": ("[I] [B] I", lambda a, b, c: where(a, b) >= c),
+    "bool_lin_gt": ("[I] [B] I", lambda a, b, c: where(a, b) > c),
+} | {name: row[:2] for name, row in constraints.TESTS.items()}
+OTHER_TESTS = {
+    "bool_and_imp": ("B B B", lambda a, b, c: not c or (a and b)),
+    "bool_or_imp": ("B B B", lambda a, b, c: not c or a or b),
+    "bool_xor_imp": ("B B B", lambda a, b, c: not c or a != b),
+    "array_bool_and_imp": ("[B] B", lambda a, b: not b or all(a)),
+    "array_bool_or_imp": ("[B] B", lambda a, b: not b or any(a)),
 }
-OTHER_TESTS |= {name: row[:2] for name, row in constraints.TESTS.items()}
 RESULTS = {
     "int_plus": ("I I I", 2, lambda a, b: a + b),
+    "int_minus": ("I I I", 2, lambda a, b: a - b),
     "int_times": ("I I I", 2, lambda a, b: a * b),
     "int_min": ("I I I", 2, min),
     "int_max": ("I I I", 2, max),
     "int_abs": ("I I", 1, abs),
+    "int_negate": ("I I", 1, lambda a: -a),
     "int_div": ("I I I", 2, lambda a, b: quotient(a, b) if b else None),
     "int_mod": ("I I I", 2, lambda a, b: a - b * quotient(a, b) if b else None),
     "array_int_element": ("I [I] I", 2, element),
@@ -361,7 +380,7 @@ RESULTS = {
     "array_bool_or": ("[B] B", 1, any),
     "array_bool_element": ("I [B] B", 2, element),
     "array_var_bool_element": ("I [B] B", 2, element),
-    "bool_lin_eq": ("[I] [B] I", 2, lambda a, b: sum(x for x, y in zip(a, b) if y)),
+    "bool_lin_eq": ("[I] [B] I", 2, where),
     "set_union": ("S S S", 2, lambda a, b: a | b),
     "set_intersect": ("S S S", 2, lambda a, b: a & b),
     "set_diff": ("S S S", 2, lambda a, b: a - b),
@@ -376,8 +395,11 @@ EITHER = {
     "bool_eq": ("B B", lambda b: b, lambda a: a),
     "set_eq": ("S S", lambda b: b, lambda a: a),
     "bool_not": ("B B", lambda b: not b, lambda a: not a),
+    "bool_ne": ("B B", lambda b: not b, lambda a: not a),
     "bool2int": ("B I", lambda b: {0: False, 1: True}.get(b), int),
 }
+# What has forms with `_reif` and `_imp`.
+FORMS = {*TESTS, *constraints.RESULTS, "bool_lin_eq", "bool_not", "bool_ne"}
 
 
 def same(a, b):
@@ -390,14 +412,14 @@ class Row:
     place."""
 
     def __init__(self, name):
-        base = name.removesuffix("_reif").removesuffix("_imp")
         self.known = True
-        lin = "01" if base.startswith(("int_lin", "bool_lin")) else ""
+        lin = "01" if name.startswith(("int_lin", "bool_lin")) else ""
         together = constraints.TESTS[name][2] if name in constraints.TESTS else lin
         self.together = [int(place) for place in together]
         self.has_whole_rows = constraints.WHOLE_ROWS.get(name)
         self.element_is_result = name == "int_lin_eq"
         self.either = EITHER.get(name)
+        base, _, form = name.rpartition("_")
         if self.either:
             self.kinds, self.results = self.either[0].split(), {0, 1}
         elif name in RESULTS:
@@ -405,17 +427,22 @@ class Row:
             self.kinds, self.results = kinds.split(), {place}
         elif name in TESTS or name in OTHER_TESTS:
             kinds, self.test = (TESTS | OTHER_TESTS)[name]
-            self.kinds, self.results, self.value = kinds.split(), set(), None
-        elif name == base + "_imp" and base in TESTS:
-            kinds, test = TESTS[base]
-            self.kinds, self.results, self.value = kinds.split() + ["B"], set(), None
-            self.test = lambda *args: test(*args[:-1]) or not args[-1]
-        elif name == base + "_reif" and base in TESTS:
-            kinds, self.value = TESTS[base]
-            self.kinds = kinds.split() + ["B"]
-            self.results = {len(self.kinds) - 1}
+            self.kinds, self.results = kinds.split(), set()
+        elif base in FORMS and form in ("reif", "imp"):
+            self.be_form(Row(base), form)
         else:
             self.known = False
+
+    def be_form(self, row, form):
+        self.kinds, self.together = row.kinds + ["B"], row.together
+        if row.has_whole_rows:
+            self.has_whole_rows = lambda *terms: row.has_whole_rows(*terms[:-1])
+        if form == "imp":
+            self.results = set()
+            self.test = lambda *args: row.holds(args[:-1]) or not args[-1]
+        else:
+            self.results = {len(row.kinds)}
+            self.value = lambda *args: row.holds(args)
 
     def value_at(self, place, args):
         """The one value of a result place, or none."""

@@ -132,7 +132,7 @@ class Small:
         rand = self.rand
         name = rand.choice(sorted(ROWS))
         kinds = ROWS[name]
-        if name in slow.TESTS and rand.random() < 0.4:
+        if name in slow.FORMS and rand.random() < 0.4:
             name, kinds = name + rand.choice(["_reif", "_imp"]), kinds + ["B"]
         args = [self.argument(kind) for kind in kinds]
         if rand.random() < 0.9 and not self.holds(name, [value for _, value in args]):

@@ -97,18 +97,10 @@ pub(crate) fn bool_clause(view: &ArgumentView<'_, '_>) -> bool
 }
 
 /// The sum of the numbers whose Booleans are true.
-pub(crate) fn bool_lin_eq(view: &ArgumentView<'_, '_>) -> i128
+pub(crate) fn bool_sum(view: &ArgumentView<'_, '_>) -> i128
     ensures { result ≡ total (where_true (ints view.now 0) (truths view.now 1)) }
 {
     sum_where_true(&view.elements(0), &view.elements(1))
-}
-
-/// Whether the sum of the numbers whose Booleans are true is at most the third argument.
-pub(crate) fn bool_lin_le(view: &ArgumentView<'_, '_>) -> bool
-    ensures { result ≡ int_le (total (where_true (ints view.now 0) (truths view.now 1)))
-        (int view.now 2) }
-{
-    bool_lin_eq(view) <= i128::from(view.int(2))
 }
 
 /// The element at the index.

@@ -6,12 +6,13 @@ ghost use Rattle.fz_globals.specs.of_kernel.Views.{arguments_of, assigned};
 ghost use Rattle.fz_builtins.specs.Outcomes.{row_outcome};
 ghost use Rattle.fz_builtins.specs.Said.{IsSaid};
 
-use crate::arrays::wide;
+use crate::arrays::{bool_sum, wide};
 use crate::counting::count;
 use crate::outcome::Outcome;
 use crate::outcome::Outcome::Truth;
 use crate::said::Said::{Boolean, Given, Number, Set, Whether};
 use crate::said::{Said, outcome_of};
+use crate::scalars::{implies, is_below};
 use crate::{arrays, counting, covers, flags, ordering, places, scalars, scheduling, sums};
 use fz_base::SetError;
 use fz_globals::fz_kernel::ArgumentView;
@@ -77,14 +78,18 @@ pub fn said_of<'s>(
         Builtin::IntNe => Ok(Whether(Truth(view.int(0) != view.int(1)))),
         Builtin::IntLe => Ok(Whether(Truth(view.int(0) <= view.int(1)))),
         Builtin::IntLt => Ok(Whether(Truth(view.int(0) < view.int(1)))),
+        Builtin::IntGe => Ok(Whether(Truth(view.int(0) >= view.int(1)))),
+        Builtin::IntGt => Ok(Whether(Truth(view.int(0) > view.int(1)))),
         Builtin::IntLinEq => Ok(Whether(sums::int_lin_eq(view))),
         Builtin::IntLinNe => Ok(Whether(sums::int_lin_ne(view))),
         Builtin::IntLinLe => Ok(Whether(sums::int_lin_le(view))),
         Builtin::IntPlus => Ok(Number(2, Some(sum(view.int(0), view.int(1))))),
+        Builtin::IntMinus => Ok(Number(2, Some(scalars::int_minus(view)))),
         Builtin::IntTimes => Ok(Number(2, Some(product(view.int(0), view.int(1))))),
         Builtin::IntMin => Ok(Number(2, Some(scalars::int_min(view)))),
         Builtin::IntMax => Ok(Number(2, Some(scalars::int_max(view)))),
         Builtin::IntAbs => Ok(Number(1, Some(absolute(view.int(0))))),
+        Builtin::IntNegate => Ok(Number(1, Some(scalars::int_negate(view)))),
         Builtin::IntDiv => Ok(Number(2, quotient(view.int(0), view.int(1)))),
         Builtin::IntMod => Ok(Number(2, remainder(view.int(0), view.int(1)))),
         Builtin::ArrayIntElement => Ok(Number(2, wide(arrays::int_element(view)))),
@@ -92,20 +97,40 @@ pub fn said_of<'s>(
         Builtin::ArrayIntMinimum => Ok(Number(0, wide(arrays::int_minimum(view)))),
         Builtin::FznAllDifferentInt => Ok(Whether(Truth(arrays::int_all_different(alloc, view)?))),
         Builtin::BoolEq => Ok(scalars::bool_eq(view, first)),
-        Builtin::BoolLe => Ok(Whether(Truth(scalars::bool_le(view)))),
-        Builtin::BoolLt => Ok(Whether(Truth(scalars::bool_lt(view)))),
+        Builtin::BoolLe => Ok(Whether(Truth(implies(view.truth(0), view.truth(1))))),
+        Builtin::BoolLt => Ok(Whether(Truth(is_below(view.truth(0), view.truth(1))))),
+        Builtin::BoolGe => Ok(Whether(Truth(implies(view.truth(1), view.truth(0))))),
+        Builtin::BoolGt => Ok(Whether(Truth(is_below(view.truth(1), view.truth(0))))),
         Builtin::BoolNot => Ok(scalars::bool_not(view, first)),
         Builtin::BoolAnd => Ok(Boolean(2, Some(scalars::bool_and(view)))),
         Builtin::BoolOr => Ok(Boolean(2, Some(scalars::bool_or(view)))),
         Builtin::BoolXor => Ok(Boolean(2, Some(view.truth(0) != view.truth(1)))),
+        Builtin::BoolAndImp => Ok(Whether(Truth(implies(view.truth(2), scalars::bool_and(view))))),
+        Builtin::BoolOrImp => Ok(Whether(Truth(implies(view.truth(2), scalars::bool_or(view))))),
+        Builtin::BoolXorImp => Ok(Whether(Truth(implies(
+            view.truth(2),
+            view.truth(0) != view.truth(1),
+        )))),
         Builtin::ArrayBoolAnd => Ok(Boolean(1, Some(arrays::bool_all(view)))),
         Builtin::ArrayBoolOr => Ok(Boolean(1, Some(arrays::bool_any(view)))),
+        Builtin::ArrayBoolAndImp => Ok(Whether(Truth(implies(
+            view.truth(1),
+            arrays::bool_all(view),
+        )))),
+        Builtin::ArrayBoolOrImp => Ok(Whether(Truth(implies(
+            view.truth(1),
+            arrays::bool_any(view),
+        )))),
         Builtin::ArrayBoolXor => Ok(Whether(Truth(arrays::bool_odd(view)))),
         Builtin::ArrayBoolElement => Ok(Boolean(2, arrays::bool_element(view))),
         Builtin::BoolClause => Ok(Whether(Truth(arrays::bool_clause(view)))),
         Builtin::Bool2Int => Ok(scalars::bool2int(view, first)),
-        Builtin::BoolLinEq => Ok(Number(2, Some(arrays::bool_lin_eq(view)))),
-        Builtin::BoolLinLe => Ok(Whether(Truth(arrays::bool_lin_le(view)))),
+        Builtin::BoolLinEq => Ok(Number(2, Some(bool_sum(view)))),
+        Builtin::BoolLinLe => Ok(Whether(Truth(bool_sum(view) <= i128::from(view.int(2))))),
+        Builtin::BoolLinNe => Ok(Whether(Truth(bool_sum(view) != i128::from(view.int(2))))),
+        Builtin::BoolLinLt => Ok(Whether(Truth(bool_sum(view) < i128::from(view.int(2))))),
+        Builtin::BoolLinGe => Ok(Whether(Truth(bool_sum(view) >= i128::from(view.int(2))))),
+        Builtin::BoolLinGt => Ok(Whether(Truth(bool_sum(view) > i128::from(view.int(2))))),
         Builtin::SetIn => Ok(Whether(Truth(view.set(1).contains(view.int(0))))),
         Builtin::SetEq => Ok(scalars::set_eq(view, first)),
         Builtin::SetNe => Ok(Whether(Truth(!same_set(view.set(0), view.set(1))))),

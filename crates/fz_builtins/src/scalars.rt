@@ -1,7 +1,7 @@
 //! Rows over scalars that take more than an expression. Where either of two arguments may be the
 //! result, the other one says it.
 
-ghost use Rattle.std.specs.Prelude.{◌≡◌, Bool, not, pos, ◌&&◌, ◌||◌};
+ghost use Rattle.std.specs.Prelude.{◌≡◌, ◌-ℤ◌, Bool, not, pos, ◌&&◌, ◌||◌};
 ghost use Rattle.std.specs.FinSet as sets;
 ghost use Rattle.std.specs.Int.{int_min, int_max};
 ghost use Rattle.fz_globals.specs.of_meaning.Builtins.{row_at};
@@ -25,6 +25,22 @@ pub(crate) fn int_eq<'s>(view: &ArgumentView<'s, '_>, first: bool) -> Said<'s>
     } else {
         Said::Number(1, Some(i128::from(view.int(0))))
     }
+}
+
+/// The first less the second.
+#[inline(always)]
+pub(crate) fn int_minus(view: &ArgumentView<'_, '_>) -> i128
+    ensures { result ≡ int view.now 0 -ℤ int view.now 1 }
+{
+    i128::from(view.int(0)) - i128::from(view.int(1))
+}
+
+/// The number with the other sign.
+#[inline(always)]
+pub(crate) fn int_negate(view: &ArgumentView<'_, '_>) -> i128
+    ensures { result ≡ pos 0 -ℤ int view.now 0 }
+{
+    0 - i128::from(view.int(0))
 }
 
 /// The lesser of the numbers.
@@ -55,20 +71,20 @@ pub(crate) fn bool_eq<'s>(view: &ArgumentView<'s, '_>, first: bool) -> Said<'s>
     }
 }
 
-/// Whether the second is true or the first false.
+/// Whether the second is true where the first is.
 #[inline(always)]
-pub(crate) fn bool_le(view: &ArgumentView<'_, '_>) -> bool
-    ensures { result ≡ (not (truth view.now 0) || truth view.now 1) }
+pub(crate) fn implies(a: bool, b: bool) -> bool
+    ensures { result ≡ (not a || b) }
 {
-    !view.truth(0) || view.truth(1)
+    !a || b
 }
 
 /// Whether the first is false and the second true.
 #[inline(always)]
-pub(crate) fn bool_lt(view: &ArgumentView<'_, '_>) -> bool
-    ensures { result ≡ (not (truth view.now 0) && truth view.now 1) }
+pub(crate) fn is_below(a: bool, b: bool) -> bool
+    ensures { result ≡ (not a && b) }
 {
-    !view.truth(0) && view.truth(1)
+    !a && b
 }
 
 /// Either Boolean is what the other one isn't.

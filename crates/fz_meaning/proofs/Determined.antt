@@ -1,7 +1,7 @@
 -- In each row of the table an argument that `defines_var` may fill is determined by the others: two
 -- values of it with which the row holds are equal. Of `int_lin_eq` this is said of one element of
 -- the second array with the coefficient 1 or -1.
-use Rattle.std.proofs.Common.{◌≡◌, ℕ, suc, zero, ℤ, pos, negsuc, ◌+ℤ◌, ◌*ℤ◌, neg_ℤ, Bool, true, false, not, ◌&&◌, ◌||◌, cond, List, [], ◌∷◌, ◌++◌, map, length, find, Option, Some, None, refl, sym, ap, subst, ◌∙◌, arith, int_le, int_div, int_rem, unsigned_abs, ◌⊎◌, rules}
+use Rattle.std.proofs.Common.{◌≡◌, ℕ, suc, zero, ℤ, pos, negsuc, ◌+ℤ◌, ◌-ℤ◌, ◌*ℤ◌, neg_ℤ, Bool, true, false, not, ◌&&◌, ◌||◌, cond, List, [], ◌∷◌, ◌++◌, map, length, find, Option, Some, None, refl, sym, ap, subst, ◌∙◌, arith, int_le, int_div, int_rem, unsigned_abs, ◌⊎◌, rules}
 use Rattle.std.specs.Prelude.{⊤}
 use Rattle.std.proofs.lemmas.Int.{ints}
 use Rattle.std.proofs.Math.IntN.{*ℤ_comm, *ℤ-one, *ℤ-negsuc}
@@ -20,7 +20,7 @@ use Rattle.fz_meaning.proofs.Lists.{all_append}
 use Rattle.fz_meaning.proofs.WithTruth.{reified_result}
 use Rattle.fz_meaning.proofs.Values.{no, and_first, and_second, int_itself, same_int, same_bool, same_set_is}
 use Rattle.fz_meaning.specs.declared.builtin.Builtin.{Builtin}
-use Rattle.fz_meaning.specs.declared.builtin.Builtin.TheVariants.{GecodeMaximumArgIntOffset, GecodeMinimumArgIntOffset, FznCountEq, FznAmong, FznNvalue, IntEq, IntLinEq, IntPlus, IntTimes, IntMin, IntMax, IntAbs, IntDiv, IntMod, ArrayIntElement, ArrayIntMaximum, ArrayIntMinimum, BoolEq, BoolNot, BoolAnd, BoolOr, BoolXor, ArrayBoolAnd, ArrayBoolOr, ArrayBoolElement, Bool2Int, BoolLinEq, SetEq, SetUnion, SetIntersect, SetDiff, SetSymdiff, SetCard, ArraySetElement}
+use Rattle.fz_meaning.specs.declared.builtin.Builtin.TheVariants.{GecodeMaximumArgIntOffset, GecodeMinimumArgIntOffset, FznCountEq, FznAmong, FznNvalue, IntEq, IntLinEq, IntPlus, IntMinus, IntTimes, IntMin, IntMax, IntAbs, IntNegate, IntDiv, IntMod, ArrayIntElement, ArrayIntMaximum, ArrayIntMinimum, BoolEq, BoolNot, BoolAnd, BoolOr, BoolXor, ArrayBoolAnd, ArrayBoolOr, ArrayBoolElement, Bool2Int, BoolLinEq, SetEq, SetUnion, SetIntersect, SetDiff, SetSymdiff, SetCard, ArraySetElement}
 use Rattle.fz_meaning.specs.declared.kind.Kind.TheVariants.{Int as IntKind}
 use Rattle.fz_base.specs.Sets.{NumberSet, symmetric_difference}
 
@@ -174,10 +174,12 @@ unfolding row_at result_of
 row_determines IntEq = ((λ x y b. int_both x y b), ((λ a x y. int_both' x y a), tt))
 row_determines IntLinEq = term_both
 row_determines IntPlus = ((λ a b x y. int_both x y (a +ℤ b)), tt)
+row_determines IntMinus = ((λ a b x y. int_both x y (a -ℤ b)), tt)
 row_determines IntTimes = ((λ a b x y. int_both x y (a *ℤ b)), tt)
 row_determines IntMin = ((λ a b x y. int_both x y (int_min a b)), tt)
 row_determines IntMax = ((λ a b x y. int_both x y (int_max a b)), tt)
 row_determines IntAbs = ((λ a x y. int_both x y (pos (unsigned_abs a))), tt)
+row_determines IntNegate = ((λ a x y. int_both x y (pos 0 -ℤ a)), tt)
 row_determines IntDiv = ((λ a b x y d e. int_both x y (int_div a b) (and_second (not (b =ℤ pos 0)) _ d) (and_second (not (b =ℤ pos 0)) _ e)), tt)
 row_determines IntMod = ((λ a b x y d e. int_both x y (int_rem a b) (and_second (not (b =ℤ pos 0)) _ d) (and_second (not (b =ℤ pos 0)) _ e)), tt)
 row_determines ArrayIntElement = ((λ a b x y. element_both ◌=ℤ◌ int_both' (element_at b a) x y), tt)

@@ -1,11 +1,11 @@
 -- Each builtin is found by its names, and has its row.
-use Rattle.std.proofs.Common.{◌≡◌, ◌≢◌, ◌<◌, ◌≤◌, ◌+◌, ℕ, get_or, drop, Bool, true, false, ◌&&◌, ◌||◌, cond, eq-eqb, List, [], ◌∷◌, ◌++◌, map, find, flat_map, length, Option, Some, None, refl, sym, ap, subst, ◌∙◌, arith, rules}
+use Rattle.std.proofs.Common.{◌≡◌, ◌<◌, ◌≤◌, ◌+◌, ℕ, get_or, drop, Bool, true, false, ◌&&◌, ◌||◌, cond, eq-eqb, List, [], ◌∷◌, ◌++◌, map, find, flat_map, length, Option, Some, None, refl, sym, ap, subst, ◌∙◌, arith, rules}
 use Rattle.std.specs.List.{list_all, list_any}
-use Rattle.std.specs.Prelude.{IfNone, bytes_eq, codes, option_map, option_and_then, ◌==◌}
+use Rattle.std.specs.Prelude.{IfNone, bytes_eq, option_map, option_and_then, ◌==◌}
 use Rattle.std.proofs.lemmas.List.{at_drop_more, at_drop_all}
 use Rattle.std.proofs.lemmas.Bool.{and_parts}
 use Rattle.std.proofs.lemmas.Grind.{common_steps}
-use Rattle.fz_meaning.specs.Builtins.{Row, base_rows, builtins, is_named, row_at}
+use Rattle.fz_meaning.specs.Builtins.{Row, base_rows, builtins, is_named, row_at, rows_with_forms}
 use Rattle.fz_meaning.specs.Results.{first_name}
 use Rattle.fz_meaning.specs.Meaning.{Posted, fits, row_of}
 use Rattle.fz_meaning.specs.declared.builtin.Builtin.{Builtin}
@@ -13,7 +13,7 @@ use Rattle.fz_meaning.specs.declared.builtin.Builtin.TheVariants.{IntEq}
 use Rattle.fz_meaning.specs.declared.known.Form.{Form}
 use Rattle.fz_meaning.specs.declared.known.Known.{Known}
 use Rattle.fz_meaning.specs.Known.{HasTruth, form_at, known_row, names_of, named_so_long, row_named, suffix_of}
-use Rattle.fz_meaning.proofs.Named.{same_name, find_filter, row_named_form, row_named_base, row_of_is}
+use Rattle.fz_meaning.proofs.Named.{same_name, find_filter, found_with_forms, row_of_form, row_of_is, row_of_no_form}
 
 -- the builtin of a name
 abbrev pub called : List ℕ → Builtin → Bool
@@ -111,39 +111,27 @@ module _ (x : List ℕ) (o : Option Builtin) (is : o ≡ find (called x) builtin
   found_row : find (is_named x) base_rows ≡ option_map row_at o
   found_row = find_row x builtins ∙ ap (option_map row_at) (sym is)
 
-  -- a name without a suffix
-  base_is : ((front : List ℕ) → x ≢ front ++ codes "_reif")
-      → ((front : List ℕ) → x ≢ front ++ codes "_imp") → row_named x ≡ option_map row_at o
-  base_is not_reified not_implied = row_named_base x not_reified not_implied ∙ found_row
+  -- a name that isn't the one of a form
+  pub base_is : row_named x ≡ find (is_named x) base_rows → row_named x ≡ option_map row_at o
+  base_is h = h ∙ found_row
 
-  -- a name with one
-  form_is : (f : Form) → HasTruth f → row_named (x ++ suffix_of f)
-      ≡ option_map (λ b. form_at f (row_at b))
-      (option_and_then (λ b. cond (row_at b).has_forms (Some b) None) o)
-  form_is f h = search (rules, row_named_form, found_row, option_step)
+  with_forms : find (is_named x) rows_with_forms
+      ≡ option_map row_at (option_and_then (λ b. cond (row_at b).has_forms (Some b) None) o)
+  with_forms = search (rules, found_with_forms, found_row, option_step)
 
-  abbrev with_forms : Form → Option Builtin → Option Row
-  with_forms f q = option_map (λ b. form_at f (row_at b)) (option_and_then (λ b. cond (row_at b).has_forms (Some b) None) q)
-
-  pub base_none : ((front : List ℕ) → x ≢ front ++ codes "_reif")
-      → ((front : List ℕ) → x ≢ front ++ codes "_imp") → o ≡ None → row_named x ≡ None
-  base_none r i e = base_is r i ∙ ap (option_map row_at) e
-
-  pub base_some : ((front : List ℕ) → x ≢ front ++ codes "_reif")
-      → ((front : List ℕ) → x ≢ front ++ codes "_imp") → (b : Builtin) → o ≡ Some b
-      → row_named x ≡ Some (row_at b)
-  base_some r i b e = base_is r i ∙ ap (option_map row_at) e
-
-  pub form_none : (f : Form) → HasTruth f → o ≡ None → row_named (x ++ suffix_of f) ≡ None
-  form_none f h e = form_is f h ∙ ap (with_forms f) e
+  -- a name with a suffix
+  pub form_none : (f : Form) → HasTruth f → o ≡ None
+      → row_named (x ++ suffix_of f) ≡ find (is_named (x ++ suffix_of f)) base_rows
+  form_none f h e = row_of_no_form f h x (with_forms ∙ ap (λ q. option_map row_at (option_and_then (λ b. cond (row_at b).has_forms (Some b) None) q)) e)
 
   pub form_some : (f : Form) → HasTruth f → (b : Builtin) → o ≡ Some b → (row_at b).has_forms ≡ true
       → row_named (x ++ suffix_of f) ≡ Some (form_at f (row_at b))
-  form_some f h b e has = form_is f h ∙ ap (with_forms f) e ∙ ap (λ c. option_map (λ b. form_at f (row_at b)) (cond c (Some b) None)) has
+  form_some f h b e has = row_of_form f h x (row_at b) (with_forms ∙ ap (λ q. option_map row_at (option_and_then (λ b. cond (row_at b).has_forms (Some b) None) q)) e ∙ ap (λ c. option_map row_at (cond c (Some b) None)) has)
 
   pub form_lacks : (f : Form) → HasTruth f → (b : Builtin) → o ≡ Some b
-      → (row_at b).has_forms ≡ false → row_named (x ++ suffix_of f) ≡ None
-  form_lacks f h b e has = form_is f h ∙ ap (with_forms f) e ∙ ap (λ c. option_map (λ b. form_at f (row_at b)) (cond c (Some b) None)) has
+      → (row_at b).has_forms ≡ false
+      → row_named (x ++ suffix_of f) ≡ find (is_named (x ++ suffix_of f)) base_rows
+  form_lacks f h b e has = row_of_no_form f h x (with_forms ∙ ap (λ q. option_map row_at (option_and_then (λ b. cond (row_at b).has_forms (Some b) None) q)) e ∙ ap (λ c. option_map row_at (cond c (Some b) None)) has)
 
 pub if_none : {A : Type 0} (o : Option A) (P : Type 0) → P → IfNone o P
 if_none None P p = p

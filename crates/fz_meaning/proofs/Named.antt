@@ -1,5 +1,5 @@
--- The rows of the table by name: no two base rows share one, none ends in `_reif` or `_imp`, and each
--- reified form has its base row's names with one of these appended.
+-- The rows of the table by name: no two rows share one, and each reified form has its base row's
+-- names with `_reif` or `_imp` appended.
 use Rattle.std.proofs.Common.{◌≡◌, ◌≢◌, ℕ, Bool, true, false, true≢false, not, ◌&&◌, cond, List, [], ◌∷◌, ◌++◌, ◌||◌, map, filter, find, length, drop, Option, Some, None, refl, sym, ap, subst, ◌∙◌, rules}
 use Rattle.std.specs.Prelude.{◌==◌, codes, bytes_eq, option_map, option_and_then, ◌-◌}
 use Rattle.std.specs.List.{list_all, list_any}
@@ -158,26 +158,25 @@ pub no_front : (suffix x end : List ℕ) → end ≡ drop (length x - length suf
 unfolding ends_in
 no_front suffix x end is other front e = true≢false (sym (ends_there suffix front) ∙ ap (ends_in suffix) (sym e) ∙ ap (λ y. bytes_eq y suffix) (sym is) ∙ other)
 
-abbrev none_end_in : List ℕ → List Row → Bool
-none_end_in suffix rs = list_all (λ r. list_all (λ n. not (ends_in suffix n)) r.names) rs
+-- what holds of all names of the rows holds of the one that is meant
+of_row_named : (q : List ℕ → Bool) (x : List ℕ) (rs : List Row) (r : Row)
+    → list_all (λ s. list_all q s.names) rs ≡ true → find (is_named x) rs ≡ Some r → q x ≡ true
+of_row_named q x [] r h e = cc
+of_row_named q x (s ∷ rs) r h e =
+    let parts = and_parts (list_all q s.names) _ h in
+    (elim (is_named x s) as (λ b. is_named x s ≡ b → cond b (Some s) (find (is_named x) rs) ≡ Some r → q x ≡ true) [
+      | true ↦ λ named _. of_named q x s.names named parts.0
+      | false ↦ λ _ e. of_row_named q x rs r parts.1 e
+    ]) refl e
 
-none_ends_so : (suffix : List ℕ) (rs : List Row) → none_end_in suffix rs ≡ true
-    → (front : List ℕ) → none_named rs (front ++ suffix) ≡ true
-none_ends_so suffix [] h front = refl
-none_ends_so suffix (r ∷ rs) h front =
-    let parts = and_parts (list_all (λ n. not (ends_in suffix n)) r.names) _ h in
-    (elim (is_named (front ++ suffix) r) as (λ b. is_named (front ++ suffix) r ≡ b → (not b && list_all (λ s. not (is_named (front ++ suffix) s)) rs) ≡ true) [
-      | true ↦ λ e. absurd (true≢false (sym (ends_there suffix front) ∙ not-true (ends_in suffix (front ++ suffix)) (of_named (λ n. not (ends_in suffix n)) (front ++ suffix) r.names e parts.0)))
-      | false ↦ λ e. none_ends_so suffix rs parts.1 front
-    ]) refl
+-- no name of a form is one of a base row
+abbrev form_is_new : Form → Bool
+form_is_new f = list_all (λ r. list_all (λ n. none_named base_rows (n ++ suffix_of f)) r.names) rows_with_forms
 
-no_base_reified : none_end_in (codes "_reif") base_rows ≡ true
-unfolding ends_in row_at builtins
-no_base_reified = refl
-
-no_base_implied : none_end_in (codes "_imp") base_rows ≡ true
-unfolding ends_in row_at builtins
-no_base_implied = refl
+forms_are_new : (f : Form) → HasTruth f → form_is_new f ≡ true
+unfolding row_at builtins
+forms_are_new Base h = absurd h
+forms_are_new _ h = refl
 
 -- what ends in the one suffix doesn't end in the other
 last : List ℕ → ℕ
@@ -205,30 +204,38 @@ split : (x : List ℕ) → row_named x ≡ option_or (find (is_named x) base_row
 unfolding row_named rows
 split x = find-append (is_named x) base_rows _ ∙ ap (option_or (find (is_named x) base_rows)) (find-append (is_named x) (map reified rows_with_forms) (map implied rows_with_forms))
 
-found_with_forms : (x : List ℕ) → find (is_named x) rows_with_forms
+pub found_with_forms : (x : List ℕ) → find (is_named x) rows_with_forms
     ≡ option_and_then (λ r. cond r.has_forms (Some r) None) (find (is_named x) base_rows)
 found_with_forms x = find_filter (is_named x) (λ r. r.has_forms) base_rows ∙ find_apart x (λ r. r.has_forms) base_rows base_apart
 
--- a name with a suffix is the one of a base row's form, where the base row has forms
-pub row_named_form : (f : Form) → HasTruth f → (x : List ℕ)
-    → row_named (x ++ suffix_of f) ≡ option_map (form_at f)
-    (option_and_then (λ r. cond r.has_forms (Some r) None) (find (is_named x) base_rows))
+-- a name with a suffix is a base row's, or the one of a base row's form
+row_named_form : (f : Form) → HasTruth f → (x : List ℕ) → row_named (x ++ suffix_of f)
+    ≡ option_or (find (is_named (x ++ suffix_of f)) base_rows)
+    (option_map (form_at f) (find (is_named x) rows_with_forms))
 row_named_form Base h x = absurd h
 row_named_form Reified h x =
     let y = x ++ codes "_reif" in
     split y
-    ∙ ap (λ o. option_or o (option_or (find (is_named y) (map reified rows_with_forms)) (find (is_named y) (map implied rows_with_forms)))) (find_none (is_named y) base_rows (none_ends_so (codes "_reif") base_rows no_base_reified x))
-    ∙ ap (option_or (find (is_named y) (map reified rows_with_forms))) (find_no_form implied (codes "_imp") (λ r. refl) y (λ front e. other_suffix front x (sym e)) rows_with_forms)
-    ∙ option_or_none (find (is_named y) (map reified rows_with_forms))
-    ∙ find_form reified (codes "_reif") (λ r. refl) x rows_with_forms
-    ∙ ap (option_map reified) (found_with_forms x)
+    ∙ ap (λ o. option_or (find (is_named y) base_rows) (option_or (find (is_named y) (map reified rows_with_forms)) o)) (find_no_form implied (codes "_imp") (λ r. refl) y (λ front e. other_suffix front x (sym e)) rows_with_forms)
+    ∙ ap (option_or (find (is_named y) base_rows)) (option_or_none (find (is_named y) (map reified rows_with_forms)) ∙ find_form reified (codes "_reif") (λ r. refl) x rows_with_forms)
 row_named_form Implied h x =
     let y = x ++ codes "_imp" in
     split y
-    ∙ ap (λ o. option_or o (option_or (find (is_named y) (map reified rows_with_forms)) (find (is_named y) (map implied rows_with_forms)))) (find_none (is_named y) base_rows (none_ends_so (codes "_imp") base_rows no_base_implied x))
-    ∙ ap (λ o. option_or o (find (is_named y) (map implied rows_with_forms))) (find_no_form reified (codes "_reif") (λ r. refl) y (λ front e. other_suffix x front e) rows_with_forms)
-    ∙ find_form implied (codes "_imp") (λ r. refl) x rows_with_forms
-    ∙ ap (option_map implied) (found_with_forms x)
+    ∙ ap (λ o. option_or (find (is_named y) base_rows) (option_or o (find (is_named y) (map implied rows_with_forms)))) (find_no_form reified (codes "_reif") (λ r. refl) y (λ front e. other_suffix x front e) rows_with_forms)
+    ∙ ap (option_or (find (is_named y) base_rows)) (find_form implied (codes "_imp") (λ r. refl) x rows_with_forms)
+
+pub row_of_form : (f : Form) → HasTruth f → (x : List ℕ) (r : Row)
+    → find (is_named x) rows_with_forms ≡ Some r → row_named (x ++ suffix_of f) ≡ Some (form_at f r)
+row_of_form f h x r e =
+    let y = x ++ suffix_of f in
+    let new : find (is_named y) base_rows ≡ None = find_none (is_named y) base_rows (of_row_named (λ n. none_named base_rows (n ++ suffix_of f)) x rows_with_forms r (forms_are_new f h) e) in
+    row_named_form f h x ∙ ap (λ o. option_or o (option_map (form_at f) (find (is_named x) rows_with_forms))) new ∙ ap (option_map (form_at f)) e
+
+pub row_of_no_form : (f : Form) → HasTruth f → (x : List ℕ) → find (is_named x) rows_with_forms ≡ None
+    → row_named (x ++ suffix_of f) ≡ find (is_named (x ++ suffix_of f)) base_rows
+row_of_no_form f h x e =
+    let y = x ++ suffix_of f in
+    row_named_form f h x ∙ ap (λ o. option_or (find (is_named y) base_rows) (option_map (form_at f) o)) e ∙ option_or_none (find (is_named y) base_rows)
 
 -- and any other is a base row's
 pub row_named_base : (x : List ℕ) → ((front : List ℕ) → x ≢ front ++ codes "_reif")

@@ -27,7 +27,7 @@ use Rattle.fz_meaning.specs.Steps.{Gives, GivesNothing, WithinLimits}
 use Rattle.fz_meaning.proofs.Values.{no, same_int, and_first, and_second, and_both}
 use Rattle.fz_meaning.proofs.Writing.{span_at, name_at, literal, whole, num, v, MIN, MAX, int_var, var_in, posts, defines, model_tree, i, is, t, ts, s, names, x, z}
 
-how_many : length (flat_map (λ r. r.names) rows) ≡ 152
+how_many : length (flat_map (λ r. r.names) rows) ≡ 423
 unfolding rows row_at builtins
 how_many = refl
 
@@ -106,6 +106,11 @@ too_few : state_of (codes "bool_xor") (t true ∷ t true ∷ []) ≡ Unknown
 unfolding rows row_at builtins
 too_few = refl
 
+-- a base row whose name ends like that of a form
+own_implied : state_of (codes "bool_and_imp") (t true ∷ t false ∷ t false ∷ []) ≡ Holds
+unfolding rows row_at builtins
+own_implied = refl
+
 reified_false : state_of (codes "int_le_reif") (i (pos 2) ∷ i (pos 1) ∷ t false ∷ []) ≡ Holds
 unfolding rows row_at builtins
 reified_false = refl
@@ -167,7 +172,7 @@ unfolding rows row_at builtins
 different_kind = refl
 
 different_reified : state_of (codes "fzn_all_different_int_reif") (is (pos 1 ∷ []) ∷ t true ∷ [])
-    ≡ Unknown
+    ≡ Holds
 unfolding rows row_at builtins
 different_reified = refl
 

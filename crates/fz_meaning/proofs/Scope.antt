@@ -5,7 +5,6 @@ use Rattle.std.specs.List.{AllByRecursion}
 use Rattle.fz_meaning.specs.Relations.{kind_of, same_kind}
 use Rattle.fz_meaning.specs.Located.{Basic, Decl, Expr, Goal, Literal, LocatedTree}
 use Rattle.fz_meaning.specs.Located.Basic.{Lit}
-use Rattle.fz_meaning.specs.Located.Goal.{Satisfy, Minimize, Maximize}
 use Rattle.fz_meaning.specs.Names.FaultKind.{WrongKind}
 use Rattle.fz_meaning.specs.Names.{HasNoFault, part_fault, parts_fault, decl_fault, decls_fault, goal_fault, declaration, named_as, is_scalar, is_scalar_variable, scalar_variables, number_of, term_of, literal_value, literal_of, kind_of_base, parts, declared_of, variable_declared, model_of, aim_of, definition_of, domain_of, place_of_declared}
 use Rattle.std.proofs.lemmas.List.Folds.{find_at}

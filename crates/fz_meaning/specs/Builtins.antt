@@ -96,113 +96,144 @@ row_with together matrix sums has_forms names shapes holds = record {
   form = Base;
 }
 
--- a row that asks nothing more, and one that has reified forms
+-- a row that asks nothing more, and has reified forms
 abbrev pub row : Written
-row = row_with [] Absent [] false
+row = row_with [] Absent [] true
 
-abbrev pub forms : Written
-forms = row_with [] Absent [] true
+-- one that has none: it computes a result, and its name with a suffix has other arguments by
+-- custom, or it is such a name itself
+abbrev pub alone : Written
+alone = row_with [] Absent [] false
 
 -- one whose arrays at these indices have equal lengths
 abbrev pub equal : List ℕ → Written
-equal places = row_with places Absent [] false
+equal places = row_with places Absent [] true
 
--- the sums of int_lin, which are added in 128 bits, and which have reified forms
+-- the sums of int_lin, which are added in 128 bits
 abbrev pub int_lin : Written
 int_lin = row_with (0 ∷ 1 ∷ []) Absent ((0, 1) ∷ []) true
 
 -- weights, profits and numbers of things, of which two sums are made
 abbrev pub knapsack : Written
-knapsack = row_with (0 ∷ 1 ∷ 2 ∷ []) Absent ((0, 2) ∷ (1, 2) ∷ []) false
+knapsack = row_with (0 ∷ 1 ∷ 2 ∷ []) Absent ((0, 2) ∷ (1, 2) ∷ []) true
 
 -- one whose second array is a table: its rows are as long as the first array, which isn't empty
 abbrev pub table : Written
-table = row_with [] (RowsLike 0 1) [] false
+table = row_with [] (RowsLike 0 1) [] true
 
 -- one whose fourth argument has the transitions of an automaton: as many rows as the second says,
 -- which is one for each state, and each as long as the third says
 abbrev pub automaton : Written
-automaton = row_with [] (RowsBy 1 2 3) [] false
+automaton = row_with [] (RowsBy 1 2 3) [] true
 
 -- Names, kinds, and when it holds of the arguments a, b, c. The table is opaque, so that no goal
 -- about code writes it out: a proof that reads it says `unfolding row_at`.
 unfoldable pub row_at : Builtin → Row
-row_at builtin.IntEq = forms ("int_eq" ∷ []) (I ∷ I ∷ []) λ a b. a =ℤ b
-row_at builtin.IntNe = forms ("int_ne" ∷ []) (I ∷ I ∷ []) λ a b. not (a =ℤ b)
-row_at builtin.IntLe = forms ("int_le" ∷ []) (I ∷ I ∷ []) λ a b. int_le a b
-row_at builtin.IntLt = forms ("int_lt" ∷ []) (I ∷ I ∷ []) λ a b. int_lt a b
+row_at builtin.IntEq = row ("int_eq" ∷ []) (I ∷ I ∷ []) λ a b. a =ℤ b
+row_at builtin.IntNe = row ("int_ne" ∷ []) (I ∷ I ∷ []) λ a b. not (a =ℤ b)
+row_at builtin.IntLe = row ("int_le" ∷ []) (I ∷ I ∷ []) λ a b. int_le a b
+row_at builtin.IntLt = row ("int_lt" ∷ []) (I ∷ I ∷ []) λ a b. int_lt a b
+row_at builtin.IntGe = row ("int_ge" ∷ []) (I ∷ I ∷ []) λ a b. int_le b a
+row_at builtin.IntGt = row ("int_gt" ∷ []) (I ∷ I ∷ []) λ a b. int_lt b a
 row_at builtin.IntLinEq =
     int_lin ("int_lin_eq" ∷ []) ([I] ∷ [I] ∷ I ∷ []) λ a b c. total (products a b) =ℤ c
 row_at builtin.IntLinNe =
     int_lin ("int_lin_ne" ∷ []) ([I] ∷ [I] ∷ I ∷ []) λ a b c. not (total (products a b) =ℤ c)
 row_at builtin.IntLinLe =
     int_lin ("int_lin_le" ∷ []) ([I] ∷ [I] ∷ I ∷ []) λ a b c. int_le (total (products a b)) c
-row_at builtin.IntPlus = row ("int_plus" ∷ []) (I ∷ I ∷ I ∷ []) λ a b c. c =ℤ (a +ℤ b)
-row_at builtin.IntTimes = row ("int_times" ∷ []) (I ∷ I ∷ I ∷ []) λ a b c. c =ℤ (a *ℤ b)
-row_at builtin.IntMin = row ("int_min" ∷ []) (I ∷ I ∷ I ∷ []) λ a b c. c =ℤ int_min a b
-row_at builtin.IntMax = row ("int_max" ∷ []) (I ∷ I ∷ I ∷ []) λ a b c. c =ℤ int_max a b
-row_at builtin.IntAbs = row ("int_abs" ∷ []) (I ∷ I ∷ []) λ a b. b =ℤ pos (unsigned_abs a)
+row_at builtin.IntPlus = alone ("int_plus" ∷ []) (I ∷ I ∷ I ∷ []) λ a b c. c =ℤ (a +ℤ b)
+row_at builtin.IntMinus = alone ("int_minus" ∷ []) (I ∷ I ∷ I ∷ []) λ a b c. c =ℤ (a -ℤ b)
+row_at builtin.IntTimes = alone ("int_times" ∷ []) (I ∷ I ∷ I ∷ []) λ a b c. c =ℤ (a *ℤ b)
+row_at builtin.IntMin = alone ("int_min" ∷ []) (I ∷ I ∷ I ∷ []) λ a b c. c =ℤ int_min a b
+row_at builtin.IntMax = alone ("int_max" ∷ []) (I ∷ I ∷ I ∷ []) λ a b c. c =ℤ int_max a b
+row_at builtin.IntAbs = alone ("int_abs" ∷ []) (I ∷ I ∷ []) λ a b. b =ℤ pos (unsigned_abs a)
+row_at builtin.IntNegate = alone ("int_negate" ∷ []) (I ∷ I ∷ []) λ a b. b =ℤ (pos 0 -ℤ a)
 row_at builtin.IntDiv =
-    row ("int_div" ∷ []) (I ∷ I ∷ I ∷ []) λ a b c. not (b =ℤ pos 0) && (c =ℤ int_div a b)
+    alone ("int_div" ∷ []) (I ∷ I ∷ I ∷ []) λ a b c. not (b =ℤ pos 0) && (c =ℤ int_div a b)
 row_at builtin.IntMod =
-    row ("int_mod" ∷ []) (I ∷ I ∷ I ∷ []) λ a b c. not (b =ℤ pos 0) && (c =ℤ int_rem a b)
+    alone ("int_mod" ∷ []) (I ∷ I ∷ I ∷ []) λ a b c. not (b =ℤ pos 0) && (c =ℤ int_rem a b)
 row_at builtin.ArrayIntElement =
-    row ("array_int_element" ∷ "array_var_int_element" ∷ []) (I ∷ [I] ∷ I ∷ [])
+    alone ("array_int_element" ∷ "array_var_int_element" ∷ []) (I ∷ [I] ∷ I ∷ [])
     λ a b c. is_element ◌=ℤ◌ a b c
 row_at builtin.ArrayIntMaximum =
-    row ("array_int_maximum" ∷ []) (I ∷ [I] ∷ [])
+    alone ("array_int_maximum" ∷ []) (I ∷ [I] ∷ [])
     λ a b. is_among a b && list_all (λ x. int_le x a) b
 row_at builtin.ArrayIntMinimum =
-    row ("array_int_minimum" ∷ []) (I ∷ [I] ∷ [])
+    alone ("array_int_minimum" ∷ []) (I ∷ [I] ∷ [])
     λ a b. is_among a b && list_all (λ x. int_le a x) b
 row_at builtin.FznAllDifferentInt =
-    row ("fzn_all_different_int" ∷ "gecode_all_different_int" ∷ "geas_all_different_int" ∷ [])
-    ([I] ∷ []) λ a. all_different a
-row_at builtin.BoolEq = forms ("bool_eq" ∷ []) (B ∷ B ∷ []) λ a b. a =ᴮ b
-row_at builtin.BoolLe = forms ("bool_le" ∷ []) (B ∷ B ∷ []) λ a b. not a || b
-row_at builtin.BoolLt = forms ("bool_lt" ∷ []) (B ∷ B ∷ []) λ a b. not a && b
-row_at builtin.BoolNot = row ("bool_not" ∷ []) (B ∷ B ∷ []) λ a b. not (a =ᴮ b)
-row_at builtin.BoolAnd = row ("bool_and" ∷ []) (B ∷ B ∷ B ∷ []) λ a b c. c =ᴮ (a && b)
-row_at builtin.BoolOr = row ("bool_or" ∷ []) (B ∷ B ∷ B ∷ []) λ a b c. c =ᴮ (a || b)
-row_at builtin.BoolXor = row ("bool_xor" ∷ []) (B ∷ B ∷ B ∷ []) λ a b c. c =ᴮ not (a =ᴮ b)
+    row ("fzn_all_different_int" ∷ "gecode_all_different_int" ∷ "geas_all_different_int" ∷
+    "all_different_int" ∷ []) ([I] ∷ []) λ a. all_different a
+row_at builtin.BoolEq = row ("bool_eq" ∷ []) (B ∷ B ∷ []) λ a b. a =ᴮ b
+row_at builtin.BoolLe = row ("bool_le" ∷ []) (B ∷ B ∷ []) λ a b. not a || b
+row_at builtin.BoolLt = row ("bool_lt" ∷ []) (B ∷ B ∷ []) λ a b. not a && b
+row_at builtin.BoolGe = row ("bool_ge" ∷ []) (B ∷ B ∷ []) λ a b. not b || a
+row_at builtin.BoolGt = row ("bool_gt" ∷ []) (B ∷ B ∷ []) λ a b. not b && a
+row_at builtin.BoolNot = row ("bool_not" ∷ "bool_ne" ∷ []) (B ∷ B ∷ []) λ a b. not (a =ᴮ b)
+row_at builtin.BoolAnd = alone ("bool_and" ∷ []) (B ∷ B ∷ B ∷ []) λ a b c. c =ᴮ (a && b)
+row_at builtin.BoolOr = alone ("bool_or" ∷ []) (B ∷ B ∷ B ∷ []) λ a b c. c =ᴮ (a || b)
+row_at builtin.BoolXor = alone ("bool_xor" ∷ []) (B ∷ B ∷ B ∷ []) λ a b c. c =ᴮ not (a =ᴮ b)
+row_at builtin.BoolAndImp =
+    alone ("bool_and_imp" ∷ []) (B ∷ B ∷ B ∷ []) λ a b c. not c || (a && b)
+row_at builtin.BoolOrImp =
+    alone ("bool_or_imp" ∷ []) (B ∷ B ∷ B ∷ []) λ a b c. not c || (a || b)
+row_at builtin.BoolXorImp =
+    alone ("bool_xor_imp" ∷ []) (B ∷ B ∷ B ∷ []) λ a b c. not c || not (a =ᴮ b)
 row_at builtin.ArrayBoolAnd =
-    row ("array_bool_and" ∷ []) ([B] ∷ B ∷ []) λ a b. b =ᴮ list_all (λ x. x) a
+    alone ("array_bool_and" ∷ []) ([B] ∷ B ∷ []) λ a b. b =ᴮ list_all (λ x. x) a
 row_at builtin.ArrayBoolOr =
-    row ("array_bool_or" ∷ []) ([B] ∷ B ∷ []) λ a b. b =ᴮ list_any (λ x. x) a
+    alone ("array_bool_or" ∷ []) ([B] ∷ B ∷ []) λ a b. b =ᴮ list_any (λ x. x) a
+row_at builtin.ArrayBoolAndImp =
+    alone ("array_bool_and_imp" ∷ []) ([B] ∷ B ∷ []) λ a b. not b || list_all (λ x. x) a
+row_at builtin.ArrayBoolOrImp =
+    alone ("array_bool_or_imp" ∷ []) ([B] ∷ B ∷ []) λ a b. not b || list_any (λ x. x) a
 row_at builtin.ArrayBoolXor =
     row ("array_bool_xor" ∷ []) ([B] ∷ []) λ a. is_odd (length (filter (λ x. x) a))
 row_at builtin.ArrayBoolElement =
-    row ("array_bool_element" ∷ "array_var_bool_element" ∷ []) (I ∷ [B] ∷ B ∷ [])
+    alone ("array_bool_element" ∷ "array_var_bool_element" ∷ []) (I ∷ [B] ∷ B ∷ [])
     λ a b c. is_element ◌=ᴮ◌ a b c
 row_at builtin.BoolClause =
-    forms ("bool_clause" ∷ []) ([B] ∷ [B] ∷ [])
+    row ("bool_clause" ∷ []) ([B] ∷ [B] ∷ [])
     λ a b. list_any (λ x. x) a || list_any (λ x. not x) b
-row_at builtin.Bool2Int = row ("bool2int" ∷ []) (B ∷ I ∷ []) λ a b. b =ℤ as_number a
+row_at builtin.Bool2Int = alone ("bool2int" ∷ []) (B ∷ I ∷ []) λ a b. b =ℤ as_number a
 row_at builtin.BoolLinEq =
     equal (0 ∷ 1 ∷ []) ("bool_lin_eq" ∷ []) ([I] ∷ [B] ∷ I ∷ [])
     λ a b c. total (where_true a b) =ℤ c
 row_at builtin.BoolLinLe =
     equal (0 ∷ 1 ∷ []) ("bool_lin_le" ∷ []) ([I] ∷ [B] ∷ I ∷ [])
     λ a b c. int_le (total (where_true a b)) c
-row_at builtin.SetIn = forms ("set_in" ∷ []) (I ∷ S ∷ []) λ a b. sets.contains b a
-row_at builtin.SetEq = forms ("set_eq" ∷ []) (S ∷ S ∷ []) λ a b. a =ˢ b
-row_at builtin.SetNe = forms ("set_ne" ∷ []) (S ∷ S ∷ []) λ a b. not (a =ˢ b)
-row_at builtin.SetSubset = forms ("set_subset" ∷ []) (S ∷ S ∷ []) λ a b. sets.is_subset a b
-row_at builtin.SetSuperset = forms ("set_superset" ∷ []) (S ∷ S ∷ []) λ a b. sets.is_subset b a
-row_at builtin.SetUnion = row ("set_union" ∷ []) (S ∷ S ∷ S ∷ []) λ a b c. c =ˢ sets.union a b
+row_at builtin.BoolLinNe =
+    equal (0 ∷ 1 ∷ []) ("bool_lin_ne" ∷ []) ([I] ∷ [B] ∷ I ∷ [])
+    λ a b c. not (total (where_true a b) =ℤ c)
+row_at builtin.BoolLinLt =
+    equal (0 ∷ 1 ∷ []) ("bool_lin_lt" ∷ []) ([I] ∷ [B] ∷ I ∷ [])
+    λ a b c. int_lt (total (where_true a b)) c
+row_at builtin.BoolLinGe =
+    equal (0 ∷ 1 ∷ []) ("bool_lin_ge" ∷ []) ([I] ∷ [B] ∷ I ∷ [])
+    λ a b c. int_le c (total (where_true a b))
+row_at builtin.BoolLinGt =
+    equal (0 ∷ 1 ∷ []) ("bool_lin_gt" ∷ []) ([I] ∷ [B] ∷ I ∷ [])
+    λ a b c. int_lt c (total (where_true a b))
+row_at builtin.SetIn = row ("set_in" ∷ []) (I ∷ S ∷ []) λ a b. sets.contains b a
+row_at builtin.SetEq = row ("set_eq" ∷ []) (S ∷ S ∷ []) λ a b. a =ˢ b
+row_at builtin.SetNe = row ("set_ne" ∷ []) (S ∷ S ∷ []) λ a b. not (a =ˢ b)
+row_at builtin.SetSubset = row ("set_subset" ∷ []) (S ∷ S ∷ []) λ a b. sets.is_subset a b
+row_at builtin.SetSuperset = row ("set_superset" ∷ []) (S ∷ S ∷ []) λ a b. sets.is_subset b a
+row_at builtin.SetUnion = alone ("set_union" ∷ []) (S ∷ S ∷ S ∷ []) λ a b c. c =ˢ sets.union a b
 row_at builtin.SetIntersect =
-    row ("set_intersect" ∷ []) (S ∷ S ∷ S ∷ []) λ a b c. c =ˢ sets.intersection a b
-row_at builtin.SetDiff = row ("set_diff" ∷ []) (S ∷ S ∷ S ∷ []) λ a b c. c =ˢ sets.difference a b
+    alone ("set_intersect" ∷ []) (S ∷ S ∷ S ∷ []) λ a b c. c =ˢ sets.intersection a b
+row_at builtin.SetDiff = alone ("set_diff" ∷ []) (S ∷ S ∷ S ∷ []) λ a b c. c =ˢ sets.difference a b
 row_at builtin.SetSymdiff =
-    row ("set_symdiff" ∷ []) (S ∷ S ∷ S ∷ []) λ a b c. c =ˢ symmetric_difference a b
-row_at builtin.SetCard = row ("set_card" ∷ []) (S ∷ I ∷ []) λ a b. b =ℤ pos (sets.len a)
+    alone ("set_symdiff" ∷ []) (S ∷ S ∷ S ∷ []) λ a b c. c =ˢ symmetric_difference a b
+row_at builtin.SetCard = alone ("set_card" ∷ []) (S ∷ I ∷ []) λ a b. b =ℤ pos (sets.len a)
 row_at builtin.ArraySetElement =
-    row ("array_set_element" ∷ "array_var_set_element" ∷ []) (I ∷ [S] ∷ S ∷ [])
+    alone ("array_set_element" ∷ "array_var_set_element" ∷ []) (I ∷ [S] ∷ S ∷ [])
     λ a b c. is_element ◌=ˢ◌ a b c
 row_at builtin.FznAlldifferentExcept0 =
     row ("fzn_alldifferent_except_0" ∷ "geas_all_different_except_0" ∷ []) ([I] ∷ [])
     λ a. all_different (filter is_nonzero a)
-row_at builtin.FznAllEqualInt = row ("fzn_all_equal_int" ∷ []) ([I] ∷ []) λ a. all_neighbours ◌=ℤ◌ a
+row_at builtin.FznAllEqualInt =
+    row ("fzn_all_equal_int" ∷ "all_equal_int" ∷ []) ([I] ∷ []) λ a. all_neighbours ◌=ℤ◌ a
 row_at builtin.FznCountEq =
     row ("fzn_count_eq" ∷ "gecode_count" ∷ "count" ∷ []) ([I] ∷ I ∷ I ∷ [])
     λ a b c. c =ℤ count_of a b
@@ -216,34 +247,46 @@ row_at builtin.FznCountLeq =
     row ("fzn_count_leq" ∷ []) ([I] ∷ I ∷ I ∷ []) λ a b c. int_le c (count_of a b)
 row_at builtin.FznCountLt =
     row ("fzn_count_lt" ∷ []) ([I] ∷ I ∷ I ∷ []) λ a b c. int_lt c (count_of a b)
-row_at builtin.FznAmong = row ("fzn_among" ∷ []) (I ∷ [I] ∷ S ∷ []) λ a b c. a =ℤ count_in b c
+row_at builtin.FznAmong =
+    row ("fzn_among" ∷ "among" ∷ []) (I ∷ [I] ∷ S ∷ []) λ a b c. a =ℤ count_in b c
 row_at builtin.FznNvalue =
-    row ("fzn_nvalue" ∷ []) (I ∷ [I] ∷ []) λ a b. a =ℤ pos (length (values_of b))
+    row ("fzn_nvalue" ∷ "nvalue" ∷ []) (I ∷ [I] ∷ []) λ a b. a =ℤ pos (length (values_of b))
 row_at builtin.FznAtLeastInt =
-    row ("fzn_at_least_int" ∷ []) (I ∷ [I] ∷ I ∷ []) λ a b c. int_le a (count_of b c)
+    row ("fzn_at_least_int" ∷ "at_least_int" ∷ []) (I ∷ [I] ∷ I ∷ [])
+    λ a b c. int_le a (count_of b c)
 row_at builtin.FznAtMostInt =
-    row ("fzn_at_most_int" ∷ []) (I ∷ [I] ∷ I ∷ []) λ a b c. int_le (count_of b c) a
+    row ("fzn_at_most_int" ∷ "at_most_int" ∷ []) (I ∷ [I] ∷ I ∷ []) λ a b c. int_le (count_of b c) a
 row_at builtin.FznExactlyInt =
     row ("fzn_exactly_int" ∷ []) (I ∷ [I] ∷ I ∷ []) λ a b c. a =ℤ count_of b c
 row_at builtin.FznGlobalCardinality =
-    equal (1 ∷ 2 ∷ []) ("fzn_global_cardinality" ∷ []) ([I] ∷ [I] ∷ [I] ∷ [])
+    equal (1 ∷ 2 ∷ [])
+    ("fzn_global_cardinality" ∷ "gecode_global_cardinality" ∷ "geas_global_cardinality" ∷ [])
+    ([I] ∷ [I] ∷ [I] ∷ [])
     λ a b c. counts_are a b c
 row_at builtin.FznGlobalCardinalityClosed =
-    equal (1 ∷ 2 ∷ []) ("fzn_global_cardinality_closed" ∷ []) ([I] ∷ [I] ∷ [I] ∷ [])
+    equal (1 ∷ 2 ∷ [])
+    ("fzn_global_cardinality_closed" ∷ "gecode_global_cardinality_closed" ∷ [])
+    ([I] ∷ [I] ∷ [I] ∷ [])
     λ a b c. counts_are a b c && is_closed a b
 row_at builtin.FznGlobalCardinalityLowUp =
-    equal (1 ∷ 2 ∷ 3 ∷ []) ("fzn_global_cardinality_low_up" ∷ []) ([I] ∷ [I] ∷ [I] ∷ [I] ∷ [])
+    equal (1 ∷ 2 ∷ 3 ∷ [])
+    ("fzn_global_cardinality_low_up" ∷ "global_cardinality_low_up" ∷ [])
+    ([I] ∷ [I] ∷ [I] ∷ [I] ∷ [])
     λ a b c d. counts_lie a b c d
 row_at builtin.FznGlobalCardinalityLowUpClosed =
-    equal (1 ∷ 2 ∷ 3 ∷ []) ("fzn_global_cardinality_low_up_closed" ∷ [])
+    equal (1 ∷ 2 ∷ 3 ∷ [])
+    ("fzn_global_cardinality_low_up_closed" ∷ "global_cardinality_low_up_closed" ∷ [])
     ([I] ∷ [I] ∷ [I] ∷ [I] ∷ []) λ a b c d. counts_lie a b c d && is_closed a b
 row_at builtin.FznDistribute =
     equal (0 ∷ 1 ∷ []) ("fzn_distribute" ∷ []) ([I] ∷ [I] ∷ [I] ∷ []) λ a b c. counts_are c b a
 row_at builtin.FznCumulative =
-    equal (0 ∷ 1 ∷ 2 ∷ []) ("fzn_cumulative" ∷ "cumulatives" ∷ []) ([I] ∷ [I] ∷ [I] ∷ I ∷ [])
+    equal (0 ∷ 1 ∷ 2 ∷ [])
+    ("fzn_cumulative" ∷ "cumulatives" ∷ "geas_cumulative" ∷ "geas_cumulative_var" ∷ [])
+    ([I] ∷ [I] ∷ [I] ∷ I ∷ [])
     λ a b c d. is_cumulative (zip (zip a b) c) d
 row_at builtin.FznDisjunctive =
-    equal (0 ∷ 1 ∷ []) ("fzn_disjunctive" ∷ []) ([I] ∷ [I] ∷ []) λ a b. is_disjunctive (zip a b)
+    equal (0 ∷ 1 ∷ []) ("fzn_disjunctive" ∷ "geas_disjunctive" ∷ []) ([I] ∷ [I] ∷ [])
+    λ a b. is_disjunctive (zip a b)
 row_at builtin.FznDisjunctiveStrict =
     equal (0 ∷ 1 ∷ []) ("fzn_disjunctive_strict" ∷ []) ([I] ∷ [I] ∷ [])
     λ a b. is_strictly_disjunctive (zip a b)
@@ -267,7 +310,7 @@ row_at builtin.FznTableInt =
     table ("fzn_table_int" ∷ "gecode_table_int" ∷ "geas_table_int" ∷ []) ([I] ∷ [I] ∷ [])
     λ a b. is_row_of ◌=ℤ◌ a b
 row_at builtin.FznTableBool =
-    table ("fzn_table_bool" ∷ []) ([B] ∷ [B] ∷ []) λ a b. is_row_of ◌=ᴮ◌ a b
+    table ("fzn_table_bool" ∷ "gecode_table_bool" ∷ []) ([B] ∷ [B] ∷ []) λ a b. is_row_of ◌=ᴮ◌ a b
 row_at builtin.FznRegular =
     automaton ("fzn_regular" ∷ "gecode_regular" ∷ []) ([I] ∷ I ∷ I ∷ [I] ∷ I ∷ S ∷ [])
     λ a b c d e f. is_word a b c d e f
@@ -279,23 +322,24 @@ row_at builtin.GecodeBinPackingLoad =
     ([I] ∷ [I] ∷ [I] ∷ I ∷ [])
     λ a b c d. list_all (lies_between d ((d +ℤ pos (length a)) -ℤ pos 1)) b && loads_are d b c a
 row_at builtin.FznLexLessInt =
-    row ("fzn_lex_less_int" ∷ "gecode_array_int_lt" ∷ []) ([I] ∷ [I] ∷ [])
+    row ("fzn_lex_less_int" ∷ "gecode_array_int_lt" ∷ "array_int_lt" ∷ []) ([I] ∷ [I] ∷ [])
     λ a b. is_before int_lt ◌=ℤ◌ a b
 row_at builtin.FznLexLesseqInt =
-    row ("fzn_lex_lesseq_int" ∷ "gecode_array_int_lq" ∷ []) ([I] ∷ [I] ∷ [])
+    row ("fzn_lex_lesseq_int" ∷ "gecode_array_int_lq" ∷ "array_int_lq" ∷ []) ([I] ∷ [I] ∷ [])
     λ a b. not (is_before int_lt ◌=ℤ◌ b a)
 row_at builtin.FznLexLessBool =
-    row ("fzn_lex_less_bool" ∷ "gecode_array_bool_lt" ∷ []) ([B] ∷ [B] ∷ [])
+    row ("fzn_lex_less_bool" ∷ "gecode_array_bool_lt" ∷ "array_bool_lt" ∷ []) ([B] ∷ [B] ∷ [])
     λ a b. is_before (λ x y. not x && y) ◌=ᴮ◌ a b
 row_at builtin.FznLexLesseqBool =
-    row ("fzn_lex_lesseq_bool" ∷ "gecode_array_bool_lq" ∷ []) ([B] ∷ [B] ∷ [])
+    row ("fzn_lex_lesseq_bool" ∷ "gecode_array_bool_lq" ∷ "array_bool_lq" ∷ []) ([B] ∷ [B] ∷ [])
     λ a b. not (is_before (λ x y. not x && y) ◌=ᴮ◌ b a)
 row_at builtin.FznIncreasingInt =
-    row ("fzn_increasing_int" ∷ []) ([I] ∷ []) λ a. all_neighbours int_le a
+    row ("fzn_increasing_int" ∷ "increasing_int" ∷ []) ([I] ∷ []) λ a. all_neighbours int_le a
 row_at builtin.FznIncreasingBool =
     row ("fzn_increasing_bool" ∷ []) ([B] ∷ []) λ a. all_neighbours (λ x y. not x || y) a
 row_at builtin.FznDecreasingInt =
-    row ("fzn_decreasing_int" ∷ []) ([I] ∷ []) λ a. all_neighbours (λ x y. int_le y x) a
+    row ("fzn_decreasing_int" ∷ "decreasing_int" ∷ []) ([I] ∷ [])
+    λ a. all_neighbours (λ x y. int_le y x) a
 row_at builtin.FznDecreasingBool =
     row ("fzn_decreasing_bool" ∷ []) ([B] ∷ []) λ a. all_neighbours (λ x y. not y || x) a
 row_at builtin.FznStrictlyIncreasingInt =
@@ -309,10 +353,13 @@ row_at builtin.FznValuePrecedeChainInt =
     λ a b. all_neighbours (λ s t. precedes s t b) a
 row_at builtin.FznSeqPrecedeChainInt =
     row ("fzn_seq_precede_chain_int" ∷ []) ([I] ∷ []) λ a. rises_by_one (pos 0) a
-row_at builtin.FznSort = row ("fzn_sort" ∷ []) ([I] ∷ [I] ∷ []) λ a b. is_sorted_form a b
-row_at builtin.FznMemberInt = row ("fzn_member_int" ∷ []) ([I] ∷ I ∷ []) λ a b. is_among b a
+row_at builtin.FznSort = row ("fzn_sort" ∷ "sort" ∷ []) ([I] ∷ [I] ∷ []) λ a b. is_sorted_form a b
+row_at builtin.FznMemberInt =
+    row ("fzn_member_int" ∷ "gecode_member_int" ∷ "member_int" ∷ []) ([I] ∷ I ∷ [])
+    λ a b. is_among b a
 row_at builtin.FznMemberBool =
-    row ("fzn_member_bool" ∷ []) ([B] ∷ B ∷ []) λ a b. list_any (λ x. x =ᴮ b) a
+    row ("fzn_member_bool" ∷ "gecode_member_bool" ∷ []) ([B] ∷ B ∷ [])
+    λ a b. list_any (λ x. x =ᴮ b) a
 row_at builtin.GecodeMaximumArgIntOffset =
     row ("gecode_maximum_arg_int_offset" ∷ []) ([I] ∷ I ∷ I ∷ [])
     λ a b c. is_index_of_best (λ x m. int_le x m) a b c
@@ -327,22 +374,27 @@ row_at builtin.GecodeLinkSetToBooleans =
     row ("gecode_link_set_to_booleans" ∷ []) (S ∷ [B] ∷ I ∷ []) λ a b c. is_flagged a b c
 row_at builtin.GecodeIntSetChannel =
     row ("gecode_int_set_channel" ∷ []) ([I] ∷ I ∷ [S] ∷ I ∷ []) λ a b c d. are_channelled a b c d
-row_at builtin.FznDisjoint = row ("fzn_disjoint" ∷ []) (S ∷ S ∷ []) λ a b. are_disjoint a b
+row_at builtin.FznDisjoint =
+    row ("fzn_disjoint" ∷ "disjoint" ∷ []) (S ∷ S ∷ []) λ a b. are_disjoint a b
 row_at builtin.FznPartitionSet =
-    row ("fzn_partition_set" ∷ "gecode_array_set_partition" ∷ []) ([S] ∷ S ∷ [])
+    row ("fzn_partition_set" ∷ "gecode_array_set_partition" ∷ "array_set_partition" ∷ [])
+    ([S] ∷ S ∷ [])
     λ a b. is_partition a b
 
 -- all of them, in the order of the table
 unfoldable pub builtins : List Builtin
 builtins =
-    builtin.IntEq ∷ builtin.IntNe ∷ builtin.IntLe ∷ builtin.IntLt ∷ builtin.IntLinEq ∷
-    builtin.IntLinNe ∷ builtin.IntLinLe ∷ builtin.IntPlus ∷ builtin.IntTimes ∷ builtin.IntMin ∷
-    builtin.IntMax ∷ builtin.IntAbs ∷ builtin.IntDiv ∷ builtin.IntMod ∷ builtin.ArrayIntElement ∷
-    builtin.ArrayIntMaximum ∷ builtin.ArrayIntMinimum ∷ builtin.FznAllDifferentInt ∷
-    builtin.BoolEq ∷ builtin.BoolLe ∷ builtin.BoolLt ∷ builtin.BoolNot ∷ builtin.BoolAnd ∷
-    builtin.BoolOr ∷ builtin.BoolXor ∷ builtin.ArrayBoolAnd ∷ builtin.ArrayBoolOr ∷
+    builtin.IntEq ∷ builtin.IntNe ∷ builtin.IntLe ∷ builtin.IntLt ∷ builtin.IntGe ∷ builtin.IntGt ∷
+    builtin.IntLinEq ∷ builtin.IntLinNe ∷ builtin.IntLinLe ∷ builtin.IntPlus ∷ builtin.IntMinus ∷
+    builtin.IntTimes ∷ builtin.IntMin ∷ builtin.IntMax ∷ builtin.IntAbs ∷ builtin.IntNegate ∷
+    builtin.IntDiv ∷ builtin.IntMod ∷ builtin.ArrayIntElement ∷ builtin.ArrayIntMaximum ∷
+    builtin.ArrayIntMinimum ∷ builtin.FznAllDifferentInt ∷ builtin.BoolEq ∷ builtin.BoolLe ∷
+    builtin.BoolLt ∷ builtin.BoolGe ∷ builtin.BoolGt ∷ builtin.BoolNot ∷ builtin.BoolAnd ∷
+    builtin.BoolOr ∷ builtin.BoolXor ∷ builtin.BoolAndImp ∷ builtin.BoolOrImp ∷ builtin.BoolXorImp ∷
+    builtin.ArrayBoolAnd ∷ builtin.ArrayBoolOr ∷ builtin.ArrayBoolAndImp ∷ builtin.ArrayBoolOrImp ∷
     builtin.ArrayBoolXor ∷ builtin.ArrayBoolElement ∷ builtin.BoolClause ∷ builtin.Bool2Int ∷
-    builtin.BoolLinEq ∷ builtin.BoolLinLe ∷ builtin.SetIn ∷ builtin.SetEq ∷ builtin.SetNe ∷
+    builtin.BoolLinEq ∷ builtin.BoolLinLe ∷ builtin.BoolLinNe ∷ builtin.BoolLinLt ∷
+    builtin.BoolLinGe ∷ builtin.BoolLinGt ∷ builtin.SetIn ∷ builtin.SetEq ∷ builtin.SetNe ∷
     builtin.SetSubset ∷ builtin.SetSuperset ∷ builtin.SetUnion ∷ builtin.SetIntersect ∷
     builtin.SetDiff ∷ builtin.SetSymdiff ∷ builtin.SetCard ∷ builtin.ArraySetElement ∷
     builtin.FznAlldifferentExcept0 ∷ builtin.FznAllEqualInt ∷ builtin.FznCountEq ∷

@@ -1,6 +1,7 @@
 //! A builtin, or one of its reified forms.
 
-ghost use Rattle.std.specs.Prelude.{◌≡◌, ◌++◌, IfNone, IfSome, List, MatchOption, None, Some, ℕ, map};
+ghost use Rattle.std.specs.Prelude.{◌≡◌, ◌++◌, IfNone, IfSome, List, MatchOption, None, Some, ℕ, find, map};
+ghost use Rattle.fz_meaning.specs.Builtins.{base_rows, is_named};
 ghost use Rattle.fz_meaning.specs.Known.{HasTruth, as_result, known_row, row_named, shape_of, suffix_of};
 ghost use Rattle.fz_meaning.specs.Results.{result_of};
 
@@ -50,11 +51,8 @@ impl Known {
         ensures has_row { IfSome result (λ k. row_named name.now ≡ Some (known_row k)) }
         ensures none { IfNone result (row_named name.now ≡ None) }
     {
-        if let Some(base) = without(name, b"_reif") {
-            return Known::in_form(base, Form::Reified);
-        }
-        if let Some(base) = without(name, b"_imp") {
-            return Known::in_form(base, Form::Implied);
+        if let Some(known) = Known::form_called(name) {
+            return Some(known);
         }
         let builtin = Builtin::called(name)?;
         Some(Known {
@@ -63,12 +61,27 @@ impl Known {
         })
     }
 
+    // The reified form that has the name, if there is one. A base row's name may end like one.
+    fn form_called(name: &[u8]) -> Option<Known>
+        ensures has_row { IfSome result (λ k. row_named name.now ≡ Some (known_row k)) }
+        ensures none { IfNone result (row_named name.now ≡ find (is_named name.now) base_rows) }
+    {
+        if let Some(base) = without(name, b"_reif") {
+            return Known::in_form(base, Form::Reified);
+        }
+        if let Some(base) = without(name, b"_imp") {
+            return Known::in_form(base, Form::Implied);
+        }
+        None
+    }
+
     // The reified form, of this kind, of the base row of this name.
     fn in_form(base: &[u8], form: Form) -> Option<Known>
         requires { HasTruth form }
         ensures has_row { IfSome result
             (λ k. row_named (base.now ++ suffix_of form) ≡ Some (known_row k)) }
-        ensures none { IfNone result (row_named (base.now ++ suffix_of form) ≡ None) }
+        ensures none { IfNone result (row_named (base.now ++ suffix_of form)
+            ≡ find (is_named (base.now ++ suffix_of form)) base_rows) }
     {
         let builtin = Builtin::called(base)?;
         let BaseRow(_, _, _, has_forms) = builtin.base_row();

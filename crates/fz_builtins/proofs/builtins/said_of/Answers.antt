@@ -23,6 +23,14 @@ pub returns-in-IntLt : goal.returns-in-IntLt
 unfolding row_outcome row_at result_of
 returns-in-IntLt c = rw c.in-IntLt.is (ap Truth (search rules), tt)
 
+pub returns-in-IntGe : goal.returns-in-IntGe
+unfolding row_outcome row_at result_of
+returns-in-IntGe c = rw c.in-IntGe.is (ap Truth (search rules), tt)
+
+pub returns-in-IntGt : goal.returns-in-IntGt
+unfolding row_outcome row_at result_of
+returns-in-IntGt c = rw c.in-IntGt.is (ap Truth (search rules), tt)
+
 pub returns-in-IntLinEq : goal.returns-in-IntLinEq
 unfolding row_outcome row_at result_of
 returns-in-IntLinEq c = rw c.in-IntLinEq.is (c.int_lin_eq.ensures ∙ one_sum _ _, tt)
@@ -39,6 +47,10 @@ pub returns-in-IntPlus : goal.returns-in-IntPlus
 unfolding result_of row_at
 returns-in-IntPlus c = rw c.in-IntPlus.is ((refl, refl, refl), number_is {x = c.sum.result} (search rules) (search rules))
 
+pub returns-in-IntMinus : goal.returns-in-IntMinus
+unfolding result_of row_at
+returns-in-IntMinus c = rw c.in-IntMinus.is ((refl, refl, refl), number_is c.int_minus.ensures (search rules))
+
 pub returns-in-IntTimes : goal.returns-in-IntTimes
 unfolding result_of row_at
 returns-in-IntTimes c = rw c.in-IntTimes.is ((refl, refl, refl), number_is {x = c.product.result} (search rules) (search rules))
@@ -54,6 +66,10 @@ returns-in-IntMax c = rw c.in-IntMax.is ((refl, refl, refl), number_is c.int_max
 pub returns-in-IntAbs : goal.returns-in-IntAbs
 unfolding result_of row_at
 returns-in-IntAbs c = rw c.in-IntAbs.is ((refl, refl, refl), number_is {x = c.absolute.result} (search rules) (search rules))
+
+pub returns-in-IntNegate : goal.returns-in-IntNegate
+unfolding result_of row_at
+returns-in-IntNegate c = rw c.in-IntNegate.is ((refl, refl, refl), number_is c.int_negate.ensures (search rules))
 
 pub returns-in-IntDiv : goal.returns-in-IntDiv
 unfolding result_of row_at
@@ -84,11 +100,19 @@ returns-in-BoolEq c = rw c.in-BoolEq.is c.bool_eq.ensures
 
 pub returns-in-BoolLe : goal.returns-in-BoolLe
 unfolding row_outcome row_at result_of
-returns-in-BoolLe c = rw c.in-BoolLe.is (ap Truth c.bool_le.ensures, tt)
+returns-in-BoolLe c = rw c.in-BoolLe.is (ap Truth (search rules), tt)
 
 pub returns-in-BoolLt : goal.returns-in-BoolLt
 unfolding row_outcome row_at result_of
-returns-in-BoolLt c = rw c.in-BoolLt.is (ap Truth c.bool_lt.ensures, tt)
+returns-in-BoolLt c = rw c.in-BoolLt.is (ap Truth (search rules), tt)
+
+pub returns-in-BoolGe : goal.returns-in-BoolGe
+unfolding row_outcome row_at result_of
+returns-in-BoolGe c = rw c.in-BoolGe.is (ap Truth (search rules), tt)
+
+pub returns-in-BoolGt : goal.returns-in-BoolGt
+unfolding row_outcome row_at result_of
+returns-in-BoolGt c = rw c.in-BoolGt.is (ap Truth (search rules), tt)
 
 pub returns-in-BoolNot : goal.returns-in-BoolNot
 returns-in-BoolNot c = rw c.in-BoolNot.is c.bool_not.ensures
@@ -105,6 +129,18 @@ pub returns-in-BoolXor : goal.returns-in-BoolXor
 unfolding result_of row_at
 returns-in-BoolXor c = rw c.in-BoolXor.is ((refl, refl, refl), value_is ◌=ᴮ◌ (search rules))
 
+pub returns-in-BoolAndImp : goal.returns-in-BoolAndImp
+unfolding row_outcome row_at result_of
+returns-in-BoolAndImp c = rw c.in-BoolAndImp.is (ap Truth (search rules), tt)
+
+pub returns-in-BoolOrImp : goal.returns-in-BoolOrImp
+unfolding row_outcome row_at result_of
+returns-in-BoolOrImp c = rw c.in-BoolOrImp.is (ap Truth (search rules), tt)
+
+pub returns-in-BoolXorImp : goal.returns-in-BoolXorImp
+unfolding row_outcome row_at result_of
+returns-in-BoolXorImp c = rw c.in-BoolXorImp.is (ap Truth (search rules), tt)
+
 pub returns-in-ArrayBoolAnd : goal.returns-in-ArrayBoolAnd
 unfolding result_of row_at
 returns-in-ArrayBoolAnd c = rw c.in-ArrayBoolAnd.is ((refl, refl, refl), value_is ◌=ᴮ◌ c.bool_all.ensures)
@@ -112,6 +148,14 @@ returns-in-ArrayBoolAnd c = rw c.in-ArrayBoolAnd.is ((refl, refl, refl), value_i
 pub returns-in-ArrayBoolOr : goal.returns-in-ArrayBoolOr
 unfolding result_of row_at
 returns-in-ArrayBoolOr c = rw c.in-ArrayBoolOr.is ((refl, refl, refl), value_is ◌=ᴮ◌ c.bool_any.ensures)
+
+pub returns-in-ArrayBoolAndImp : goal.returns-in-ArrayBoolAndImp
+unfolding row_outcome row_at result_of
+returns-in-ArrayBoolAndImp c = rw c.in-ArrayBoolAndImp.is (ap Truth (search rules), tt)
+
+pub returns-in-ArrayBoolOrImp : goal.returns-in-ArrayBoolOrImp
+unfolding row_outcome row_at result_of
+returns-in-ArrayBoolOrImp c = rw c.in-ArrayBoolOrImp.is (ap Truth (search rules), tt)
 
 pub returns-in-ArrayBoolXor : goal.returns-in-ArrayBoolXor
 unfolding row_outcome row_at result_of
@@ -130,11 +174,27 @@ returns-in-Bool2Int c = rw c.in-Bool2Int.is c.bool2int.ensures
 
 pub returns-in-BoolLinEq : goal.returns-in-BoolLinEq
 unfolding result_of row_at
-returns-in-BoolLinEq c = rw c.in-BoolLinEq.is ((refl, refl, refl), λ v. same_int_either_way _ v ∙ number_is c.bool_lin_eq.ensures (search rules) v)
+returns-in-BoolLinEq c = rw c.in-BoolLinEq.is ((refl, refl, refl), λ v. same_int_either_way _ v ∙ number_is c.bool_sum.ensures (search rules) v)
 
 pub returns-in-BoolLinLe : goal.returns-in-BoolLinLe
 unfolding row_outcome row_at result_of
-returns-in-BoolLinLe c = rw c.in-BoolLinLe.is (ap Truth c.bool_lin_le.ensures, tt)
+returns-in-BoolLinLe c = rw c.in-BoolLinLe.is (ap Truth (search rules), tt)
+
+pub returns-in-BoolLinNe : goal.returns-in-BoolLinNe
+unfolding row_outcome row_at result_of
+returns-in-BoolLinNe c = rw c.in-BoolLinNe.is (ap Truth (search rules), tt)
+
+pub returns-in-BoolLinLt : goal.returns-in-BoolLinLt
+unfolding row_outcome row_at result_of
+returns-in-BoolLinLt c = rw c.in-BoolLinLt.is (ap Truth (search rules), tt)
+
+pub returns-in-BoolLinGe : goal.returns-in-BoolLinGe
+unfolding row_outcome row_at result_of
+returns-in-BoolLinGe c = rw c.in-BoolLinGe.is (ap Truth (search rules), tt)
+
+pub returns-in-BoolLinGt : goal.returns-in-BoolLinGt
+unfolding row_outcome row_at result_of
+returns-in-BoolLinGt c = rw c.in-BoolLinGt.is (ap Truth (search rules), tt)
 
 pub returns-in-SetIn : goal.returns-in-SetIn
 unfolding row_outcome row_at result_of
