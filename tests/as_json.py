@@ -15,6 +15,7 @@ import sys
 TOP = os.path.dirname(os.path.dirname(os.path.abspath(__file__)))
 FOLDERS = "examples", "tests/explained", "tests/corpus/by_hand"
 OPTIONS = "", "--complete", "--cut"
+NAMES = "model.names"  # where a folder has it, it goes with what explains
 EXPLAINING = "", "--explain", "--explain=all"
 FAULTS = {
     "printed": "printed {name}",
@@ -93,8 +94,12 @@ def model_lines(it):
     return lines
 
 
+def full_name(it):
+    return f"{it['element']} ({it['name']})" if "element" in it else it["name"]
+
+
 def variable_lines(it):
-    name = f"{it['element']} ({it['name']})" if "element" in it else it["name"]
+    name = full_name(it)
     if "value" not in it:
         return [f"{name} = none: no rule gives it one; print it"]
     source = it["source"]
@@ -112,7 +117,7 @@ def message_lines(it, model, stream):
     if "left_out" in it:
         notes.insert(8, [f"... and {it['left_out']} more ..."])
     notes = [*model_lines(it), *(line for lines in notes for line in lines)]
-    notes += [f"{each['name']} = {each['value']}, fixed" for each in it.get("fixed", [])]
+    notes += [f"{full_name(each)} = {each['value']}, fixed" for each in it.get("fixed", [])]
     name = stream if re.match("printed .* differs", it["message"]) else model
     if "refused" in it and it["refused"] != "model":
         name = stream
@@ -177,7 +182,8 @@ def printed_objectives(model, stream):
 
 def faults(program, folder, model, stream, options):
     """What is wrong with the report as JSON, of a run with these options."""
-    files = *filter(None, options), model, stream
+    names = ("--names", NAMES) if options[1] and os.path.exists(os.path.join(TOP, folder, NAMES)) else ()
+    files = *filter(None, options), *names, model, stream
     out, err, status = run(program, folder, files)
     try:
         text, json_err, json_status = run(program, folder, ("--json", *files))

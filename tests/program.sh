@@ -25,7 +25,7 @@ expect() {
   fi
 }
 
-usage='usage: fzcheck show [--print-all] MODEL | check [--complete] [--cut] [--explain[=all]] [--json] MODEL [STREAM]'
+usage='usage: fzcheck show [--print-all] MODEL | check [--complete] [--cut] [--explain[=all] [--names FILE]] [--json] MODEL [STREAM]'
 accepted=$'block 1: satisfied\naccepted: blocks 1'
 printf 'x = 1;\n----------\n' >"$folder/wrong.out"
 printf 'x = 3;\n' >"$folder/open.out"
@@ -55,7 +55,7 @@ for words in help --help -h 'help check' 'check --help' 'show -h'; do
   # shellcheck disable=SC2086
   expect "a request for help: $words" 5 "$page" "$usage" "$program" $words
 done
-for word in check show --complete --cut --explain --json --print-all --version STREAM; do
+for word in check show --complete --cut --explain --names --json --print-all --version STREAM; do
   expect "help names $word" 0 '' '' grep -q -- "$word" "$folder/page"
 done
 version="fzcheck $(sed -n 's/^## \([0-9][0-9.]*\).*/\1/p' CHANGELOG.md | head -1)"
@@ -99,7 +99,7 @@ expect 'a name declared twice' 4 '' 'refused: model: DuplicateName at 25..26' \
 expect 'a model shown' 0 "$(cat examples/first.fzn)" '' "$program" show examples/first.fzn
 
 # The position of a refusal, and what is behind a verdict: the messages are files. A page has its
-# own options in a file beside them, where it has any.
+# own options in a file beside them, where it has any; those from `--names` on go with `--explain`.
 report() {
   (cd "$1" && "$program" check "${@:2}" model.fzn stream.txt 2>"$folder/told"; echo "status $?")
 }
@@ -107,13 +107,43 @@ for page in tests/explained/*/; do
   name=$(basename "$page")
   options=$(cat "$page/options.txt" 2>/dev/null)
   # shellcheck disable=SC2086
-  plain=$(report "$page" $options)
+  plain=$(report "$page" ${options%%--names*})
   refusal=$(cat "$folder/told")
   # shellcheck disable=SC2086
   expect "the report with an explanation: $name" 0 "$plain" '' printf '%s\n' "$(report "$page" --explain $options)"
   expect "explained: $name" 0 "$(cat "$page/told.txt")" '' cat "$folder/told"
   expect "the refusal alone: $name" 0 "$(grep '^refused:' "$page/told.txt")" '' printf '%s\n' "$refusal"
 done
+# The table of names: what is found in it is on the page `names`. Here are files that are none, each
+# with the byte range and the position of the line that isn't one, and what is shown of it.
+named() { printf "$1" >"$folder/t.names"; shift; "$program" check "$@" --names "$folder/t.names" "$folder/deep.fzn" "$folder/nine.out"; }
+printf 'x = 9;\ny = 1;\n----------\n' >"$folder/nine.out"
+printf 'var 0..9: x;\nvar 0..9: y :: output_var;\nconstraint int_le(x,5);\nsolve satisfy;\n' >"$folder/deep.fzn"
+columns='a line of a table of names has three columns, with a tab between two'
+no_table() {
+  expect "no table of names: $1" 4 '' "refused: names: Columns at $2
+$folder/t.names:$3:1: $columns
+$4" named "$1" --explain
+}
+no_table 'a\tb\nx\ty\tz\n' 0..3 1 $'   1 | a b\n     | ^^^'
+no_table 'a\tb\tc\nx\ty\tz\tw\n' 6..13 2 $'   2 | x y z w\n     | ^^^^^^^'
+no_table 'a\tb\tc\n\nx\ty\tz\n' 6..6 2 $'   2 | \n     | ^'
+no_table 'a\tb\tc\r\nonly' 7..11 2 $'   2 | only\n     | ^^^^'
+expect 'no table of names, as JSON' 4 '{"refused":"names","fault":"Columns","start":6,"end":10,"line":2,"column":1,"message":"'"$columns"'"}' \
+  'refused: names: Columns at 6..10' named 'a\tb\tc\nonly\n' --explain --json
+nine="$folder/deep.fzn:3:12: constraint 1 int_le fails in block 1
+   3 | constraint int_le(x,5);
+     |            ^^^^^^"
+rejected=$'block 1: violated: constraint 1 int_le\nrejected: block 1'
+expect 'an empty table of names' 1 "$rejected" "$nine"$'\n     = x = 9, printed' named '' --explain
+expect 'a table of names without an end of line' 1 "$rejected" "$nine"$'\n     = time (x) = 9, printed' named 'x\ttime\t' --explain
+expect 'a name that stays' 1 "$rejected" "$nine"$'\n     = x = 9, printed' named 'x\tx\t\nx\ttime\t\n' --explain
+awk 'BEGIN { for (i = 0; i < 100000; i++) print "X_INTRODUCED_" i "_\tlong[" i "]\tp.mzn|1|1|1|1|id|long;"; print "x\ttime\t" }' </dev/null >"$folder/long.names"
+expect 'a table of 100,000 names' 1 "$rejected" "$nine"$'\n     = time (x) = 9, printed' \
+  "$program" check --explain --names "$folder/long.names" "$folder/deep.fzn" "$folder/nine.out"
+expect 'a table of names that is not there' 6 '' $'refused: read\n'"$folder/none.names: $none" \
+  "$program" check --explain --names "$folder/none.names" "$folder/deep.fzn" "$folder/nine.out"
+wrong $'error: the following required arguments were not provided:\n  --explain[=<explain>]' check --names "$folder/t.names" examples/first.fzn
 expect 'nothing to explain' 0 "$accepted" '' "$program" check --explain examples/first.fzn examples/first.out
 # After many blocks, from a pipe: lines are counted through the whole stream.
 many() { awk 'BEGIN { for (i = 0; i < 20000; i++) print "x = 3;\n----------"; print "x = 3;\ny = 4;\n----------" }' </dev/null; }
@@ -122,7 +152,6 @@ told=$(many | "$program" check --explain examples/first.fzn 2>&1 >/dev/null)
 expect 'a fault far on in a pipe' 0 "$far" '' printf '%s' "$told"
 # A block that is violated far on in a pipe, with undecided ones before it and others behind it.
 deep() { awk 'BEGIN { for (i = 0; i < 9000; i++) print "y = 1;\n----------"; print "x = 9;\n----------"; for (i = 0; i < 9000; i++) print "x = 8;\n----------" }' </dev/null; }
-printf 'var 0..9: x;\nvar 0..9: y :: output_var;\nconstraint int_le(x,5);\nsolve satisfy;\n' >"$folder/deep.fzn"
 deep | "$program" check --explain "$folder/deep.fzn" 2>"$folder/told" >/dev/null
 expect 'a verdict far on in a pipe' 0 "$folder/deep.fzn:3:12: constraint 1 int_le fails in block 9001
    3 | constraint int_le(x,5);
@@ -147,7 +176,8 @@ far | "$program" check --explain "$folder/far.fzn" 2>"$folder/told" >/dev/null
 expect 'a printed value far on in a pipe' 0 '(standard input):602:1: printed a differs in block 301
    602 | a = array1d(1..1,[4]);
        | ^
-       = a[1] (x) = 3, printed' '' cat "$folder/told"
+       = a[1] (x) = 3, printed
+       = a[1] is printed as 4 here' '' cat "$folder/told"
 far | "$program" check --json "$folder/far.fzn" >"$folder/lines"
 expect 'a printed value far on in a pipe, as JSON' 0 '{"block":301,"verdict":"violated","point":"printed","name":"a","line":602,"column":1}' '' \
   grep violated.,.point "$folder/lines"

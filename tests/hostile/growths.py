@@ -37,6 +37,10 @@ def words_of_runs():
     page = os.path.join(ROOT, "tests", "explained", "undecided_then_violated")
     pair = os.path.join(page, "model.fzn"), os.path.join(page, "stream.txt")
     yield "undecided and then violated, explained", ["check", "--explain", *pair], b""
+    page = os.path.join(ROOT, "tests", "explained", "names")
+    names, *pair = (os.path.join(page, file) for file in ("model.names", "model.fzn", "stream.txt"))
+    yield "a table of names", ["check", "--explain", "--names", names, *pair], b""
+    yield "no table of names", ["check", "--explain", "--names", FIRST_STREAM, *pair], b""
     yield "a broken model, explained", ["check", "--explain", FIRST_STREAM, FIRST_STREAM], b""
     yield "no such file", ["check", FIRST_MODEL + ".none"], b""
     yield "wrong words", ["check", "--fast"], b""

@@ -3,7 +3,7 @@
 /// The line on standard error where the command line is wrong, or asks for help.
 pub const USAGE: &str = "\
 usage: fzcheck show [--print-all] MODEL \
-| check [--complete] [--cut] [--explain[=all]] [--json] MODEL [STREAM]";
+| check [--complete] [--cut] [--explain[=all] [--names FILE]] [--json] MODEL [STREAM]";
 
 /// The answer to `--version`: the program and its version.
 pub const VERSION: &str = "fzcheck 0.4.0";
@@ -12,7 +12,7 @@ pub const VERSION: &str = "fzcheck 0.4.0";
 pub const HELP: &str = "\
 fzcheck: checks the output of a FlatZinc solver against its model
 
-fzcheck check [--complete] [--cut] [--explain[=all]] [--json] MODEL [STREAM]
+fzcheck check [--complete] [--cut] [--explain[=all] [--names FILE]] [--json] MODEL [STREAM]
     Judges each solution block of the file STREAM, or of standard input where it is left out,
     against the model in the file MODEL. There is a line for each block and claim, and then the
     answer.
@@ -23,6 +23,9 @@ fzcheck check [--complete] [--cut] [--explain[=all]] [--json] MODEL [STREAM]
                 or where the fault stands that a refusal tells of
     --explain=all
                 the same of each block that isn't satisfied, as it comes
+    --names FILE
+                explains by the names and places in FILE, the compiler's table of names:
+                minizinc -c --output-paths-to-file FILE ..
     --json      writes the report, with what is explained, as JSON: an object on each line
     For example: fzcheck check examples/knapsack/model.fzn examples/knapsack/stream.txt
 

@@ -17,6 +17,8 @@ pub enum Request<'a> {
     Check {
         model: &'a str,
         stream: Option<&'a str>,
+        /// The file of the table of names, where one is given.
+        names: Option<&'a str>,
         options: CheckOptions,
     },
 }
@@ -118,6 +120,7 @@ fn request_of<'a>(matches: &ArgMatches<'a>) -> Result<Request<'a>, Refused> {
         Some(("check", given)) => Ok(Request::Check {
             model: model_of(given)?,
             stream: given.get_str("STREAM"),
+            names: given.get_str("names"),
             options: CheckOptions {
                 completes: given.get_flag("complete"),
                 cuts: given.get_flag("cut"),
@@ -183,7 +186,8 @@ fn check_command<'a>(alloc: Global) -> Result<Command<'a>, AllocError> {
         .arg(flag(alloc, "complete"))?
         .arg(flag(alloc, "cut"))?
         .arg(flag(alloc, "json"))?
-        .arg(explain_option(alloc))
+        .arg(explain_option(alloc))?
+        .arg(names_option(alloc)?)
 }
 
 /// What `--explain` may name; where it names nothing, it is the first.
@@ -198,6 +202,15 @@ fn explain_option<'a>(alloc: Global) -> Arg<'a> {
         .require_equals(true)
         .default_missing_value(EXPLAINED[0])
         .value_parser(EXPLAINED.as_slice())
+}
+
+/// The option that is `--names FILE`, which goes with `--explain`.
+fn names_option<'a>(alloc: Global) -> Result<Arg<'a>, AllocError> {
+    Arg::new(alloc, "names")
+        .long("names")
+        .action(ArgAction::Set)
+        .value_name("FILE")
+        .requires_arg("explain")
 }
 
 /// The program with the first of its commands.

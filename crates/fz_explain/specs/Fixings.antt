@@ -1,29 +1,30 @@
 -- What a name stands for that is no variable (this project's profile).
-use Rattle.std.specs.Prelude.{◌≡◌, ℕ, true, false, List, [], ◌∷◌, map, Some, option_map}
+use Rattle.std.specs.Prelude.{ℕ, Bool, true, false, List, [], ◌∷◌, Option, Some, None, option_map}
+use Rattle.std.specs.Option.{option_and_then}
 use Rattle.fz_base.specs.declared.value.Value.{Value}
 use Rattle.fz_judge.specs.of_model.Meaning.{Model, Place, find_name}
 use Rattle.fz_judge.specs.of_model.declared.Term.{Term}
-use Rattle.fz_judge.specs.of_model.declared.Term.TheVariants.{Fixed}
+use Rattle.fz_judge.specs.of_model.declared.Term.TheVariants.{Fixed, Var}
 use Rattle.fz_explain.specs.declared.fixed.Fixing.{Fixing}
 
--- a parameter of this one value
-pub record IsParameter (t : Term) (f : Fixing) : Type 0 where
-  pub value : Value
-  pub term : t ≡ Fixed value
-  pub is : f.values.items ≡ value ∷ []
-  pub scalar : f.is_array ≡ false
+abbrev pub fixed_value : Term → Option Value
+fixed_value (Fixed v) = Some v
+fixed_value (Var n) = None
 
--- an array of these values
-pub record AreElements (ts : List Term) (f : Fixing) : Type 0 where
-  pub terms : ts ≡ map Fixed f.values.items
-  pub array : f.is_array ≡ true
+-- the values of all of these, where none is a variable
+abbrev pub fixed_values : List Term → Option (List Value)
+fixed_values [] = Some []
+fixed_values (t ∷ ts) =
+    option_and_then (λ v. option_map (λ vs. v ∷ vs) (fixed_values ts)) (fixed_value t)
 
-abbrev pub IsFixingAt : Place → Fixing → Type 0
-IsFixingAt (Place.Scalar k t) f = IsParameter t f
-IsFixingAt (Place.Array x k ts) f = AreElements ts f
+-- whether it is an array, and the values of its elements, or its one value
+abbrev pub fixing_at : Place → Option (Bool × List Value)
+fixing_at (Place.Scalar k t) = option_map (λ vs. (false, vs)) (fixed_values (t ∷ []))
+fixing_at (Place.Array x k ts) = option_map (λ vs. (true, vs)) (fixed_values ts)
 
--- what is told of the name is what it stands for in the model
-pub record IsFixing (m : Model) (x : List ℕ) (f : Fixing) : Type 0 where
-  pub place : Place
-  pub found : find_name m x ≡ Some place
-  pub is : IsFixingAt place f
+-- the same of a name in the model; none where it stands for nothing, or a variable is in it
+abbrev pub fixing : Model → List ℕ → Option (Bool × List Value)
+fixing m x = option_and_then fixing_at (find_name m x)
+
+abbrev pub fixing_view : Fixing → Bool × List Value
+fixing_view f = (f.is_array, f.values.items)

@@ -5,8 +5,5 @@ pub mod Told
 pub mod Explained
 pub mod Domains
 pub mod Leaving
-pub mod Lines
-pub mod Annotations
-pub mod Elements
-pub mod Paths
 pub mod Fixings
+pub mod Differing

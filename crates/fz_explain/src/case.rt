@@ -6,6 +6,7 @@ use fz_judge::fz_model::Model;
 use fz_judge::fz_stream::Block;
 use fz_judge::fz_syntax::{Ast, parse};
 use fz_judge::{Verdict, fill_with_steps};
+use fz_places::NameTable;
 use std::alloc::{AllocError, Global};
 
 /// A block with its number, the verdict on it and its text, which is a part of the stream's.
@@ -19,18 +20,21 @@ pub struct Case<'e, 'a> {
 
 /// Explains the verdicts on blocks. The text of the model is parsed at the first explanation.
 #[derive(Drop)]
-pub struct Explainer<'a> {
+pub struct Explainer<'a, 'n> {
     text: Text<'a>,
     ast: Option<Ast<'a>>,
+    names: NameTable<'n>,
     completes: bool,
 }
 
-impl<'a> Explainer<'a> {
-    /// Takes the text of the model, and whether values that the solver left out are looked for.
-    pub fn new(text: Text<'a>, completes: bool) -> Explainer<'a> {
+impl<'a, 'n> Explainer<'a, 'n> {
+    /// Takes the text of the model, the table of its names, and whether values that the solver left
+    /// out are looked for.
+    pub fn new(text: Text<'a>, names: NameTable<'n>, completes: bool) -> Explainer<'a, 'n> {
         Explainer {
             text,
             ast: None,
+            names,
             completes,
         }
     }
@@ -100,6 +104,7 @@ impl<'a> Explainer<'a> {
             model,
             text: self.text,
             ast,
+            names: &self.names,
             completes: self.completes,
             filling: &filling,
             steps: &steps,

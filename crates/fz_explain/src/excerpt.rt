@@ -1,6 +1,6 @@
 //! The line of a text that a message shows, cut to the columns of a message.
 
-use crate::lines::Spot;
+use fz_places::Spot;
 use std::alloc::{AllocError, Global};
 use unicode_width::UnicodeWidthChar;
 

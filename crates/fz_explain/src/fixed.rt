@@ -1,10 +1,9 @@
 //! Parameters, and arrays of fixed values, by their names.
 
-ghost use Rattle.std.specs.Prelude.{◌≡◌, ◌++◌, IfOk, IfSome, map};
+ghost use Rattle.std.specs.Prelude.{◌≡◌, [], ◌∷◌, IfOk, false, map, option_map};
 ghost use Rattle.fz_judge.specs.of_model.Shown.{scalar_terms};
 ghost use Rattle.fz_judge.specs.of_model.Slots.{scalar_term, slot_term};
-ghost use Rattle.fz_judge.specs.of_model.declared.Term.TheVariants.{Fixed};
-ghost use Rattle.fz_explain.specs.Fixings.{AreElements, IsFixing, IsParameter};
+ghost use Rattle.fz_explain.specs.Fixings.{fixed_value, fixed_values, fixing, fixing_view};
 
 use fz_base::Value;
 use fz_judge::fz_model::{Model, Scalar, Scalars, What, scalar_at};
@@ -19,7 +18,7 @@ pub struct Fixing {
 
 /// The value of a scalar that is no variable.
 fn value_of(alloc: Global, scalar: Scalar<'_>) -> Result<Option<Value>, AllocError>
-    ensures { IfOk result (λ o. IfSome o (λ v. scalar_term scalar.entry ≡ Fixed v)) }
+    ensures { IfOk result (λ o. o ≡ fixed_value (scalar_term scalar.entry)) }
 {
     match scalar {
         Scalar::Variable(_) => Ok(None),
@@ -31,7 +30,8 @@ fn value_of(alloc: Global, scalar: Scalar<'_>) -> Result<Option<Value>, AllocErr
 
 /// The values of scalars of which none is a variable.
 fn values_of(alloc: Global, scalars: Scalars<'_>) -> Result<Option<Vec<Value>>, AllocError>
-    ensures { IfOk result (λ o. IfSome o (λ v. scalar_terms scalars.entry ≡ map Fixed v.items)) }
+    ensures { IfOk result (λ o. option_map (λ v. v.items) o
+        ≡ fixed_values (scalar_terms scalars.entry)) }
 {
     let mut values = Vec::new(alloc);
     for slot in scalars.slots {
@@ -43,7 +43,8 @@ fn values_of(alloc: Global, scalars: Scalars<'_>) -> Result<Option<Vec<Value>>, 
     Ok(Some(values))
 }
 
-/// What a name stands for, where that is a parameter, or an array without variables.
+/// What a name stands for, where that is a parameter, or an array without variables; none where
+/// it stands for anything else, or for nothing.
 ///
 /// # Errors
 ///
@@ -53,7 +54,7 @@ pub fn fixing_of(
     model: &Model<'_>,
     name: &[u8],
 ) -> Result<Option<Fixing>, AllocError>
-    ensures { IfOk result (λ o. IfSome o (IsFixing model.now name.now)) }
+    ensures { IfOk result (λ o. option_map fixing_view o ≡ fixing model.now name.now) }
 {
     let Some(found) = model.find(name) else {
         return Ok(None);
@@ -74,7 +75,8 @@ pub fn fixing_of(
 
 /// The value of a parameter.
 fn parameter(alloc: Global, scalar: Scalar<'_>) -> Result<Option<Fixing>, AllocError>
-    ensures { IfOk result (λ o. IfSome o (IsParameter (scalar_term scalar.entry))) }
+    ensures { IfOk result (λ o. option_map fixing_view o
+        ≡ option_map (λ vs. (false, vs)) (fixed_values (scalar_term scalar.entry ∷ []))) }
 {
     let Some(value) = value_of(alloc, scalar)? else {
         return Ok(None);

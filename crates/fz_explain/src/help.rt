@@ -23,7 +23,7 @@ const TIGHTEN_DOMAINS: &str = "tighten the domains, so that no sum leaves 128 bi
 /// Adds what to do about a block that is undecided.
 pub(crate) fn note_help(
     alloc: Global,
-    reading: &Reading<'_, '_, '_, '_>,
+    reading: &Reading<'_, '_, '_, '_, '_>,
     message: &mut Message,
 ) -> Result<(), AllocError> {
     let case = reading.case;
@@ -46,7 +46,7 @@ fn note(alloc: Global, message: &mut Message, told: &str) -> Result<(), AllocErr
 /// the first one of the model is named.
 fn note_help_on_value(
     alloc: Global,
-    reading: &Reading<'_, '_, '_, '_>,
+    reading: &Reading<'_, '_, '_, '_, '_>,
     message: &mut Message,
 ) -> Result<(), AllocError> {
     if let Some((number, name)) = first_unknown(reading.model) {

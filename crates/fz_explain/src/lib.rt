@@ -5,20 +5,19 @@
 //! words and layout, which `tests/explained` tests.
 #![tactic(auto)]
 
-mod annotation;
 mod case;
+mod differing;
 mod domain;
-mod element;
 mod excerpt;
 mod explained;
 mod failing;
 mod fixed;
 mod help;
-mod lines;
 mod message;
+mod naming;
 mod notes;
-mod path;
 mod place;
+mod printed;
 mod remarks;
 mod scalars;
 mod sentence;
@@ -28,17 +27,18 @@ mod variables;
 mod verdict;
 
 pub use case::{Case, Explainer};
+pub use differing::first_differing;
 pub use domain::declared_domain;
-pub use element::{Element, element_of};
 pub use explained::{Explained, Explanation, explain};
 pub use failing::{Sought, first_point};
 pub use fixed::{Fixing, fixing_of};
 pub use fz_base::{Range, Value};
 pub use fz_judge::Giver;
-pub use lines::{Spot, spot_of};
+pub use fz_places::{
+    Element, ModelPlace, NameLine, NameTable, Spot, TableError, element_of, model_place, spot_of,
+};
 pub use message::{Message, Text, message_at};
 pub use notes::{FixedNote, MOST_RANGES, Note, Origin};
-pub use path::{ModelPlace, model_place};
 pub use place::point_place;
 pub use remarks::Remarks;
 pub use source::{Source, sources_are_earlier};

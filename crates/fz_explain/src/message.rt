@@ -2,15 +2,15 @@
 //! notes. Its text is as a compiler writes it, with the line of the source and marks below.
 
 ghost use Rattle.std.specs.Prelude.{◌≡◌, ◌+◌, ◌-◌, ◌<◌, suc, take, min, IfSome, IsNone};
-ghost use Rattle.fz_explain.specs.Lines.{characters, last_line, line_ends};
+ghost use Rattle.fz_places.specs.Lines.{characters, last_line, line_ends};
 
 use crate::excerpt::Excerpt;
 use crate::explained::FIRST_VARIABLES;
-use crate::lines::{Spot, spot_of};
-use crate::notes::{FixedNote, Note, giver_lines, note_text};
+use crate::notes::{FixedNote, Note, fixed_text, giver_lines, note_text};
 use crate::remarks::Remarks;
 use fz_base::Span;
 use fz_files::Passed;
+use fz_places::{Spot, spot_of};
 use std::alloc::{AllocError, Global};
 
 /// A file or a stream by its name, of which the bytes behind what has passed are given.
@@ -84,8 +84,9 @@ impl Message {
                 writeln!(text, "{:digits$}    =   {told}", "")?;
             }
         }
-        for FixedNote { name, value } in &self.fixed {
-            writeln!(text, "{:digits$}    = {name} = {value}, fixed", "")?;
+        for note in &self.fixed {
+            let told = fixed_text(alloc, note)?;
+            writeln!(text, "{:digits$}    = {told}", "")?;
         }
         for told in &self.notes {
             writeln!(text, "{:digits$}    = {told}", "")?;

@@ -1,19 +1,19 @@
 //! The notes of a message on variables, with their values and where these come from, and on
 //! domains.
 
-use crate::element::{Element, element_of};
 use crate::excerpt::shown_text;
 use crate::explained::{Explained, FIRST_VARIABLES, MOST_VARIABLES, explain};
 use crate::fixed::{Fixing, fixing_of};
-use crate::lines::spot_of;
 use crate::message::Message;
+use crate::naming::model_name;
 use crate::place::point_place;
 use crate::remarks::{Remarks, remarks_on};
 use crate::source::Source;
 use crate::verdict::Reading;
 use fz_base::{IntSet, Range, Value};
 use fz_judge::fz_model::{Domain, Model, Point};
-use fz_judge::fz_syntax::{Ast, Basic, Constraint, Expr};
+use fz_judge::fz_syntax::{Basic, Constraint, Expr};
+use fz_places::spot_of;
 use std::alloc::{AllocError, Global};
 
 /// The most ranges of a set that are shown.
@@ -23,7 +23,7 @@ pub const MOST_RANGES: usize = 8;
 #[derive(Drop)]
 pub struct Note {
     pub name: String,
-    /// The element of a printed array that it is, as `a[1,2]`.
+    /// Its name in the MiniZinc model, as `a[1,2]`, where that is another.
     pub element: Option<String>,
     pub value: Option<Value>,
     pub origin: Origin,
@@ -33,6 +33,8 @@ pub struct Note {
 #[derive(Drop)]
 pub struct FixedNote {
     pub name: String,
+    /// Its name in the MiniZinc model, where that is another.
+    pub element: Option<String>,
     pub value: String,
 }
 
@@ -50,7 +52,7 @@ pub enum Origin {
 /// Adds notes on variables: of more than twelve, on the first eight and the last four.
 pub(crate) fn note_variables(
     alloc: Global,
-    reading: &Reading<'_, '_, '_, '_>,
+    reading: &Reading<'_, '_, '_, '_, '_>,
     message: &mut Message,
     variables: &[usize],
 ) -> Result<(), AllocError> {
@@ -64,13 +66,13 @@ pub(crate) fn note_variables(
 
 fn note_on(
     alloc: Global,
-    reading: &Reading<'_, '_, '_, '_>,
+    reading: &Reading<'_, '_, '_, '_, '_>,
     explained: Explained,
 ) -> Result<Note, AllocError> {
     let name = name_at(reading.model, explained.variable);
     Ok(Note {
         name: shown_text(alloc, name)?,
-        element: element_text(alloc, reading.ast, name)?,
+        element: model_name(alloc, reading, name)?,
         origin: origin_of(alloc, reading, explained.source)?,
         value: explained.value,
     })
@@ -78,7 +80,7 @@ fn note_on(
 
 /// The note in words.
 pub(crate) fn note_text(alloc: Global, note: &Note) -> Result<String, AllocError> {
-    let name = name_text(alloc, note)?;
+    let name = name_text(alloc, &note.name, &note.element)?;
     let origin = origin_text(alloc, &note.origin)?;
     match &note.value {
         Some(value) => {
@@ -97,9 +99,19 @@ pub(crate) fn giver_lines(alloc: Global, note: &Note) -> Result<Vec<String>, All
     }
 }
 
-/// The name of a variable, behind the element that it is.
-fn name_text(alloc: Global, note: &Note) -> Result<String, AllocError> {
-    let Note { name, element, .. } = note;
+/// The note on what is fixed in words.
+pub(crate) fn fixed_text(alloc: Global, note: &FixedNote) -> Result<String, AllocError> {
+    let FixedNote {
+        name,
+        element,
+        value,
+    } = note;
+    let name = name_text(alloc, name, element)?;
+    format!(in alloc; "{name} = {value}, fixed")
+}
+
+/// A name, behind the one in the MiniZinc model.
+fn name_text(alloc: Global, name: &str, element: &Option<String>) -> Result<String, AllocError> {
     match element {
         Some(element) => format!(in alloc; "{element} ({name})"),
         None => String::from_str(alloc, name),
@@ -123,24 +135,9 @@ fn name_at<'m>(model: &'m Model<'_>, variable: usize) -> &'m [u8] {
     }
 }
 
-/// The element of a printed array that a name is.
-fn element_text(alloc: Global, ast: &Ast<'_>, name: &[u8]) -> Result<Option<String>, AllocError> {
-    let Some(Element { array, indices }) = element_of(alloc, ast, name)? else {
-        return Ok(None);
-    };
-    let mut text = shown_text(alloc, array)?;
-    text.push_str("[")?;
-    for (place, index) in indices.iter().enumerate() {
-        let comma = if place > 0 { "," } else { "" };
-        write!(text, "{comma}{index}")?;
-    }
-    text.push_str("]")?;
-    Ok(Some(text))
-}
-
 fn origin_of(
     alloc: Global,
-    reading: &Reading<'_, '_, '_, '_>,
+    reading: &Reading<'_, '_, '_, '_, '_>,
     source: Source,
 ) -> Result<Origin, AllocError> {
     match source {
@@ -155,7 +152,7 @@ fn origin_of(
 /// The point that gave a value.
 fn giver_of(
     alloc: Global,
-    reading: &Reading<'_, '_, '_, '_>,
+    reading: &Reading<'_, '_, '_, '_, '_>,
     point: &Point<'_>,
 ) -> Result<Origin, AllocError> {
     let text = reading.text;
@@ -176,12 +173,12 @@ fn giver_of(
         Point::Constraint(number, name) => {
             let name = shown_text(alloc, name)?;
             let giver = format!(in alloc; "constraint {number} {name}")?;
-            Ok(Origin::Given(giver, line, remarks_on(alloc, reading.ast, point)?))
+            Ok(Origin::Given(giver, line, remarks_on(alloc, reading, point)?))
         }
     }
 }
 
-fn value_text(alloc: Global, value: &Value) -> Result<String, AllocError> {
+pub(crate) fn value_text(alloc: Global, value: &Value) -> Result<String, AllocError> {
     match value {
         Value::Int(number) => format!(in alloc; "{number}"),
         Value::Bool(truth) => format!(in alloc; "{truth}"),
@@ -213,7 +210,7 @@ fn set_text(alloc: Global, set: &IntSet) -> Result<String, AllocError> {
 /// Adds notes on the parameters and the arrays without variables that a constraint names.
 pub(crate) fn note_fixed(
     alloc: Global,
-    reading: &Reading<'_, '_, '_, '_>,
+    reading: &Reading<'_, '_, '_, '_, '_>,
     message: &mut Message,
     constraint: &Constraint<'_>,
 ) -> Result<(), AllocError> {
@@ -232,7 +229,7 @@ pub(crate) fn note_fixed(
 
 fn note_basic(
     alloc: Global,
-    reading: &Reading<'_, '_, '_, '_>,
+    reading: &Reading<'_, '_, '_, '_, '_>,
     message: &mut Message,
     basic: &Basic<'_>,
 ) -> Result<(), AllocError> {
@@ -245,7 +242,12 @@ fn note_basic(
     }
     if let Some(fixing) = fixing_of(alloc, reading.model, named.text)? {
         let value = fixing_text(alloc, &fixing)?;
-        message.fixed.push(FixedNote { name, value })?;
+        let element = model_name(alloc, reading, named.text)?;
+        message.fixed.push(FixedNote {
+            name,
+            element,
+            value,
+        })?;
     }
     Ok(())
 }
@@ -287,7 +289,7 @@ fn fixing_text(alloc: Global, fixing: &Fixing) -> Result<String, AllocError> {
 /// Adds the note on the domain of a name; there is none on a domain of all values.
 pub(crate) fn note_domain(
     alloc: Global,
-    reading: &Reading<'_, '_, '_, '_>,
+    reading: &Reading<'_, '_, '_, '_, '_>,
     message: &mut Message,
     point: &Point<'_>,
     domain: &Domain,
@@ -298,7 +300,7 @@ pub(crate) fn note_domain(
         Domain::Among(set) => set_text(alloc, set)?,
     };
     let (Point::Domain(name) | Point::Definition(name) | Point::Constraint(_, name)) = point;
-    let name = match element_text(alloc, reading.ast, name)? {
+    let name = match model_name(alloc, reading, name)? {
         Some(element) => element,
         None => shown_text(alloc, name)?,
     };

@@ -1,12 +1,12 @@
 //! What the MiniZinc compiler wrote at a point on where it is from: the names of a constraint and of
 //! its expression, and the path to it in the model.
 
-use crate::annotation::text_of;
 use crate::excerpt::{cut_text, shown_text};
-use crate::path::{ModelPlace, model_place};
 use crate::place::point_notes;
+use crate::verdict::Reading;
 use fz_judge::fz_model::Point;
-use fz_judge::fz_syntax::{Ast, Note};
+use fz_judge::fz_syntax::Note;
+use fz_places::{ModelPlace, NameLine, NameTable, model_place, text_of};
 use std::alloc::{AllocError, Global};
 
 /// What the compiler wrote at a point.
@@ -96,19 +96,40 @@ fn loop_text(alloc: Global, value: &[u8]) -> Result<String, AllocError> {
 /// What the compiler wrote at a point.
 pub(crate) fn remarks_on(
     alloc: Global,
-    ast: &Ast<'_>,
+    reading: &Reading<'_, '_, '_, '_, '_>,
     point: &Point<'_>,
 ) -> Result<Remarks, AllocError> {
     let mut remarks = Remarks::none(alloc);
-    let Some(notes) = point_notes(ast, point) else {
+    let Some(notes) = point_notes(reading.ast, point) else {
         return Ok(remarks);
     };
     remarks.add_name(alloc, notes, b"mzn_constraint_name")?;
     remarks.add_name(alloc, notes, b"mzn_expression_name")?;
-    if let Some(path) = text_of(notes, b"mzn_path") {
-        remarks.add_path(alloc, unquoted(path))?;
+    match line_of(alloc, reading.names, point)? {
+        Some(line) if !line.path.is_empty() => remarks.add_path(alloc, line.path)?,
+        _ => {
+            if let Some(path) = text_of(notes, b"mzn_path") {
+                remarks.add_path(alloc, unquoted(path))?;
+            }
+        }
     }
     Ok(remarks)
+}
+
+/// The line of a point in the table of names, where a constraint has its number, from 0.
+fn line_of<'n>(
+    alloc: Global,
+    names: &NameTable<'n>,
+    point: &Point<'_>,
+) -> Result<Option<NameLine<'n>>, AllocError> {
+    match point {
+        Point::Domain(name) | Point::Definition(name) => Ok(names.find(name)),
+        Point::Constraint(number, _) => {
+            let index = number.saturating_sub(1);
+            let number = format!(in alloc; "{index}")?;
+            Ok(names.find(number.as_bytes()))
+        }
+    }
 }
 
 /// A text without the quotes around it.

@@ -11,23 +11,26 @@ use crate::help::note_help;
 use crate::message::{Message, Text, message_at};
 use crate::notes::{note_domain, note_fixed, note_variables};
 use crate::place::{constraint_of, point_place};
+use crate::printed::{note_printed, printed_place};
 use crate::remarks::remarks_on;
 use crate::sentence::sentence;
 use crate::sums::too_large_at;
 use crate::variables::variables_of;
 use fz_base::Span;
-use fz_judge::fz_model::{Goal, Model, Partial, Point, Scalar, Term, What, scalar_at};
+use fz_judge::fz_model::{Goal, Model, Partial, Point, Term};
 use fz_judge::fz_syntax::{Ast, Basic, Goal as GoalItem};
 use fz_judge::{Fault, Giver, Reason, Verdict};
+use fz_places::NameTable;
 use std::alloc::{AllocError, Global};
 
-/// A case with the model's text and tree, and the block's filling with its steps.
+/// A case with the model's text, tree and table of names, and the block's filling with its steps.
 #[derive(Clone, Copy)]
-pub(crate) struct Reading<'s, 'e, 'a, 't> {
+pub(crate) struct Reading<'s, 'e, 'a, 't, 'n> {
     pub case: &'s Case<'e, 'a>,
     pub model: &'s Model<'a>,
     pub text: Text<'t>,
     pub ast: &'s Ast<'t>,
+    pub names: &'s NameTable<'n>,
     pub completes: bool,
     pub filling: &'s Partial,
     pub steps: &'s [Giver],
@@ -71,7 +74,7 @@ pub(crate) fn verdict_place<'t>(
 /// The message on the verdict of a case.
 pub(crate) fn verdict_message(
     alloc: Global,
-    reading: &Reading<'_, '_, '_, '_>,
+    reading: &Reading<'_, '_, '_, '_, '_>,
 ) -> Result<Option<Message>, AllocError> {
     let case = reading.case;
     let Some((text, place)) = verdict_place(reading.ast, reading.text, case) else {
@@ -87,8 +90,7 @@ pub(crate) fn verdict_message(
     match case.verdict {
         Verdict::Satisfied => {}
         Verdict::Violated(Fault::Printed(name)) => {
-            let variables = variables_named(alloc, reading.model, name)?;
-            note_variables(alloc, reading, &mut message, &variables)?;
+            note_printed(alloc, reading, &mut message, name)?;
         }
         Verdict::Violated(Fault::NotBetter(now, before))
         | Verdict::Undecided(Reason::NotShownBetter(now, before)) => {
@@ -104,7 +106,7 @@ pub(crate) fn verdict_message(
 /// Adds notes on the first point of the kind that is sought.
 fn note_sought(
     alloc: Global,
-    reading: &Reading<'_, '_, '_, '_>,
+    reading: &Reading<'_, '_, '_, '_, '_>,
     message: &mut Message,
     sought: Sought,
 ) -> Result<(), AllocError> {
@@ -119,11 +121,11 @@ fn note_sought(
 /// the values that are fixed.
 fn note_text(
     alloc: Global,
-    reading: &Reading<'_, '_, '_, '_>,
+    reading: &Reading<'_, '_, '_, '_, '_>,
     message: &mut Message,
     point: &Point<'_>,
 ) -> Result<(), AllocError> {
-    message.remarks = remarks_on(alloc, reading.ast, point)?;
+    message.remarks = remarks_on(alloc, reading, point)?;
     if let Point::Constraint(number, _) = point
         && let Some(constraint) = constraint_of(reading.ast, *number)
     {
@@ -134,7 +136,7 @@ fn note_text(
 
 fn note_point(
     alloc: Global,
-    reading: &Reading<'_, '_, '_, '_>,
+    reading: &Reading<'_, '_, '_, '_, '_>,
     message: &mut Message,
     point: usize,
 ) -> Result<(), AllocError>
@@ -154,7 +156,7 @@ fn note_point(
 
 fn note_objective(
     alloc: Global,
-    reading: &Reading<'_, '_, '_, '_>,
+    reading: &Reading<'_, '_, '_, '_, '_>,
     message: &mut Message,
     now: i64,
     before: i64,
@@ -182,43 +184,4 @@ fn basic_place(basic: &Basic<'_>) -> Span {
         Basic::Lit(literal) => literal.span,
         Basic::Named(name) => name.span,
     }
-}
-
-/// The byte range, within the stream, of a name that the block of a case prints.
-fn printed_place(case: &Case<'_, '_>, name: &[u8]) -> Option<Span> {
-    let block = case.block;
-    for item in &block.items {
-        if item.name.text == name {
-            let Span { start, end } = item.name.span;
-            return Some(Span {
-                start: block.offset.saturating_add(start),
-                end: block.offset.saturating_add(end),
-            });
-        }
-    }
-    None
-}
-
-/// The variables that a name stands for.
-fn variables_named(
-    alloc: Global,
-    model: &Model<'_>,
-    name: &[u8],
-) -> Result<Vec<usize>, AllocError> {
-    let mut variables = Vec::new(alloc);
-    let Some(found) = model.find(name) else {
-        return Ok(variables);
-    };
-    match found.what {
-        What::Scalar(Scalar::Variable(number)) => variables.push(number)?,
-        What::Scalar(_) => {}
-        What::Array(_, scalars) => {
-            for slot in scalars.slots {
-                if let Scalar::Variable(number) = scalar_at(scalars.constants, *slot) {
-                    variables.push(number)?;
-                }
-            }
-        }
-    }
-    Ok(variables)
 }

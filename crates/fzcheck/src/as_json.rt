@@ -81,6 +81,17 @@ impl Object {
         self.count("column", column)
     }
 
+    /// Where a message is, and what it says, where there is one.
+    fn message(&mut self, message: Option<&Message>) -> Result<(), AllocError> {
+        match message {
+            Some(message) => {
+                self.place(message.line, message.column)?;
+                self.text("message", &message.said)
+            }
+            None => Ok(()),
+        }
+    }
+
     fn fault(&mut self, fault: Fault<'_>) -> Result<(), AllocError> {
         let (point, name) = match fault {
             Fault::Printed(name) => ("printed", name),
@@ -205,6 +216,9 @@ impl Object {
         for note in fixed {
             self.writer.begin_object()?;
             self.text("name", &note.name)?;
+            if let Some(element) = &note.element {
+                self.text("element", element)?;
+            }
             self.text("value", &note.value)?;
             self.writer.end_object()?;
         }
@@ -314,10 +328,28 @@ pub fn refusal_line(
             object.count("end", place.end)?;
         }
     }
-    if let Some(message) = message {
-        object.place(message.line, message.column)?;
-        object.text("message", &message.said)?;
+    object.message(message)?;
+    object.line()
+}
+
+/// The line of a refusal for the table of names: for its line at this byte range, or since it is too
+/// long.
+pub fn names_line(
+    alloc: Global,
+    place: Option<Span>,
+    message: Option<&Message>,
+) -> Result<Vec<u8>, AllocError> {
+    let mut object = Object::new(alloc)?;
+    object.text("refused", "names")?;
+    match place {
+        Some(place) => {
+            object.text("fault", "Columns")?;
+            object.count("start", place.start)?;
+            object.count("end", place.end)?;
+        }
+        None => object.text("fault", "TooLong")?,
     }
+    object.message(message)?;
     object.line()
 }
 
@@ -340,8 +372,7 @@ pub fn explanation_line(
 ) -> Result<Vec<u8>, AllocError> {
     let mut object = Object::new(alloc)?;
     object.count("explained", block)?;
-    object.place(message.line, message.column)?;
-    object.text("message", &message.said)?;
+    object.message(Some(message))?;
     object.remarks(&message.remarks)?;
     object.writer.key("variables")?;
     object.writer.begin_array()?;

@@ -3,12 +3,13 @@
 use crate::MOST_BYTES;
 use crate::as_json::refusal_line;
 use crate::explain::explanation;
+use crate::names::check_with_names;
 use crate::refuse::{refuse, refuse_at, refuse_file, unread};
 use crate::teller::Teller;
 use crate::waiting::InPlace;
 use fz_check::{Answer, CheckError, Completion, Ending, MOST_READS, check_events, status};
 use fz_command::{CheckOptions, Explaining, Form};
-use fz_explain::{Explainer, Message, Text};
+use fz_explain::{Explainer, Message, NameTable, Text};
 use fz_files::{NOTHING, Recent, Recorder, read_up_to};
 use std::alloc::Global;
 use std::cell::RefCell;
@@ -21,10 +22,12 @@ const STANDARD_INPUT: &str = "(standard input)";
 
 /// The names of the files, and how they are checked.
 #[derive(Clone, Copy)]
-struct Task<'a> {
+pub struct Task<'a> {
     model: &'a str,
     stream: &'a str,
-    options: CheckOptions,
+    /// The file of the table of names, where one is given.
+    pub names: Option<&'a str>,
+    pub options: CheckOptions,
 }
 
 /// Checks the file of a stream, or standard input, against the file of a model. Both are opened
@@ -33,11 +36,13 @@ pub fn check_files(
     rt: &HostRuntime,
     model: &str,
     stream: Option<&str>,
+    names: Option<&str>,
     options: CheckOptions,
 ) -> u8 {
     let task = Task {
         model,
         stream: stream.unwrap_or(STANDARD_INPUT),
+        names,
         options,
     };
     if stream.is_none()
@@ -77,12 +82,19 @@ fn check_readers<M: Read + Drop, S: Read + Drop>(
 ) -> u8 {
     let mut model = Recorder::new(model, None);
     match read_up_to(rt.alloc(), &mut model, MOST_BYTES) {
-        Ok(bytes) => check_stream(rt, task, &bytes, stream),
+        Ok(bytes) => check_with_names(rt, task, &bytes, stream),
         Err(error) => refuse_reading(rt, task, unread(error), task.model, model.failure()),
     }
 }
 
-fn check_stream<S: Read + Drop>(rt: &HostRuntime, task: &Task<'_>, model: &[u8], stream: S) -> u8 {
+/// Checks the stream against the text of the model, with the table of its names.
+pub fn check_stream<S: Read + Drop>(
+    rt: &HostRuntime,
+    task: &Task<'_>,
+    model: &[u8],
+    names: NameTable<'_>,
+    stream: S,
+) -> u8 {
     let options = task.options;
     let recent = RefCell::new(Recent::new(rt.alloc()));
     let stored = match (options.explains, options.form) {
@@ -96,7 +108,7 @@ fn check_stream<S: Read + Drop>(rt: &HostRuntime, task: &Task<'_>, model: &[u8],
         bytes: model,
         passed: NOTHING,
     };
-    let explainer = Explainer::new(text, options.completes);
+    let explainer = Explainer::new(text, names, options.completes);
     let mut teller = Teller::new(rt, options, explainer, task.stream, &recent, &waiting);
     let outcome = match options.form {
         Form::Text => check_to(rt, task, model, &mut stream, &mut rt.stdout(), &mut teller),
@@ -125,7 +137,7 @@ fn check_to<S: Read, W: Write>(
     model: &[u8],
     stream: &mut S,
     out: &mut W,
-    teller: &mut Teller<'_>,
+    teller: &mut Teller<'_, '_>,
 ) -> Result<Answer, CheckError> {
     let completion = completion_of(task.options.completes);
     let ending = ending_of(task.options.cuts);
@@ -154,7 +166,7 @@ fn ending_of(cuts: bool) -> Ending {
 }
 
 /// Refuses the check since a file can't be read.
-fn refuse_reading(
+pub fn refuse_reading(
     rt: &HostRuntime,
     task: &Task<'_>,
     error: CheckError,

@@ -14,10 +14,10 @@ use std::cell::RefCell;
 
 /// Takes the events of a check.
 #[derive(Drop)]
-pub struct Teller<'r> {
+pub struct Teller<'r, 'n> {
     rt: &'r HostRuntime,
     options: CheckOptions,
-    explainer: Explainer<'r>,
+    explainer: Explainer<'r, 'n>,
     /// The name of the stream.
     stream: &'r str,
     recent: &'r RefCell<Recent>,
@@ -29,16 +29,16 @@ pub struct Teller<'r> {
     told: Option<(usize, Message)>,
 }
 
-impl<'r> Teller<'r> {
+impl<'r, 'n> Teller<'r, 'n> {
     /// Before the first block. What is stored of the stream is in the cell.
     pub fn new(
         rt: &'r HostRuntime,
         options: CheckOptions,
-        explainer: Explainer<'r>,
+        explainer: Explainer<'r, 'n>,
         stream: &'r str,
         recent: &'r RefCell<Recent>,
         waiting: &'r Waiting,
-    ) -> Teller<'r> {
+    ) -> Teller<'r, 'n> {
         Teller {
             rt,
             options,
@@ -170,7 +170,7 @@ fn case_of<'e, 'a>(
     })
 }
 
-impl Taker for Teller<'_> {
+impl Taker for Teller<'_, '_> {
     ghost text = { event_line };
 
     fn take(&mut self, event: &Event<'_, '_>, line: &mut Vec<u8>) -> Result<(), AllocError> {

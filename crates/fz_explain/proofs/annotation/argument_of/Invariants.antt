@@ -1,8 +1,0 @@
-use Rattle.std.proofs.Common.{◌≡◌, drop, map}
-use Rattle.fz_judge.specs.of_model.Meaning.{first_some}
-use Rattle.fz_judge.specs.of_syntax.View.{bare_notes}
-use Rattle.fz_explain.specs.Annotations.{argument_of}
-use Rattle.fz_explain.proofs.annotation.argument_of.Given as goal
-
-abbrev pub invariant-loop-note : goal.invariant-loop-note
-invariant-loop-note l = first_some (argument_of l.name) (bare_notes l.notes) ≡ first_some (argument_of l.name) (bare_notes (drop l.note-index l.notes))

@@ -1,0 +1,5 @@
+pub mod Lines
+pub mod Annotations
+pub mod Elements
+pub mod Paths
+pub mod Tables

@@ -1,0 +1,68 @@
+-- Where in a MiniZinc model a constraint is from, by the path to it that the compiler writes (this
+-- project's profile). A path is a list of segments, the outermost first, and each is
+--     FILE|LINE|COLUMN|LINE|COLUMN|WHAT;
+-- with the first and the last position of what is there, such as `ca|forall`. Of a loop variable
+-- WHAT is its name, a sign of equality, and its value. Files without a bar leave a path one list.
+use Rattle.std.specs.Prelude.{◌≡◌, ℕ, ◌-◌, Bool, not, ◌&&◌, ◌==◌, cond, nat_eq, nat_le, List, [], ◌∷◌, ◌++◌, length, take, map, flat_map, Option, Some, None, bytes_eq}
+use Rattle.std.specs.List.{filter, list_any}
+use Rattle.fz_places.specs.Lines.{first_part, last_part}
+use Rattle.fz_places.specs.declared.path.ModelPlace.{ModelPlace}
+use Rattle.fz_places.specs.declared.path.Segment.{Segment}
+
+abbrev pub barred : List ℕ → List ℕ → List ℕ
+barred part rest = part ++ 124 ∷ rest
+
+abbrev pub segment_text : Segment → List ℕ
+segment_text s = barred s.file.now (barred s.line.now (barred s.column.now
+    (barred s.end_line.now (barred s.end_column.now (s.what.now ++ 59 ∷ [])))))
+
+abbrev pub is_digit : ℕ → Bool
+is_digit byte = nat_le 48 byte && nat_le byte 57
+
+-- the file that a path names, without its folders, and these
+abbrev pub name_of : List ℕ → List ℕ
+name_of file = last_part 47 file
+
+abbrev pub folder_of : List ℕ → List ℕ
+folder_of file = take (length file - length (name_of file)) file
+
+-- a sign of equality before any bar
+abbrev pub is_loop : Segment → Bool
+is_loop s = list_any (λ b. b == 61) (first_part 124 s.what.now)
+
+-- the model's own files are the first one and those beside it; a segment without a file is in none
+abbrev pub is_own : List ℕ → Segment → Bool
+is_own first s = not (nat_eq (length s.file.now) 0)
+    && bytes_eq (folder_of s.file.now) (folder_of first)
+
+abbrev pub is_own_loop : List ℕ → Segment → Bool
+is_own_loop first s = is_own first s && is_loop s
+
+-- the last segment in the model's own files that is no loop variable
+abbrev pub innermost : List ℕ → Option Segment → List Segment → Option Segment
+innermost first place [] = place
+innermost first place (s ∷ ss) =
+    innermost first (cond (is_own first s && not (is_loop s)) (Some s) place) ss
+
+-- the file without its folders, where no other file of the path has that name
+abbrev pub is_alike : List ℕ → Segment → Bool
+is_alike file s = bytes_eq (name_of s.file.now) (name_of file) && not (bytes_eq s.file.now file)
+
+abbrev pub short_name : List Segment → List ℕ → List ℕ
+short_name ss file = cond (list_any (is_alike file) ss) file (name_of file)
+
+-- the place in the model, and the loop variables in its own files
+pub record IsPlaceIn (ss : List Segment) (first : List ℕ) (p : ModelPlace) : Type 0 where
+  pub segment : Segment
+  pub innermost : innermost first None ss ≡ Some segment
+  pub file : p.file.now ≡ short_name ss segment.file.now
+  pub line : p.line.now ≡ segment.line.now
+  pub column : p.column.now ≡ segment.column.now
+  pub loops : map (λ w. w.now) p.loops.items ≡ map (λ s. s.what.now) (filter (is_own_loop first) ss)
+
+-- the same in a path
+pub record IsPlaceOf (path : List ℕ) (p : ModelPlace) : Type 0 where
+  pub outermost : Segment
+  pub others : List Segment
+  pub text : flat_map segment_text (outermost ∷ others) ≡ path
+  pub is : IsPlaceIn (outermost ∷ others) outermost.file.now p

@@ -1,0 +1,101 @@
+//! The table of names of a model, in a file.
+
+use crate::as_json::names_line;
+use crate::check::{Task, check_stream, refuse_reading};
+use crate::refuse::{refuse, unread};
+use fz_check::{CheckError, Span};
+use fz_command::Form;
+use fz_explain::{Message, NameTable, TableError, Text, message_at};
+use fz_files::{NOTHING, Recorder, read_up_to};
+use std::alloc::{AllocError, Global};
+use std::fs;
+use std::io::{Read, Write};
+
+/// The most bytes of a table of names.
+const MOST_BYTES: u32 = 1_073_741_824;
+
+/// The status where the table is refused.
+const REFUSED: u8 = 4;
+
+/// What is wrong with a line of a file that is no table of names.
+const COLUMNS: &str = "a line of a table of names has three columns, with a tab between two";
+
+/// Checks the stream against the text of the model, with the table of its names, where a file of it
+/// is given. That file is opened here.
+pub fn check_with_names<S: Read + Drop>(
+    rt: &HostRuntime,
+    task: &Task<'_>,
+    model: &[u8],
+    stream: S,
+) -> u8 {
+    let Some(name) = task.names else {
+        return check_stream(rt, task, model, NameTable::empty(rt.alloc()), stream);
+    };
+    let file = match fs::open(rt, name) {
+        Ok(file) => file,
+        Err(failure) => {
+            return refuse_reading(rt, task, CheckError::Read, name, Some(&failure));
+        }
+    };
+    let mut file = Recorder::new(file, None);
+    match read_up_to(rt.alloc(), &mut file, MOST_BYTES) {
+        Ok(bytes) if bytes.len() > MOST_BYTES as usize => refuse_table(rt, task, None, None),
+        Ok(bytes) => check_with_table(rt, task, model, name, &bytes, stream),
+        Err(error) => refuse_reading(rt, task, unread(error), name, file.failure()),
+    }
+}
+
+/// The same with the text of the table.
+fn check_with_table<S: Read + Drop>(
+    rt: &HostRuntime,
+    task: &Task<'_>,
+    model: &[u8],
+    name: &str,
+    bytes: &[u8],
+    stream: S,
+) -> u8 {
+    match NameTable::read(rt.alloc(), bytes) {
+        Ok(names) => check_stream(rt, task, model, names, stream),
+        Err(TableError::Memory) => refuse_reading(rt, task, CheckError::Memory, name, None),
+        Err(TableError::Columns(place)) => {
+            let text = Text {
+                name,
+                bytes,
+                passed: NOTHING,
+            };
+            match message_of(rt.alloc(), &text, place) {
+                Ok(message) => refuse_table(rt, task, Some(place), message.as_ref()),
+                Err(_) => refuse(rt, &CheckError::Memory),
+            }
+        }
+    }
+}
+
+/// Refuses the check for the table: for a line of it, or since it is too long.
+fn refuse_table(
+    rt: &HostRuntime,
+    task: &Task<'_>,
+    place: Option<Span>,
+    message: Option<&Message>,
+) -> u8 {
+    if let Form::Json = task.options.form
+        && let Ok(line) = names_line(rt.alloc(), place, message)
+    {
+        let _ = rt.stdout().write_all(&line);
+    }
+    let _ = match place {
+        Some(Span { start, end }) => { eprintln!(rt; "refused: names: Columns at {start}..{end}") }
+        None => eprintln!(rt; "refused: names: TooLong"),
+    };
+    if let Form::Text = task.options.form
+        && let Some(message) = message
+        && let Ok(told) = message.text(rt.alloc())
+    {
+        let _ = eprint!(rt; "{told}");
+    }
+    REFUSED
+}
+
+fn message_of(alloc: Global, text: &Text<'_>, place: Span) -> Result<Option<Message>, AllocError> {
+    message_at(alloc, text, place, String::from_str(alloc, COLUMNS)?)
+}
