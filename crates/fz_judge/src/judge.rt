@@ -6,6 +6,7 @@ ghost use Rattle.fz_search.specs.of_model.Overviews.{IsOverview};
 ghost use Rattle.fz_stream.specs.Found.{EndsWithin, HasPlaces};
 ghost use Rattle.fz_judge.specs.BlockFaults.{block_fault, items_fault};
 ghost use Rattle.fz_judge.specs.Completed.{IsCompleted};
+ghost use Rattle.fz_judge.specs.declared.completion.Completion.TheVariants.{Off};
 ghost use Rattle.fz_judge.specs.Verdict.{objective_fails, verdict, verdict_by};
 ghost use Rattle.fz_judge.specs.Verdict.Verdict.{Undecided};
 ghost use Rattle.fz_judge.specs.BlockView.{located_block, located_items};
@@ -182,11 +183,38 @@ impl<'m, 'a> Judge<'m, 'a> {
         }
     }
 
+    pub fn model(&self) -> &'m Model<'a>
+        ensures { result.now ≡ self.now.model }
+    {
+        self.model
+    }
+
     /// The objective of the block that was judged last, with the values that were found for it.
     pub fn objective(&self) -> Option<i64>
         ensures { result ≡ self.now.found }
     {
         self.found
+    }
+
+    /// The objective of the block that was judged last, under its filling: no value counts that was
+    /// looked for.
+    pub fn filled_objective(&self) -> Option<i64>
+        ensures { result ≡ self.now.before }
+    {
+        self.before
+    }
+
+    /// Forgets the block that was judged last: the next one is compared with none.
+    pub fn forget(&mut self)
+        ensures { self.new ≡ record {
+          model = self.old.model;
+          completion = self.old.completion;
+          before = None;
+          found = None;
+        } }
+    {
+        self.before = None;
+        self.found = None;
     }
 
     /// The verdict on a block that has the verdict `under` and the objective `now` under its
@@ -286,6 +314,9 @@ impl<'m, 'a> Judge<'m, 'a> {
             (verdict_view v)) }
         ensures same_model { self.new.model ≡ self.old.model }
         ensures same_completion { self.new.completion ≡ self.old.completion }
+        // Where no values are looked for, there is one objective.
+        ensures one_objective { IfOk result (λ _. self.old.completion ≡ Off
+            → self.new.found ≡ self.new.before) }
         ensures unchanged { IfErr result (λ _. self.new ≡ self.old) }
         // Whatever the block: it has a fault, and its first is of the kind that the error has.
         ensures only { IfErr result (λ e. TellsKind e

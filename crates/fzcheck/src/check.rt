@@ -3,10 +3,11 @@
 use crate::MOST_BYTES;
 use crate::as_json::refusal_line;
 use crate::explain::explanation;
+use crate::known::{Unread, claims_of};
 use crate::refuse::{refuse, refuse_at, refuse_file, unread};
 use crate::teller::Teller;
 use crate::waiting::InPlace;
-use fz_check::{Answer, CheckError, Completion, Ending, MOST_READS, check_events, status};
+use fz_check::{Answer, CheckError, Claims, Completion, Ending, MOST_READS, check_events, status};
 use fz_command::{CheckOptions, Explaining, Form};
 use fz_explain::{Explainer, Message, Text};
 use fz_files::{NOTHING, Recent, Recorder, read_up_to};
@@ -33,6 +34,7 @@ pub fn check_files(
     rt: &HostRuntime,
     model: &str,
     stream: Option<&str>,
+    known: &[&str],
     options: CheckOptions,
 ) -> u8 {
     let task = Task {
@@ -52,10 +54,10 @@ pub fn check_files(
         }
     };
     if stream.is_none() {
-        return check_readers(rt, &task, file, rt.stdin());
+        return check_readers(rt, &task, known, file, rt.stdin());
     }
     match fs::open(rt, task.stream) {
-        Ok(stream) => check_readers(rt, &task, file, stream),
+        Ok(stream) => check_readers(rt, &task, known, file, stream),
         Err(failure) => refuse_reading(rt, &task, CheckError::Read, task.stream, Some(&failure)),
     }
 }
@@ -72,17 +74,34 @@ fn find_input(rt: &HostRuntime) -> io::Result<()> {
 fn check_readers<M: Read + Drop, S: Read + Drop>(
     rt: &HostRuntime,
     task: &Task<'_>,
+    known: &[&str],
     model: M,
     stream: S,
 ) -> u8 {
     let mut model = Recorder::new(model, None);
     match read_up_to(rt.alloc(), &mut model, MOST_BYTES) {
-        Ok(bytes) => check_stream(rt, task, &bytes, stream),
+        Ok(bytes) => match claims_of(rt, task.options, &bytes, known) {
+            Ok(claims) => check_stream(rt, task, claims, &bytes, stream),
+            Err(failure) => {
+                let Unread {
+                    error,
+                    name,
+                    failure,
+                } = failure;
+                refuse_reading(rt, task, error, name, failure.as_ref())
+            }
+        },
         Err(error) => refuse_reading(rt, task, unread(error), task.model, model.failure()),
     }
 }
 
-fn check_stream<S: Read + Drop>(rt: &HostRuntime, task: &Task<'_>, model: &[u8], stream: S) -> u8 {
+fn check_stream<S: Read + Drop>(
+    rt: &HostRuntime,
+    task: &Task<'_>,
+    claims: Claims<'_>,
+    model: &[u8],
+    stream: S,
+) -> u8 {
     let options = task.options;
     let recent = RefCell::new(Recent::new(rt.alloc()));
     let stored = match (options.explains, options.form) {
@@ -99,10 +118,20 @@ fn check_stream<S: Read + Drop>(rt: &HostRuntime, task: &Task<'_>, model: &[u8],
     let explainer = Explainer::new(text, options.completes);
     let mut teller = Teller::new(rt, options, explainer, task.stream, &recent, &waiting);
     let outcome = match options.form {
-        Form::Text => check_to(rt, task, model, &mut stream, &mut rt.stdout(), &mut teller),
+        Form::Text => {
+            check_to(
+                rt,
+                task,
+                claims,
+                model,
+                &mut stream,
+                &mut rt.stdout(),
+                &mut teller,
+            )
+        }
         Form::Json => {
             let mut out = InPlace::new(rt.stdout(), &waiting);
-            check_to(rt, task, model, &mut stream, &mut out, &mut teller)
+            check_to(rt, task, claims, model, &mut stream, &mut out, &mut teller)
         }
     };
     teller.clear();
@@ -122,6 +151,7 @@ fn check_stream<S: Read + Drop>(rt: &HostRuntime, task: &Task<'_>, model: &[u8],
 fn check_to<S: Read, W: Write>(
     rt: &HostRuntime,
     task: &Task<'_>,
+    claims: Claims<'_>,
     model: &[u8],
     stream: &mut S,
     out: &mut W,
@@ -138,10 +168,11 @@ fn check_to<S: Read, W: Write>(
         MOST_READS,
         completion,
         ending,
+        claims,
     )
 }
 
-fn completion_of(completes: bool) -> Completion {
+pub fn completion_of(completes: bool) -> Completion {
     if completes {
         Completion::On
     } else {

@@ -7,6 +7,7 @@
 mod as_json;
 mod check;
 mod explain;
+mod known;
 mod refuse;
 mod show;
 mod teller;
@@ -46,9 +47,10 @@ fn run(rt: &HostRuntime) -> u8 {
             Request::Check {
                 model,
                 stream,
+                known,
                 options,
             },
-        ) => check_files(rt, model, stream, options),
+        ) => check_files(rt, model, stream, &known, options),
         Err(Refused::Help) => show_help(rt),
         Err(Refused::Version) => show_version(rt),
         Err(Refused::Wrong(error)) => refuse_wrong(rt, &error),
