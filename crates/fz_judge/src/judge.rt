@@ -6,7 +6,6 @@ ghost use Rattle.fz_search.specs.of_model.Overviews.{IsOverview};
 ghost use Rattle.fz_stream.specs.Found.{EndsWithin, HasPlaces};
 ghost use Rattle.fz_judge.specs.BlockFaults.{block_fault, items_fault};
 ghost use Rattle.fz_judge.specs.Completed.{IsCompleted};
-ghost use Rattle.fz_judge.specs.declared.completion.Completion.TheVariants.{Off};
 ghost use Rattle.fz_judge.specs.Verdict.{objective_fails, verdict, verdict_by};
 ghost use Rattle.fz_judge.specs.Verdict.Verdict.{Undecided};
 ghost use Rattle.fz_judge.specs.BlockView.{located_block, located_items};
@@ -314,9 +313,6 @@ impl<'m, 'a> Judge<'m, 'a> {
             (verdict_view v)) }
         ensures same_model { self.new.model ≡ self.old.model }
         ensures same_completion { self.new.completion ≡ self.old.completion }
-        // Where no values are looked for, there is one objective.
-        ensures one_objective { IfOk result (λ _. self.old.completion ≡ Off
-            → self.new.found ≡ self.new.before) }
         ensures unchanged { IfErr result (λ _. self.new ≡ self.old) }
         // Whatever the block: it has a fault, and its first is of the kind that the error has.
         ensures only { IfErr result (λ e. TellsKind e
