@@ -105,6 +105,21 @@ outcomes_more m (d ∷ bs) [] b o are is = absurd are
 
 -- ---- where claims aren't judged
 
+late_unjudged : (aim : Aim) (w : Option Statement) (is : Bool) (found : Option ℤ) → w ≡ None
+    → late_refuted aim w is found ≡ None
+late_unjudged aim None is found none = refl
+late_unjudged aim (Some s) is found none = absurd cc
+
+still_waiting : (s : Option Statement) (l : Ledger) → s ≡ None
+    → (late_noted s l).waiting ≡ l.waiting
+still_waiting None l none = refl
+still_waiting (Some s) l none = absurd cc
+
+still_refuted : (s : Option Statement) (l : Ledger) → s ≡ None
+    → (late_noted s l).refuted ≡ l.refuted
+still_refuted None l none = refl
+still_refuted (Some s) l none = absurd cc
+
 pub told_unjudged : (aim : Aim) (n : ℕ) (l : Ledger) (os : List Outcome) (ps : List StreamPart)
     → l.waiting ≡ None → told aim NotJudged n l os ps ≡ events_of n (verdicts_of os) ps
 told_unjudged aim n l os [] none = refl
@@ -112,18 +127,20 @@ told_unjudged aim n l os (ClaimPart kind ∷ ps) none =
     ap (λ es. Claimed kind ∷ es) (told_unjudged aim n l os ps none)
 told_unjudged aim n l [] (BlockPart b ∷ ps) none = told_unjudged aim n l [] ps none
 told_unjudged aim n l (o ∷ os) (BlockPart b ∷ ps) none =
-    let late : late_refuted aim l.waiting (is_satisfied o.verdict) o.found ≡ None =
-    ap (λ w. late_refuted aim w (is_satisfied o.verdict) o.found) none in
+    let late = late_unjudged aim l.waiting (is_satisfied o.verdict) o.found none in
     let next = behind aim (suc n) l o in
-    let still : next.waiting ≡ None =
-    ap (λ s. (late_noted s (record {
-      satisfied = option_or l.satisfied (cond (is_satisfied o.verdict) (Some (suc n)) None);
-      objective = o.filled;
-      waiting = l.waiting;
-      refuted = l.refuted;
-    })).waiting) late ∙ none in
     ap (λ s. Judged (suc n) o.verdict ∷ (late_events s (suc n) ++ told aim NotJudged (suc n) next os ps)) late
-    ∙ ap (λ es. Judged (suc n) o.verdict ∷ es) (told_unjudged aim (suc n) next os ps still)
+    ∙ ap (λ es. Judged (suc n) o.verdict ∷ es) (told_unjudged aim (suc n) next os ps (still_waiting _ _ late ∙ none))
+
+pub refuted_unjudged : (aim : Aim) (n : ℕ) (l : Ledger) (os : List Outcome) (ps : List StreamPart)
+    → l.waiting ≡ None → (ledger aim NotJudged n l os ps).refuted ≡ l.refuted
+refuted_unjudged aim n l os [] none = refl
+refuted_unjudged aim n l os (ClaimPart kind ∷ ps) none = refuted_unjudged aim n l os ps none
+refuted_unjudged aim n l [] (BlockPart b ∷ ps) none = refuted_unjudged aim n l [] ps none
+refuted_unjudged aim n l (o ∷ os) (BlockPart b ∷ ps) none =
+    let late = late_unjudged aim l.waiting (is_satisfied o.verdict) o.found none in
+    refuted_unjudged aim (suc n) (behind aim (suc n) l o) os ps (still_waiting _ _ late ∙ none)
+    ∙ still_refuted _ _ late
 
 -- ---- what a block tells
 

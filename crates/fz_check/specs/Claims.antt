@@ -26,7 +26,7 @@ use Rattle.fz_check.specs.declared.claims.Known.{Known}
 use Rattle.fz_check.specs.declared.claims.Claims.{Claims}
 use Rattle.fz_check.specs.declared.claims.Claims.TheVariants.{NotJudged, Judged as ClaimsJudged}
 use Rattle.fz_check.specs.declared.ledger.Ledger.{Ledger}
-use Rattle.fz_check.specs.Report.{Event, HaveVerdicts}
+use Rattle.fz_check.specs.Report.{Event, HaveVerdicts, events_of}
 use Rattle.fz_check.specs.Report.Event.{Judged, Claimed, Refuted, Answered}
 use Rattle.fz_check.specs.Reported.{AreBorneOut, HoldsOfModel}
 
@@ -270,3 +270,9 @@ HasReportWith claims c model stream events answer = HoldsOfModel model
     × AreBorneOut m (map located_block r.have_outcomes.have_verdicts.blocks)
     (verdicts_of r.outcomes)
     × (KnowsOf m claims → AllByRecursion (IsTrueOf m) events))
+
+-- where claims aren't judged, the events and the answer are those of a report without them
+abbrev pub UnaskedClaimsAreNotJudged : Type 0
+UnaskedClaimsAreNotJudged = (m : Model) (os : List Outcome) (ps : List StreamPart)
+    → (told_of m NotJudged os ps ≡ events_of 0 (verdicts_of os) ps)
+    × (answer_told m NotJudged os ps ≡ answer_of (verdicts_of os))

@@ -25,6 +25,7 @@ mod telling;
 mod text;
 mod writing;
 
+ghost use Rattle.fz_check.specs.Claims.{UnaskedClaimsAreNotJudged};
 ghost use Rattle.fz_check.specs.Cutting.{IsCutOnlyWhereOpen};
 ghost use Rattle.fz_check.specs.Reported.{WrittenLinesAreBorneOut};
 
@@ -53,4 +54,9 @@ pub fn written_lines_are_borne_out()
 /// A stream that ends outside a block is cut nowhere.
 pub fn cut_streams_end_inside()
     ensures { IsCutOnlyWhereOpen }
+{}
+
+/// Where claims aren't judged, none is told as refuted, and none has a part in the answer.
+pub fn unasked_claims_are_not_judged()
+    ensures { UnaskedClaimsAreNotJudged }
 {}
