@@ -38,12 +38,15 @@ module _ (c : Completion) (model : List ℕ) (m : Model) (stream : List ℕ) (ev
   are : AreVerdicts c (model_of loaded.tree) (map located_block r.have_verdicts.blocks) r.verdicts
   are = subst (λ n. AreVerdicts c n (map located_block r.have_verdicts.blocks) r.verdicts) loaded.is r.have_verdicts.are_verdicts
 
+  pub are_borne_out : AreBorneOut m (map located_block r.have_verdicts.blocks) r.verdicts
+  are_borne_out = subst (λ n. AreBorneOut n (map located_block r.have_verdicts.blocks) r.verdicts) (sym loaded.is) (borne_out c loaded.tree (map located_block r.have_verdicts.blocks) r.verdicts loaded.no_fault are)
+
   -- the report on the model of a text
   pub report_of : HasReport c model stream events answer
   report_of = record {
     m = m;
     loaded = loaded;
-    holds = (r, subst (λ n. AreBorneOut n (map located_block r.have_verdicts.blocks) r.verdicts) (sym loaded.is) (borne_out c loaded.tree (map located_block r.have_verdicts.blocks) r.verdicts loaded.no_fault are));
+    holds = (r, are_borne_out);
   }
 
   -- an accepted stream has solutions
@@ -68,7 +71,7 @@ module _ (c : Completion) (model : List ℕ) (m : Model) (stream : List ℕ) (ev
 -- ---- with what is told of claims
 
 module _ (claims : Claims) (c : Completion) (model : List ℕ) (m : Model) (stream : List ℕ) (events : List Event) (answer : Answer) (loaded : IsLoadedFrom model m) (r : IsReportWith claims c m stream events answer) where
-  plain : IsReport c m stream (events_of 0 (verdicts_of r.outcomes) r.parts ++ Answered (answer_of (verdicts_of r.outcomes)) ∷ []) (answer_of (verdicts_of r.outcomes))
+  abbrev plain : IsReport c m stream (events_of 0 (verdicts_of r.outcomes) r.parts ++ Answered (answer_of (verdicts_of r.outcomes)) ∷ []) (answer_of (verdicts_of r.outcomes))
   plain = record {
     parts = r.parts;
     text_of_stream = r.text_of_stream;
@@ -84,7 +87,7 @@ module _ (claims : Claims) (c : Completion) (model : List ℕ) (m : Model) (stre
     loaded = loaded;
     holds = (
       r,
-      (report_of c model m stream _ _ loaded plain).holds.1,
+      are_borne_out c model m stream _ _ loaded plain,
       λ knows. subst (AllByRecursion (IsTrueOf m)) (sym r.events_are) (all_true m claims 0 no_ledger (map located_block r.have_outcomes.have_verdicts.blocks) r.outcomes r.parts knows tt r.have_outcomes.are_outcomes),
     );
   }

@@ -84,7 +84,7 @@ fn is_better(goal: &Goal, other: i64, now: i64) -> bool
 }
 
 /// What a claim says behind a block with this objective.
-pub(crate) fn saying(kind: ClaimKind, last: Option<i64>) -> Saying
+pub(crate) fn said_by(kind: ClaimKind, last: Option<i64>) -> Saying
     ensures { result ≡ saying kind last }
 {
     match (kind, last) {

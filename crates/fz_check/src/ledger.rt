@@ -4,7 +4,7 @@ ghost use Rattle.std.specs.Prelude.{◌≡◌};
 ghost use Rattle.fz_judge.specs.of_model.Parts.{goal_view};
 ghost use Rattle.fz_check.specs.Claims.{behind_block, behind_claim, claim_refutation, earliest, late_refuted, no_ledger, refuter};
 
-use crate::claims::{Claims, Known, Refutation, Refuter, Saying, Statement, refutes, saying};
+use crate::claims::{Claims, Known, Refutation, Refuter, Saying, Statement, refutes, said_by};
 use crate::tally::first;
 use fz_judge::fz_model::Goal;
 use fz_judge::fz_stream::ClaimKind;
@@ -79,7 +79,7 @@ impl Ledger {
         let Claims::Judged(known) = claims else {
             return None;
         };
-        let says = saying(kind, self.objective);
+        let says = said_by(kind, self.objective);
         let claim = Statement { after, kind, says };
         match self.refuter(goal, known, says) {
             Some(by) => {

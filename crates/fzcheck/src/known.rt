@@ -34,9 +34,11 @@ pub fn claims_of<'k>(
     if names.is_empty() {
         return Ok(Claims::Judged(known));
     }
-    // A model that is refused here is refused by the check too, which tells why.
-    let Ok(model) = read_model(rt.alloc(), model) else {
-        return Ok(Claims::Judged(known));
+    let model = match read_model(rt.alloc(), model) {
+        Ok(model) => model,
+        Err(CheckError::Memory) => return Err(unread(CheckError::Memory, "", None)),
+        // The check refuses it too, and tells why.
+        Err(_) => return Ok(Claims::Judged(known)),
     };
     let is_only = names.len() == 1;
     for name in names {
