@@ -2,7 +2,8 @@
 """Compares the report as JSON with the report as text: as_json.py PROGRAM
 
 Runs a built program on the models and streams of examples/, tests/explained and
-tests/corpus/by_hand, with and without --complete, --cut and --explain. From the objects the lines
+tests/corpus/by_hand, with and without --complete, --cut, --claims and --explain. From the objects
+the lines
 of the text are made, those of refusals and explanations too, and compared with what the program
 writes without --json. The last line is 'N passed, M failed'."""
 import glob
@@ -14,8 +15,8 @@ import sys
 
 TOP = os.path.dirname(os.path.dirname(os.path.abspath(__file__)))
 FOLDERS = "examples", "tests/explained", "tests/corpus/by_hand"
-OPTIONS = "", "--complete", "--cut"
 NAMES = "model.names"  # where a folder has it, it goes with what explains
+OPTIONS = "", "--complete", "--cut", "--claims"
 EXPLAINING = "", "--explain", "--explain=all"
 FAULTS = {
     "printed": "printed {name}",
@@ -56,9 +57,21 @@ def block_line(it):
     return f"block {it['block']}: {told}"
 
 
+def claim_line(it):
+    told = it.get("refuted_by")
+    if not told:
+        return f"claim: {it['claim']} not judged"
+    block = f"{'known ' if 'file' in told else ''}block {told['block']}"
+    late = "file" not in told and told["block"] > it["after"]
+    place = f"claim after block {it['after']}" if late else "claim"
+    return f"{place}: {it['claim']} refuted by {block}"
+
+
 def answer_line(it):
     if it["answer"] == "no blocks":
         return "no blocks"
+    if "claim_after" in it:
+        return f"rejected: claim after block {it['claim_after']}"
     named = f"blocks {it['blocks']}" if it["answer"] == "accepted" else f"block {it['block']}"
     return f"{it['answer']}: {named}"
 
@@ -142,8 +155,9 @@ class Report:
                 self.out.append(block_line(it))
                 self.places[it["block"]] = it.get("line"), it.get("column")
             elif "claim" in it:
-                self.out.append(f"claim: {it['claim']} not judged")
-                self.expect(it["after"], len(self.places), "after")
+                self.out.append(claim_line(it))
+                if not self.out[-1].startswith("claim after"):
+                    self.expect(it["after"], len(self.places), "after")
             elif "cut" in it:
                 self.out.append("cut: {}..{}".format(*it["cut"]))
             elif "answer" in it:
@@ -183,7 +197,8 @@ def printed_objectives(model, stream):
 def faults(program, folder, model, stream, options):
     """What is wrong with the report as JSON, of a run with these options."""
     names = ("--names", NAMES) if options[1] and os.path.exists(os.path.join(TOP, folder, NAMES)) else ()
-    files = *filter(None, options), *names, model, stream
+    claims = ["--claims"] * options[0].startswith("--known")
+    files = *claims, *filter(None, options), *names, model, stream
     out, err, status = run(program, folder, files)
     try:
         text, json_err, json_status = run(program, folder, ("--json", *files))
@@ -211,7 +226,8 @@ def main():
     program = os.path.abspath(sys.argv[1])
     passed = failed = 0
     for folder, model, stream in cases():
-        for option in OPTIONS:
+        known = os.path.exists(os.path.join(TOP, folder, "other_stream.txt"))
+        for option in (*OPTIONS, *["--known=other_stream.txt"] * known):
             for explaining in EXPLAINING:
                 wrong = faults(program, folder, model, stream, (option, explaining))
                 passed, failed = passed + (not wrong), failed + bool(wrong)

@@ -25,7 +25,7 @@ expect() {
   fi
 }
 
-usage='usage: fzcheck show [--print-all] MODEL | check [--complete] [--cut] [--explain[=all] [--names FILE]] [--json] MODEL [STREAM]'
+usage='usage: fzcheck show [--print-all] MODEL | check [--complete] [--cut] [--claims [--known STREAM]..] [--explain[=all] [--names FILE]] [--json] MODEL [STREAM]'
 accepted=$'block 1: satisfied\naccepted: blocks 1'
 printf 'x = 1;\n----------\n' >"$folder/wrong.out"
 printf 'x = 3;\n' >"$folder/open.out"
@@ -49,13 +49,16 @@ wrong "error: unexpected argument '--print-all' found" check --print-all example
 wrong "$wanting" check
 wrong "$wanting" check --explain
 wrong "$wanting" show
+wrong $'error: the following required arguments were not provided:\n  --claims' check --known examples/first.out examples/first.fzn
+# shellcheck disable=SC2046
+wrong 'error: more than 64 known streams' check --claims $(yes -- '--known examples/first.out' | head -65) examples/first.fzn
 "$program" --help >"$folder/page" 2>/dev/null
 page=$(cat "$folder/page")
 for words in help --help -h 'help check' 'check --help' 'show -h'; do
   # shellcheck disable=SC2086
   expect "a request for help: $words" 5 "$page" "$usage" "$program" $words
 done
-for word in check show --complete --cut --explain --names --json --print-all --version STREAM; do
+for word in check show --complete --cut --claims --known --explain --names --json --print-all --version STREAM; do
   expect "help names $word" 0 '' '' grep -q -- "$word" "$folder/page"
 done
 version="fzcheck $(sed -n 's/^## \([0-9][0-9.]*\).*/\1/p' CHANGELOG.md | head -1)"
@@ -92,6 +95,60 @@ printf 'var 0..9: x;\nvar 0..9: y;\nconstraint int_mod(x,3,y);\nsolve satisfy;\n
 printf 'x = 7;\n----------\n' >"$folder/left.out"
 expect 'a value that was left out' 2 $'block 1: undecided: no value for y\nundecided: block 1' '' "$program" check "$folder/left.fzn" "$folder/left.out"
 expect 'a value that is looked for' 0 "$accepted" '' "$program" check --complete "$folder/left.fzn" "$folder/left.out"
+# What known streams refute. Which of their blocks refute nothing is told on standard error.
+deliveries=examples/deliveries
+# stream NAME LINE..: a known stream, with a block of each line.
+stream() {
+  local name=$1
+  shift
+  printf '%s\n----------\n' "$@" >"$folder/$name"
+}
+front=$'block 1: satisfied\nclaim: ========== '
+unrefuted="$front"$'not judged\naccepted: blocks 1'
+refuted="$(cat $deliveries/claims.txt)"
+stream equal.out 'first = 2; second = 1;'
+stream three.out 'first = 3; second = 1;' 'first = 2; second = 4;' 'first = 1; second = 4;'
+stream undecided.out 'first = 2;'
+stream violated.out 'first = 2; second = 2; cost = 18;'
+stream misfit.out 'third = 2;' 'first = 2; second = 4;'
+cp "$folder/three.out" "$folder/broken.out"
+printf 'first = 2; second =\n----------\nfirst = 4; second = 2;\n----------\n' >>"$folder/broken.out"
+cp "$folder/three.out" "$folder/open_end.out"
+printf 'first = 2;\n' >>"$folder/open_end.out"
+printf '=====UNSATISFIABLE=====\n' >"$folder/none.out"
+run_known() { (cd "$folder" && "$program" check --claims "$@"); }
+cp $deliveries/model.fzn $deliveries/stream.txt $deliveries/other_stream.txt "$folder"
+refutes() {
+  local name=$1 status=$2 out=$3 err=$4
+  shift 4
+  expect "known: $name" "$status" "$out" "$err" run_known "$@"
+}
+refutes 'nothing' 0 "$unrefuted" '' model.fzn stream.txt
+refutes 'another solver' 1 "$refuted" '' --known other_stream.txt model.fzn stream.txt
+refutes 'an equal objective' 0 "$unrefuted" '' --known equal.out model.fzn stream.txt
+refutes 'a better block among others' 1 "$refuted" '' --known three.out model.fzn stream.txt
+refutes 'an undecided block' 0 "$unrefuted" 'undecided.out: block 1: undecided: no value for second' --known undecided.out model.fzn stream.txt
+# Whichever value is found, it is better than 27.
+printf 'first = 1; second = 3;\n----------\n==========\n' >"$folder/dear.out"
+refutes 'an undecided block, whose value is looked for' 1 "${refuted/block 2/block 1}" '' --complete --known undecided.out model.fzn dear.out
+refutes 'a violated block' 0 "$unrefuted" 'violated.out: block 1: violated: constraint 1 int_ne' --known violated.out model.fzn stream.txt
+refutes 'a block that does not fit the model' 1 "$refuted" 'misfit.out: refused: block 1: UnknownName at 0..5' --known misfit.out model.fzn stream.txt
+refutes 'a stream that is broken behind its third block' 1 "$refuted" 'broken.out: refused: stream: Syntax at 122..122' --known broken.out model.fzn stream.txt
+refutes 'a stream that ends in a block' 1 "$refuted" 'open_end.out: refused: stream: Unfinished at 102..113' --known open_end.out model.fzn stream.txt
+refutes 'the same stream' 0 "$unrefuted" '' --known stream.txt model.fzn stream.txt
+refutes 'several streams' 1 "$front"$'refuted by known block 2 of three.out\nrejected: claim after block 1' '' \
+  --known equal.out --known three.out --known other_stream.txt model.fzn stream.txt
+refutes 'no solution' 1 $'claim: =====UNSATISFIABLE===== refuted by known block 1\nrejected: claim after block 0' '' --known equal.out model.fzn none.out
+refutes 'no solution, by no satisfied block' 3 $'claim: =====UNSATISFIABLE===== not judged\nno blocks' 'violated.out: block 1: violated: constraint 1 int_ne' --known violated.out model.fzn none.out
+refutes 'as JSON' 1 '{"block":1,"verdict":"satisfied","objective":21}
+{"claim":"==========","after":1,"refuted_by":{"file":"other_stream.txt","block":2}}
+{"answer":"rejected","claim_after":1,"blocks":1,"satisfied":1,"violated":0,"undecided":0}' '' --json --known other_stream.txt model.fzn stream.txt
+refutes 'a file that is not there' 6 '' $'refused: read\nnowhere.out: No such file or directory' --known nowhere.out model.fzn stream.txt
+refutes 'a broken model' 4 '' 'refused: model: Syntax at 13..13' --known other_stream.txt broken.fzn stream.txt
+# The objective of the last block was looked for: a better one doesn't refute that claim.
+printf -- '----------\n==========\n' >"$folder/bare.out"
+refutes 'a claim on an objective that was looked for' 0 "$unrefuted" '' --complete --known other_stream.txt model.fzn bare.out
+
 expect 'a broken model' 4 '' 'refused: model: Syntax at 13..13' "$program" show "$folder/broken.fzn"
 twice=tests/corpus/by_hand/name_declared_twice/model.fzn
 expect 'a name declared twice' 4 '' 'refused: model: DuplicateName at 25..26' \

@@ -14,7 +14,7 @@ from concurrent.futures import ThreadPoolExecutor
 
 import tables
 
-TEXTS = ("reports.txt", "completed.txt", "explained.txt", "shown.txt", "calls.txt")
+TEXTS = ("reports.txt", "claims.txt", "completed.txt", "explained.txt", "shown.txt", "calls.txt")
 STATUSES = {"accepted": 0, "rejected": 1, "undecided": 2, "no blocks": 3, "refused": 4}
 # Neighbours, gaps, the ends, and both sides of what a set stores as the bits of a word.
 NUMBERS = [-(2**63), -3, -1, 0, 1, 2, 5, 62, 63, 64, 65, 70, 71, 100, 200, 2**63 - 1]

@@ -1,5 +1,6 @@
 -- One more block is judged and counted, and one more part is told.
 use Rattle.std.proofs.Common.{◌≡◌, ℕ, suc, ◌+◌, List, [], ◌∷◌, ◌++◌, length, map, Some, None, cond, refl, sym, ap, ◌∙◌, subst, subst₂, arith, length-append}
+use Rattle.std.proofs.lemmas.Grind.{flat_map-append}
 use Rattle.std.proofs.lemmas.List.{length-map, map-append}
 use Rattle.std.specs.Option.{option_or}
 use Rattle.std.specs.Prelude.{IfErr, IfOk, OnOk, Result, Ok, Err}
@@ -21,10 +22,13 @@ use Rattle.fz_check.specs.declared.error.CheckError.{CheckError}
 use Rattle.fz_check.specs.declared.error.CheckError.TheVariants as errors
 use Rattle.fz_check.specs.declared.jury.Jury.{Jury}
 use Rattle.fz_check.specs.declared.tally.Tally.{Tally}
-use Rattle.fz_check.specs.Report.{Event, HaveVerdicts, events_of}
-use Rattle.fz_check.specs.Report.Event.{Judged, Claimed}
+use Rattle.fz_check.specs.declared.claims.Claims.{Claims}
+use Rattle.fz_check.specs.Claims.{AreOutcomes, HaveOutcomes, IsOutcome, Outcome, behind, behind_block, behind_claim, block_told, claim_told, is_satisfied, late_events, late_refuted, ledger, no_ledger, told_of, verdicts_of}
+use Rattle.fz_check.specs.Report.{Event, text_of}
+use Rattle.fz_check.specs.Report.Event.{Judged}
 use Rattle.fz_check.specs.Telling.{Tallies, HasJudged, HasTold, IsFresh, IsUnjudged, IsUntold, JudgesOneMore, TellsOneMore}
-use Rattle.fz_check.proofs.EventLemmas.{events_with_block, events_with_claims, text_with}
+use Rattle.fz_check.proofs.ClaimLemmas.{ledger_block, ledger_claim, outcomes_more, told_block, told_claim}
+use Rattle.fz_check.proofs.EventLemmas.{text_with}
 
 tallies_more : (old new : Tally) (vs : List Verdict) (v : Verdict) → new.blocks ≡ old.blocks + 1
     → new.violated ≡ option_or old.violated (cond (is_violated v) (Some (old.blocks + 1)) None)
@@ -90,39 +94,120 @@ answer_is c m j bs vs answer h e =
     e ∙ ap (λ v. answer_by v j.tally.undecided j.tally.blocks) t.violated ∙ ap (λ u. answer_by (first_number 1 is_violated vs) u j.tally.blocks) t.undecided
     ∙ ap (answer_by (first_number 1 is_violated vs) (first_number 1 is_undecided vs)) t.blocks
 
-pub told_none : (j : Jury) → IsFresh j → HasTold j.judge.completion j.judge.model j [] []
-told_none j f = record { blocks = []; blocks_are = refl; places = tt; judged = judged_none j f }
+pub told_none : (j : Jury) → IsFresh j → HasTold j.claims j.judge.completion j.judge.model j [] []
+told_none j f = record {
+  blocks = [];
+  blocks_are = refl;
+  places = tt;
+  judged = judged_none j f;
+  are_outcomes = tt;
+  claims_are = refl;
+  ledger_is = f.ledger;
+}
 
-module _ (c : Completion) (m : Model) (j : Jury) (parts : List StreamPart) (vs : List Verdict) (h : HasTold c m j parts vs) where
-  abbrev pub have_verdicts : HaveVerdicts c m parts vs
-  have_verdicts = record { blocks = h.blocks; blocks_are = h.blocks_are; places = h.places; are_verdicts = goes_on_judged c m (map located_block h.blocks) vs j.judge.before j.judge.found h.judged.goes_on }
+-- what was judged, where only what is known of claims changes
+same_judged : (c : Completion) (m : Model) (j j' : Jury) (bs : List Block) (vs : List Verdict)
+    → j'.judge ≡ j.judge → j'.tally ≡ j.tally → HasJudged c m j bs vs → HasJudged c m j' bs vs
+same_judged c m j j' bs vs judge tally h = record {
+  same_model = ap (λ (k : JudgeState). k.model) judge ∙ h.same_model;
+  same_completion = ap (λ (k : JudgeState). k.completion) judge ∙ h.same_completion;
+  goes_on = λ more ws told. h.goes_on more ws (subst (λ (k : JudgeState). AreTold c m k.before k.found more ws) judge told);
+  tallies = subst (λ t. Tallies t vs) (sym tally) h.tallies;
+}
 
-  one_each : length vs ≡ length (blocks_in parts)
-  one_each = sym (told_lengths c m have_verdicts.are_verdicts) ∙ length-map h.blocks located_block ∙ sym (length-map h.blocks block_of) ∙ ap length h.blocks_are
+-- a block is judged, and then heard of
+pub record HearsBlock (j mid j' : Jury) (block : Block) (o : Outcome) : Type 0 where
+  pub judges : JudgesOneMore j mid block o.verdict
+  pub outcome : IsOutcome j.judge.model block o
+  pub filled_is : o.filled ≡ mid.judge.before
+  pub found_is : o.found ≡ mid.judge.found
+  pub same_model : mid.judge.model ≡ j.judge.model
+  pub same_claims : mid.claims ≡ j.claims
+  pub same_ledger : mid.ledger ≡ j.ledger
+  pub counted : mid.tally.blocks ≡ j.tally.blocks + 1
+  pub heard : j'.ledger ≡ behind_block mid.judge.model.aim mid.tally.blocks mid.ledger (is_satisfied o.verdict) mid.judge.before mid.judge.found
+  pub same : (j'.judge ≡ mid.judge) × (j'.tally ≡ mid.tally) × (j'.claims ≡ mid.claims)
 
-  pub tells_claim : (text : Event → List ℕ) (kind : ClaimKind) (line : List ℕ)
-      → line ≡ text (Claimed kind) → TellsOneMore text c m j parts vs (ClaimPart kind) line
-  tells_claim text kind line is = record {
-    more = vs;
-    told = record { blocks = h.blocks; blocks_are = h.blocks_are ∙ sym (blocks_with_claim parts kind); places = h.places; judged = h.judged };
-    lines = text_with text _ (events_of 0 vs parts) (Claimed kind) line (events_with_claims 0 vs parts (kind ∷ []) one_each) is;
+-- a claim is heard of
+pub record HearsClaim (j j' : Jury) (kind : ClaimKind) : Type 0 where
+  pub heard : j'.ledger ≡ behind_claim j.judge.model.aim j.claims j.tally.blocks j.ledger kind
+  pub same : (j'.judge ≡ j.judge) × (j'.tally ≡ j.tally) × (j'.claims ≡ j.claims)
+
+module _ (claims : Claims) (c : Completion) (m : Model) (j : Jury) (parts : List StreamPart) (os : List Outcome) (h : HasTold claims c m j parts os) where
+  abbrev pub have_outcomes : HaveOutcomes c m parts os
+  have_outcomes = record {
+    have_verdicts = record { blocks = h.blocks; blocks_are = h.blocks_are; places = h.places; are_verdicts = goes_on_judged c m (map located_block h.blocks) (verdicts_of os) j.judge.before j.judge.found h.judged.goes_on };
+    are_outcomes = h.are_outcomes;
   }
 
-  pub tells_block : (text : Event → List ℕ) (j' : Jury) (block : the_block.Block) (v : Verdict)
-      (n : ℕ) (line : List ℕ) → JudgesOneMore j j' (located_block block) v → n ≡ j.tally.blocks + 1
-      → line ≡ text (Judged n v) → HasPlaces block
-      → TellsOneMore text c m j' parts vs (BlockPart (block_of block)) line
-  tells_block text j' block v n line judges number is places =
-      let count : n ≡ suc (0 + length vs) = omega (arith, number, h.judged.tallies.blocks) in
+  one_each : length (verdicts_of os) ≡ length (blocks_in parts)
+  one_each = sym (told_lengths c m have_outcomes.have_verdicts.are_verdicts) ∙ length-map h.blocks located_block ∙ sym (length-map h.blocks block_of) ∙ ap length h.blocks_are
+
+  outcome_each : length os ≡ length (blocks_in parts)
+  outcome_each = sym (length-map os (λ (o : Outcome). o.verdict)) ∙ one_each
+
+  same_aim : j.judge.model.aim ≡ m.aim
+  same_aim = ap (λ (n : Model). n.aim) h.judged.same_model
+
+  pub tells_claim : (text : Event → List ℕ) (j' : Jury) (kind : ClaimKind) (line : List ℕ)
+      → HearsClaim j j' kind
+      → line ≡ text (claim_told j.judge.model.aim j.claims j.tally.blocks j.ledger kind)
+      → TellsOneMore claims text c m j' parts os (ClaimPart kind) line
+  tells_claim text j' kind line hears is =
+      let count : j.tally.blocks ≡ 0 + length os = omega (arith, h.judged.tallies.blocks, length-map os (λ (o : Outcome). o.verdict)) in
+      let before = ledger m.aim claims 0 no_ledger os parts in
+      let event : claim_told j.judge.model.aim j.claims j.tally.blocks j.ledger kind ≡ claim_told m.aim claims (0 + length os) before kind =
+      λ i. claim_told (same_aim i) (h.claims_are i) (count i) (h.ledger_is i) kind in
+      let after : j'.ledger ≡ behind_claim m.aim claims (0 + length os) before kind =
+      hears.heard ∙ (λ i. behind_claim (same_aim i) (h.claims_are i) (count i) (h.ledger_is i) kind) in
       record {
-        more = vs ++ v ∷ [];
+        more = os;
+        told = record {
+          blocks = h.blocks;
+          blocks_are = h.blocks_are ∙ sym (blocks_with_claim parts kind);
+          places = h.places;
+          judged = same_judged c m j j' (map located_block h.blocks) (verdicts_of os) hears.same.0 hears.same.1 h.judged;
+          are_outcomes = h.are_outcomes;
+          claims_are = hears.same.2 ∙ h.claims_are;
+          ledger_is = after ∙ sym (ledger_claim m.aim claims 0 no_ledger os parts kind outcome_each);
+        };
+        lines = text_with text _ (told_of m claims os parts) (claim_told m.aim claims (0 + length os) before kind) line (told_claim m.aim claims 0 no_ledger os parts kind outcome_each) (is ∙ ap text event);
+      }
+
+  pub tells_block : (text : Event → List ℕ) (mid j' : Jury) (block : the_block.Block) (o : Outcome)
+      (line : List ℕ) → HearsBlock j mid j' (located_block block) o
+      → line ≡ text_of text (Judged mid.tally.blocks o.verdict ∷ late_events (late_refuted mid.judge.model.aim mid.ledger.waiting (is_satisfied o.verdict) mid.judge.found) mid.tally.blocks)
+      → HasPlaces block
+      → TellsOneMore claims text c m j' parts os (BlockPart (block_of block)) line
+  tells_block text mid j' block o line hears is places =
+      let count : mid.tally.blocks ≡ suc (0 + length os) = omega (arith, hears.counted, h.judged.tallies.blocks, length-map os (λ (o : Outcome). o.verdict)) in
+      let before = ledger m.aim claims 0 no_ledger os parts in
+      let aim : mid.judge.model.aim ≡ m.aim = ap (λ (n : Model). n.aim) (hears.same_model ∙ h.judged.same_model) in
+      let known : mid.ledger ≡ before = hears.same_ledger ∙ h.ledger_is in
+      let events : (Judged mid.tally.blocks o.verdict ∷ late_events (late_refuted mid.judge.model.aim mid.ledger.waiting (is_satisfied o.verdict) mid.judge.found) mid.tally.blocks)
+      ≡ block_told m.aim (suc (0 + length os)) before o =
+      λ i. Judged (count i) o.verdict ∷ late_events (late_refuted (aim i) (known i).waiting (is_satisfied o.verdict) (sym hears.found_is i)) (count i) in
+      let after : j'.ledger ≡ behind m.aim (suc (0 + length os)) before o =
+      hears.heard ∙ (λ i. behind_block (aim i) (count i) (known i) (is_satisfied o.verdict) (sym hears.filled_is i) (sym hears.found_is i)) in
+      let all : verdicts_of (os ++ o ∷ []) ≡ verdicts_of os ++ o.verdict ∷ [] = map-append (λ (p : Outcome). p.verdict) os (o ∷ []) in
+      let places_of : map located_block (h.blocks ++ block ∷ []) ≡ map located_block h.blocks ++ located_block block ∷ [] = map-append located_block h.blocks (block ∷ []) in
+      record {
+        more = os ++ o ∷ [];
         told = record {
           blocks = h.blocks ++ block ∷ [];
           blocks_are = map-append block_of h.blocks (block ∷ []) ∙ ap (λ l. l ++ block_of block ∷ []) h.blocks_are ∙ sym (blocks_with_block parts (block_of block));
           places = every_append HasPlaces h.blocks (block ∷ []) h.places (places, tt);
-          judged = subst (λ bs. HasJudged c m j' bs (vs ++ v ∷ [])) (sym (map-append located_block h.blocks (block ∷ []))) (judges c m (map located_block h.blocks) vs h.judged);
+          judged = subst₂ (λ bs vs. HasJudged c m j' bs vs) (sym places_of) (sym all)
+              (same_judged c m mid j' (map located_block h.blocks ++ located_block block ∷ []) (verdicts_of os ++ o.verdict ∷ []) hears.same.0 hears.same.1
+              (hears.judges c m (map located_block h.blocks) (verdicts_of os) h.judged));
+          are_outcomes = subst (λ bs. AreOutcomes m bs (os ++ o ∷ [])) (sym places_of)
+              (outcomes_more m (map located_block h.blocks) os (located_block block) o h.are_outcomes (subst (λ n. IsOutcome n (located_block block) o) h.judged.same_model hears.outcome));
+          claims_are = hears.same.2 ∙ hears.same_claims ∙ h.claims_are;
+          ledger_is = after ∙ sym (ledger_block m.aim claims 0 no_ledger os parts o (block_of block) outcome_each);
         };
-        lines = text_with text _ (events_of 0 vs parts) (Judged (suc (0 + length vs)) v) line (events_with_block 0 vs parts v (block_of block) one_each) (is ∙ ap (λ k. text (Judged k v)) count);
+        lines = ap (text_of text) (told_block m.aim claims 0 no_ledger os parts o (block_of block) outcome_each)
+            ∙ flat_map-append text (told_of m claims os parts) (block_told m.aim (suc (0 + length os)) before o)
+            ∙ ap (λ l. text_of text (told_of m claims os parts) ++ l) (sym (is ∙ ap (text_of text) events));
       }
 
   pub leaves_block : (most : ℕ) (block : the_block.Block) (e : CheckError)

@@ -2,11 +2,13 @@ mod Rows
 pub mod Appending
 pub mod WritingLemmas
 pub mod EventLemmas
+pub mod ClaimLemmas
 pub mod JuryLemmas
 pub mod CutLemmas
 pub mod ReaderLemmas
 pub mod ReportLemmas
 pub mod StreamingLemmas
+pub mod LearningLemmas
 pub mod PassingLemmas
 pub mod Refusals
 pub mod Showing

@@ -1,5 +1,6 @@
 -- What the verdicts of a report say of solutions is so.
-use Rattle.std.proofs.Common.{◌≡◌, ℕ, List, map, Some, sym, ap, ◌∙◌, subst}
+use Rattle.std.proofs.Common.{◌≡◌, ℕ, List, [], ◌∷◌, ◌++◌, map, Some, refl, sym, ap, ◌∙◌, subst}
+use Rattle.std.specs.List.{AllByRecursion}
 use Rattle.fz_judge.specs.of_model.Located.{LocatedTree}
 use Rattle.fz_judge.specs.of_model.Meaning.{Model}
 use Rattle.fz_judge.specs.of_model.Names.{HasNoFault, model_of}
@@ -8,7 +9,7 @@ use Rattle.fz_judge.proofs.of_model.Scope.{sound_aims}
 use Rattle.fz_judge.specs.Solutions.{Block}
 use Rattle.fz_judge.specs.declared.completion.Completion.{Completion}
 use Rattle.fz_judge.specs.Completed.{AreVerdicts}
-use Rattle.fz_judge.specs.Verdict.{Answer, Verdict}
+use Rattle.fz_judge.specs.Verdict.{Answer, Verdict, answer_of}
 use Rattle.fz_judge.specs.Verdict.Answer.{Accepted}
 use Rattle.fz_judge.specs.Verdict.Verdict.{Violated}
 use Rattle.fz_judge.specs.BlockView.{located_block}
@@ -17,8 +18,12 @@ use Rattle.fz_judge.proofs.Completing.{accepted_judged}
 use Rattle.fz_judge.proofs.Each.{each_satisfied, each_violated, each_not_better}
 use Rattle.fz_judge.proofs.Places.{blocks_are_bare}
 use Rattle.fz_check.specs.Headline.{HasSolutions}
-use Rattle.fz_check.specs.Report.{Event, IsReport}
+use Rattle.fz_check.specs.declared.claims.Claims.{Claims}
+use Rattle.fz_check.specs.Claims.{HasReportWith, IsReportWith, IsTrueOf, ledger, no_ledger, verdicts_of}
+use Rattle.fz_check.specs.Report.{Event, IsReport, events_of}
+use Rattle.fz_check.specs.Report.Event.{Answered}
 use Rattle.fz_check.specs.Reported.{HasReport, AreBorneOut}
+use Rattle.fz_check.proofs.ClaimLemmas.{accepted_without, all_true}
 
 pub borne_out : (completion : Completion) (t : LocatedTree) (blocks : List Block)
     (vs : List Verdict) → HasNoFault t → AreVerdicts completion (model_of t) blocks vs
@@ -33,12 +38,15 @@ module _ (c : Completion) (model : List ℕ) (m : Model) (stream : List ℕ) (ev
   are : AreVerdicts c (model_of loaded.tree) (map located_block r.have_verdicts.blocks) r.verdicts
   are = subst (λ n. AreVerdicts c n (map located_block r.have_verdicts.blocks) r.verdicts) loaded.is r.have_verdicts.are_verdicts
 
+  pub are_borne_out : AreBorneOut m (map located_block r.have_verdicts.blocks) r.verdicts
+  are_borne_out = subst (λ n. AreBorneOut n (map located_block r.have_verdicts.blocks) r.verdicts) (sym loaded.is) (borne_out c loaded.tree (map located_block r.have_verdicts.blocks) r.verdicts loaded.no_fault are)
+
   -- the report on the model of a text
   pub report_of : HasReport c model stream events answer
   report_of = record {
     m = m;
     loaded = loaded;
-    holds = (r, subst (λ n. AreBorneOut n (map located_block r.have_verdicts.blocks) r.verdicts) (sym loaded.is) (borne_out c loaded.tree (map located_block r.have_verdicts.blocks) r.verdicts loaded.no_fault are));
+    holds = (r, are_borne_out);
   }
 
   -- an accepted stream has solutions
@@ -59,3 +67,33 @@ module _ (c : Completion) (model : List ℕ) (m : Model) (stream : List ℕ) (ev
         at_least_one = some;
         solutions = solutions;
       }
+
+-- ---- with what is told of claims
+
+module _ (claims : Claims) (c : Completion) (model : List ℕ) (m : Model) (stream : List ℕ) (events : List Event) (answer : Answer) (loaded : IsLoadedFrom model m) (r : IsReportWith claims c m stream events answer) where
+  abbrev plain : IsReport c m stream (events_of 0 (verdicts_of r.outcomes) r.parts ++ Answered (answer_of (verdicts_of r.outcomes)) ∷ []) (answer_of (verdicts_of r.outcomes))
+  plain = record {
+    parts = r.parts;
+    text_of_stream = r.text_of_stream;
+    verdicts = verdicts_of r.outcomes;
+    have_verdicts = r.have_outcomes.have_verdicts;
+    answer_is = refl;
+    events_are = refl;
+  }
+
+  pub reported : HasReportWith claims c model stream events answer
+  reported = record {
+    m = m;
+    loaded = loaded;
+    holds = (
+      r,
+      are_borne_out c model m stream _ _ loaded plain,
+      λ knows. subst (AllByRecursion (IsTrueOf m)) (sym r.events_are) (all_true m claims 0 no_ledger (map located_block r.have_outcomes.have_verdicts.blocks) r.outcomes r.parts knows tt r.have_outcomes.are_outcomes),
+    );
+  }
+
+  pub accepted_solutions : (count : ℕ) → answer ≡ Accepted count
+      → HasSolutions model stream count
+  accepted_solutions count accepted =
+      solutions_of c model m stream _ _ loaded plain count
+      (accepted_without (ledger m.aim claims 0 no_ledger r.outcomes r.parts).refuted (answer_of (verdicts_of r.outcomes)) count (sym r.answer_is ∙ accepted))

@@ -1,5 +1,5 @@
 -- What a check over a reader and a writer knows between two steps, and where it ends.
-use Rattle.std.proofs.Common.{◌≡◌, ◌≢◌, ℕ, Bool, ◌+◌, ◌*◌, ◌<◌, ◌≤◌, true, false, cond, List, [], ◌∷◌, ◌++◌, length, map, Option, None, inl, inr, ⊎_elim, refl, sym, ap, ◌∙◌, subst, append-nil, length-append, arith}
+use Rattle.std.proofs.Common.{◌≡◌, ◌≢◌, ℕ, Bool, ◌+◌, ◌*◌, ◌<◌, ◌≤◌, true, false, cond, List, [], ◌∷◌, ◌++◌, length, map, Option, None, inl, inr, ⊎_elim, refl, sym, ap, ◌∙◌, subst, subst₂, append-nil, length-append, arith}
 use Rattle.std.specs.Prelude.{IfOk, IfErr, OnOk, OnErr, Result, Ok, Err}
 use Rattle.std.proofs.lemmas.Grind.{flat_map-append}
 use Rattle.std.proofs.KnownBytes.{Appends-nil, Consumes-nil, Consumes-trans}
@@ -10,7 +10,7 @@ use Rattle.fz_judge.specs.of_stream.declared.splitter.Stage.TheVariants.{Running
 use Rattle.fz_judge.specs.of_stream.Parts.{StreamPart, Frame, IsStreamText}
 use Rattle.fz_judge.specs.BlockView.{located_block}
 use Rattle.fz_judge.specs.declared.completion.Completion.{Completion}
-use Rattle.fz_judge.specs.Verdict.{Verdict, Answer, answer_by, answer_of}
+use Rattle.fz_judge.specs.Verdict.{answer_by}
 use Rattle.fz_judge.specs.Judged.{JudgeState}
 use Rattle.fz_base.specs.declared.span.Span.{Span}
 use Rattle.fz_check.specs.declared.ending.Ending.{Ending}
@@ -23,16 +23,19 @@ use Rattle.fz_check.specs.declared.tally.Answer.TheVariants as answers
 use Rattle.fz_check.specs.Cutting.{HoldsOfJudged}
 use Rattle.fz_check.specs.Headline.{HasSolutions, HoldsOfStream}
 use Rattle.fz_check.specs.Reading.{PiecesState, ReaderState, HasRead, HasNext, StandsAt, SpendsReads, is_going, piece_size, reads_without, steps_left}
-use Rattle.fz_check.specs.Report.{Event, events_of, text_of}
+use Rattle.fz_check.specs.declared.claims.Claims.{Claims}
+use Rattle.fz_check.specs.declared.ledger.Ledger.{Ledger}
+use Rattle.fz_check.specs.Claims.{Outcome, answer_told, answer_with, ledger, no_ledger, told_of, verdicts_of}
+use Rattle.fz_check.specs.Report.{Event, text_of}
 use Rattle.fz_check.specs.Report.Event.{Answered}
 use Rattle.fz_check.specs.Streaming.{AreLast, EndInside, EndsFor, IsEndedBy, IsReportedWith, IsStopped, StopsAfterEvents, WritesFrontOfEvents}
 use Rattle.fz_check.specs.Telling.{AnswersOnceWritten, HasTold, IsEndOf, IsFresh, IsToldWith, IsUnread, IsUntold, IsUnwritten, LeavesNext, Stands, StopsOnceWritten, TellsNext, TellsOneMore, cut_events}
 use Rattle.fz_check.specs.View.{answer_view}
 use Rattle.fz_check.specs.Writing.{WritesFront, Wrote}
 use Rattle.fz_check.proofs.CutLemmas.{holds_at_end, if_judged}
-use Rattle.fz_check.proofs.JuryLemmas.{answer_is, have_verdicts, if_err, if_ok, told_none}
+use Rattle.fz_check.proofs.JuryLemmas.{answer_is, have_outcomes, if_err, if_ok, told_none}
 use Rattle.fz_check.proofs.ReaderLemmas.{all_taken, read_inside, read_more, stands_inside, stands_reading}
-use Rattle.fz_check.proofs.ReportLemmas.{report_of, solutions_of}
+use Rattle.fz_check.proofs.ReportLemmas.{reported, accepted_solutions}
 use Rattle.fz_check.proofs.WritingLemmas.{all_is_front, front_and_none, wrote_all, wrote_longer, wrote_on, wrote_part, wrote_whole}
 
 few_read : (at_end : Bool) (given more reads before all whole ended : ℕ)
@@ -43,25 +46,25 @@ few_read false given more reads before all whole ended few fewer size none is = 
 
 -- The parts that have ended in what was read are told, and of their lines all but these are
 -- written.
-pub record Living (text : Event → List ℕ) (c : Completion) (m : Model) (reads : ℕ) (s : ReaderState) (j : Jury) (left left' w w' : Option (List ℕ)) (lines : List ℕ) : Type 0 where
+pub record Living (claims : Claims) (text : Event → List ℕ) (c : Completion) (m : Model) (reads : ℕ) (s : ReaderState) (j : Jury) (left left' w w' : Option (List ℕ)) (lines : List ℕ) : Type 0 where
   pub given : List ℕ
   pub consumes : Consumes left left' given
   pub few : length given + reads_without s.pieces * piece_size ≤ reads * piece_size
   pub parts : List StreamPart
   pub stands : StandsAt s left' given parts
-  pub verdicts : List Verdict
-  pub told : HasTold c m j parts verdicts
-  pub gathered : Wrote w w' (text_of text (events_of 0 verdicts parts)) lines
+  pub outcomes : List Outcome
+  pub told : HasTold claims c m j parts outcomes
+  pub gathered : Wrote w w' (text_of text (told_of m claims outcomes parts)) lines
   pub counted : s.splitter.stage ≡ Running → j.tally.blocks ≤ s.splitter.taken
 
-pub living_first : (text : Event → List ℕ) (s : ReaderState) (j : Jury) (reads : ℕ) (left w : Option (List ℕ)) (lines : List ℕ) → IsFresh j → HasRead s [] [] → s.pieces ≡ record { pending = []; reads = reads; at_end = false } → lines ≡ [] → Living text j.judge.completion j.judge.model reads s j left left w w lines
+pub living_first : (text : Event → List ℕ) (s : ReaderState) (j : Jury) (reads : ℕ) (left w : Option (List ℕ)) (lines : List ℕ) → IsFresh j → HasRead s [] [] → s.pieces ≡ record { pending = []; reads = reads; at_end = false } → lines ≡ [] → Living j.claims text j.judge.completion j.judge.model reads s j left left w w lines
 living_first text s j reads left w lines fresh read pieces none = record {
   given = [];
   consumes = Consumes-nil left;
   few = omega (arith, ap reads_without pieces);
   parts = [];
   stands = inl (read, λ e. absurd (let no : false ≡ true = sym (ap (λ (p : PiecesState). p.at_end) pieces) ∙ e in cc));
-  verdicts = [];
+  outcomes = [];
   told = told_none j fresh;
   gathered = wrote_whole w w [] lines (Appends-nil w) none;
   counted = λ _. omega (arith, ap (λ (t : Tally). t.blocks) fresh.tally);
@@ -70,45 +73,45 @@ living_first text s j reads left w lines fresh read pieces none = record {
 -- ---- where a check ends
 
 -- a front of the lines was written
-pub stands_front : (ending : Ending) (text : Event → List ℕ) (c : Completion) (m : Model) (reads : ℕ)
+pub stands_front : (ending : Ending) (claims : Claims) (text : Event → List ℕ) (c : Completion) (m : Model) (reads : ℕ)
     (left left' w w' next : Option (List ℕ)) (lines : List ℕ)
-    → Stands ending text c m reads left left' w w' lines → WritesFront w' next lines → WritesFrontOfEvents ending text c m left left' w next
-stands_front ending text c m reads left left' w w' next lines h f =
+    → Stands ending claims text c m reads left left' w w' lines → WritesFront w' next lines → WritesFrontOfEvents ending claims text c m left left' w next
+stands_front ending claims text c m reads left left' w w' next lines h f =
     let g = h.front next f in
-    record { given = h.given; reads = h.consumes; parts = h.parts; end_inside = h.end_inside; verdicts = h.verdicts; have_verdicts = h.have_verdicts; last = h.last; are_last = h.are_last; front = g.front; rest = g.rest; whole = g.whole; writes = g.appends }
+    record { given = h.given; reads = h.consumes; parts = h.parts; end_inside = h.end_inside; outcomes = h.outcomes; have_outcomes = h.have_outcomes; last = h.last; are_last = h.are_last; front = g.front; rest = g.rest; whole = g.whole; writes = g.appends }
 
 -- no more lines were written where a write failed, or memory ran out
-pub stops_unwritten : (ending : Ending) (text : Event → List ℕ) (c : Completion) (m : Model) (reads : ℕ)
+pub stops_unwritten : (ending : Ending) (claims : Claims) (text : Event → List ℕ) (c : Completion) (m : Model) (reads : ℕ)
     (left left' w w' : Option (List ℕ)) (lines : List ℕ) (e : CheckError)
-    → Stands ending text c m reads left left' w w' lines → IsUnwritten e → StopsOnceWritten ending text c m left left' w w' lines e
-stops_unwritten ending text c m reads left left' w w' lines errors.Write h u = λ next a. stands_front ending text c m reads left left' w w' next lines h (all_is_front w' next lines a)
-stops_unwritten ending text c m reads left left' w w' lines errors.Memory h u = λ next a. stands_front ending text c m reads left left' w w' next lines h (all_is_front w' next lines a)
-stops_unwritten ending text c m reads left left' w w' lines errors.Read h u = absurd u
-stops_unwritten ending text c m reads left left' w w' lines (errors.Model e) h u = absurd u
-stops_unwritten ending text c m reads left left' w w' lines (errors.Names e) h u = absurd u
-stops_unwritten ending text c m reads left left' w w' lines (errors.Stream e) h u = absurd u
-stops_unwritten ending text c m reads left left' w w' lines (errors.Block n e) h u = absurd u
+    → Stands ending claims text c m reads left left' w w' lines → IsUnwritten e → StopsOnceWritten ending claims text c m left left' w w' lines e
+stops_unwritten ending claims text c m reads left left' w w' lines errors.Write h u = λ next a. stands_front ending claims text c m reads left left' w w' next lines h (all_is_front w' next lines a)
+stops_unwritten ending claims text c m reads left left' w w' lines errors.Memory h u = λ next a. stands_front ending claims text c m reads left left' w w' next lines h (all_is_front w' next lines a)
+stops_unwritten ending claims text c m reads left left' w w' lines errors.Read h u = absurd u
+stops_unwritten ending claims text c m reads left left' w w' lines (errors.Model e) h u = absurd u
+stops_unwritten ending claims text c m reads left left' w w' lines (errors.Names e) h u = absurd u
+stops_unwritten ending claims text c m reads left left' w w' lines (errors.Stream e) h u = absurd u
+stops_unwritten ending claims text c m reads left left' w w' lines (errors.Block n e) h u = absurd u
 
-module _ (ending : Ending) (text : Event → List ℕ) (c : Completion) (m : Model) (reads : ℕ) (j : Jury) (left left' w w' : Option (List ℕ)) (lines given : List ℕ) (consumes : Consumes left left' given)
-    (few : length given ≤ reads * piece_size) (parts : List StreamPart) (verdicts : List Verdict) (told : HasTold c m j parts verdicts) where
+module _ (ending : Ending) (claims : Claims) (text : Event → List ℕ) (c : Completion) (m : Model) (reads : ℕ) (j : Jury) (left left' w w' : Option (List ℕ)) (lines given : List ℕ) (consumes : Consumes left left' given)
+    (few : length given ≤ reads * piece_size) (parts : List StreamPart) (outcomes : List Outcome) (told : HasTold claims c m j parts outcomes) where
   -- all of the parts were told, with the lines that wait
-  module _ (last : List Event) (inside : EndInside left' given parts) (are_last : AreLast ending left' given parts verdicts last) (gathered : Wrote w w' (text_of text (events_of 0 verdicts parts ++ last)) lines) where
-    pub stand : Stands ending text c m reads left left' w w' lines
-    stand = record { given = given; consumes = consumes; few = few; parts = parts; end_inside = inside; verdicts = verdicts; have_verdicts = have_verdicts c m j parts verdicts told; last = last; are_last = are_last; front = λ next f. wrote_part w w' next _ lines gathered f }
+  module _ (last : List Event) (inside : EndInside left' given parts) (are_last : AreLast ending left' given parts (answer_told m claims outcomes parts) last) (gathered : Wrote w w' (text_of text (told_of m claims outcomes parts ++ last)) lines) where
+    pub stand : Stands ending claims text c m reads left left' w w' lines
+    stand = record { given = given; consumes = consumes; few = few; parts = parts; end_inside = inside; outcomes = outcomes; have_outcomes = have_outcomes claims c m j parts outcomes told; last = last; are_last = are_last; front = λ next f. wrote_part w w' next _ lines gathered f }
 
-  module _ (inside : EndInside left' given parts) (gathered : Wrote w w' (text_of text (events_of 0 verdicts parts)) lines) where
-    pub stand_so_far : Stands ending text c m reads left left' w w' lines
-    stand_so_far = stand [] inside (inl refl) (subst (λ es. Wrote w w' (text_of text es) lines) (sym (append-nil (events_of 0 verdicts parts))) gathered)
+  module _ (inside : EndInside left' given parts) (gathered : Wrote w w' (text_of text (told_of m claims outcomes parts)) lines) where
+    pub stand_so_far : Stands ending claims text c m reads left left' w w' lines
+    stand_so_far = stand [] inside (inl refl) (subst (λ es. Wrote w w' (text_of text es) lines) (sym (append-nil (told_of m claims outcomes parts))) gathered)
 
     stop : (next : Option (List ℕ)) → Appends w' next lines → (e : CheckError)
-        → EndsFor ending m left' given parts e → StopsAfterEvents ending text c m left left' w next e
-    stop next a e why = record { given = given; reads = consumes; parts = parts; verdicts = verdicts; have_verdicts = have_verdicts c m j parts verdicts told; writes = wrote_all w w' next _ lines gathered a; why = why }
+        → EndsFor ending m left' given parts e → StopsAfterEvents ending claims text c m left left' w next e
+    stop next a e why = record { given = given; reads = consumes; parts = parts; outcomes = outcomes; have_outcomes = have_outcomes claims c m j parts outcomes told; writes = wrote_all w w' next _ lines gathered a; why = why }
 
     -- this is why no more are told
     pub stops_for : (e : CheckError) → EndsFor ending m left' given parts e
-        → StopsOnceWritten ending text c m left left' w w' lines e
-    stops_for errors.Write why = stops_unwritten ending text c m reads left left' w w' lines errors.Write stand_so_far tt
-    stops_for errors.Memory why = stops_unwritten ending text c m reads left left' w w' lines errors.Memory stand_so_far tt
+        → StopsOnceWritten ending claims text c m left left' w w' lines e
+    stops_for errors.Write why = stops_unwritten ending claims text c m reads left left' w w' lines errors.Write stand_so_far tt
+    stops_for errors.Memory why = stops_unwritten ending claims text c m reads left left' w w' lines errors.Memory stand_so_far tt
     stops_for errors.Read why = λ next a. stop next a errors.Read why
     stops_for (errors.Stream e) why = λ next a. stop next a (errors.Stream e) why
     stops_for (errors.Block n e) why = λ next a. stop next a (errors.Block n e) why
@@ -144,21 +147,21 @@ untold_ends ending m left given parts part (errors.Model e) inside u = u
 untold_ends ending m left given parts part (errors.Names e) inside u = u
 untold_ends ending m left given parts part (errors.Stream e) inside u = absurd u
 
-module _ (ending : Ending) (text : Event → List ℕ) (c : Completion) (m : Model) (reads : ℕ) (s : ReaderState) (j : Jury) (left left' w w' : Option (List ℕ)) (lines : List ℕ) (l : Living text c m reads s j left left' w w' lines) where
+module _ (ending : Ending) (claims : Claims) (text : Event → List ℕ) (c : Completion) (m : Model) (reads : ℕ) (s : ReaderState) (j : Jury) (left left' w w' : Option (List ℕ)) (lines : List ℕ) (l : Living claims text c m reads s j left left' w w' lines) where
   so_few : length l.given ≤ reads * piece_size
   so_few = omega (arith, l.few)
 
   inside : EndInside left' l.given l.parts
   inside = stands_inside s left' l.given l.parts l.stands
 
-  pub living_stands : Stands ending text c m reads left left' w w' lines
-  living_stands = stand_so_far ending text c m reads j left left' w w' lines l.given l.consumes so_few l.parts l.verdicts l.told inside l.gathered
+  pub living_stands : Stands ending claims text c m reads left left' w w' lines
+  living_stands = stand_so_far ending claims text c m reads j left left' w w' lines l.given l.consumes so_few l.parts l.outcomes l.told inside l.gathered
 
   pub living_unread : (e : CheckError)
       → ((left : Option (List ℕ)) (given : List ℕ) (parts : List StreamPart) → StandsAt s left given parts → IsUnread ending left given parts e)
-      → StopsOnceWritten ending text c m left left' w w' lines e
+      → StopsOnceWritten ending claims text c m left left' w w' lines e
   living_unread e unread =
-      stops_for ending text c m reads j left left' w w' lines l.given l.consumes so_few l.parts l.verdicts l.told inside l.gathered e (unread_ends ending m left' l.given l.parts e (unread left' l.given l.parts l.stands))
+      stops_for ending claims text c m reads j left left' w w' lines l.given l.consumes so_few l.parts l.outcomes l.told inside l.gathered e (unread_ends ending m left' l.given l.parts e (unread left' l.given l.parts l.stands))
 
   -- one more part is told
   module _ (next : ReaderState) (going : s.splitter.stage ≢ Finished)
@@ -169,19 +172,19 @@ module _ (ending : Ending) (text : Event → List ℕ) (c : Completion) (m : Mod
 
     -- or not told
     pub living_untold : (e : CheckError) → LeavesNext next j e
-        → StopsOnceWritten ending text c m left left' w w' lines e
+        → StopsOnceWritten ending claims text c m left left' w w' lines e
     living_untold e leaves =
         let f = more left' l.given l.parts l.stands in
         let why : EndsFor ending m left' l.given l.parts e =
         ⊎_elim (unread_ends ending m left' l.given l.parts e) (λ p. untold_ends ending m left' l.given l.parts p.0 e (stands_inside next left' l.given (l.parts ++ p.0 ∷ []) p.1) p.2)
-        (leaves ending c m left' l.given l.parts f.0 l.verdicts f.1 l.told) in
-        stops_for ending text c m reads j left left' w w' lines l.given l.consumes so_few l.parts l.verdicts l.told inside l.gathered e why
+        (leaves ending claims c m left' l.given l.parts f.0 l.outcomes f.1 l.told) in
+        stops_for ending claims text c m reads j left left' w w' lines l.given l.consumes so_few l.parts l.outcomes l.told inside l.gathered e why
 
     module _ (j' : Jury) (line : List ℕ) (tells : TellsNext text next j j' line) where
-      read_and_told : (part : StreamPart) × StandsAt next left' l.given (l.parts ++ part ∷ []) × TellsOneMore text c m j' l.parts l.verdicts part line
+      read_and_told : (part : StreamPart) × StandsAt next left' l.given (l.parts ++ part ∷ []) × TellsOneMore claims text c m j' l.parts l.outcomes part line
       read_and_told =
           let f = more left' l.given l.parts l.stands in
-          tells c m left' l.given l.parts f.0 l.verdicts f.1 l.told
+          tells claims c m left' l.given l.parts f.0 l.outcomes f.1 l.told
 
       abbrev part : StreamPart
       part = read_and_told.0
@@ -189,22 +192,22 @@ module _ (ending : Ending) (text : Event → List ℕ) (c : Completion) (m : Mod
       stands_next : StandsAt next left' l.given (l.parts ++ part ∷ [])
       stands_next = read_and_told.1
 
-      one : TellsOneMore text c m j' l.parts l.verdicts part line
+      one : TellsOneMore claims text c m j' l.parts l.outcomes part line
       one = read_and_told.2
 
-      with_line : Wrote w w' (text_of text (events_of 0 one.more (l.parts ++ part ∷ []))) (lines ++ line)
+      with_line : Wrote w w' (text_of text (told_of m claims one.more (l.parts ++ part ∷ []))) (lines ++ line)
       with_line = wrote_longer w w' _ lines _ (lines ++ line) line l.gathered one.lines refl
 
       pub living_told : (w'' : Option (List ℕ)) (lines' : List ℕ) → Wrote w' w'' (lines ++ line) lines'
           → j'.tally.blocks ≤ j.tally.blocks + 1
-          → Living text c m reads next j' left left' w w'' lines'
+          → Living claims text c m reads next j' left left' w w'' lines'
       living_told w'' lines' wrote few_blocks = record {
         given = l.given;
         consumes = l.consumes;
         few = few_still;
         parts = l.parts ++ part ∷ [];
         stands = stands_next;
-        verdicts = one.more;
+        outcomes = one.more;
         told = one.told;
         gathered = wrote_on w w' w'' _ (lines ++ line) lines' with_line wrote;
         counted = λ running. (
@@ -215,36 +218,36 @@ module _ (ending : Ending) (text : Event → List ℕ) (c : Completion) (m : Mod
 
       -- but its line is not written
       pub living_ungathered : (w'' : Option (List ℕ)) (lines' : List ℕ)
-          → ((n : Option (List ℕ)) → WritesFront w'' n lines' → WritesFront w' n (lines ++ line)) → Stands ending text c m reads left left' w w'' lines'
+          → ((n : Option (List ℕ)) → WritesFront w'' n lines' → WritesFront w' n (lines ++ line)) → Stands ending claims text c m reads left left' w w'' lines'
       living_ungathered w'' lines' front = record {
         given = l.given;
         consumes = l.consumes;
         few = so_few;
         parts = l.parts ++ part ∷ [];
         end_inside = stands_inside next left' l.given (l.parts ++ part ∷ []) stands_next;
-        verdicts = one.more;
-        have_verdicts = have_verdicts c m j' (l.parts ++ part ∷ []) one.more one.told;
+        outcomes = one.more;
+        have_outcomes = have_outcomes claims c m j' (l.parts ++ part ∷ []) one.more one.told;
         last = [];
         are_last = inl refl;
-        front = λ n f. subst (λ es. WritesFront w n (text_of text es)) (sym (append-nil (events_of 0 one.more (l.parts ++ part ∷ [])))) (wrote_part w w' n _ (lines ++ line) with_line (front n f));
+        front = λ n f. subst (λ es. WritesFront w n (text_of text es)) (sym (append-nil (told_of m claims one.more (l.parts ++ part ∷ [])))) (wrote_part w w' n _ (lines ++ line) with_line (front n f));
       }
 
   -- ---- all lines are written, and more is read
 
   -- a front of the lines that waited was written
   pub living_lost : (w'' : Option (List ℕ)) (rest : List ℕ) → WritesFront w' w'' lines → rest ≡ []
-      → Stands ending text c m reads left left' w w'' rest
+      → Stands ending claims text c m reads left left' w w'' rest
   living_lost w'' rest f none = record {
     given = l.given;
     consumes = l.consumes;
     few = so_few;
     parts = l.parts;
     end_inside = inside;
-    verdicts = l.verdicts;
-    have_verdicts = have_verdicts c m j l.parts l.verdicts l.told;
+    outcomes = l.outcomes;
+    have_outcomes = have_outcomes claims c m j l.parts l.outcomes l.told;
     last = [];
     are_last = inl refl;
-    front = λ n g. subst (λ es. WritesFront w n (text_of text es)) (sym (append-nil (events_of 0 l.verdicts l.parts))) (wrote_part w w' n _ lines l.gathered (front_and_none w' w'' n lines rest f none g));
+    front = λ n g. subst (λ es. WritesFront w n (text_of text es)) (sym (append-nil (told_of m claims l.outcomes l.parts))) (wrote_part w w' n _ lines l.gathered (front_and_none w' w'' n lines rest f none g));
   }
 
   module _ (now next : ReaderState) (w'' left'' : Option (List ℕ)) (rest : List ℕ) (written : Appends w' w'' lines) (all_written : rest ≡ [])
@@ -259,7 +262,7 @@ module _ (ending : Ending) (text : Event → List ℕ) (c : Completion) (m : Mod
     gave_all : Consumes left left'' given
     gave_all = Consumes-trans left left' left'' l.given next.pieces.pending l.consumes consumes
 
-    wrote : Wrote w w'' (text_of text (events_of 0 l.verdicts l.parts)) rest
+    wrote : Wrote w w'' (text_of text (told_of m claims l.outcomes l.parts)) rest
     wrote = wrote_on w w' w'' _ lines rest l.gathered (wrote_whole w' w'' lines rest written all_written)
 
     -- the read failed
@@ -267,22 +270,22 @@ module _ (ending : Ending) (text : Event → List ℕ) (c : Completion) (m : Mod
       few_now : length given ≤ reads * piece_size
       few_now = omega (arith, so_few, ap length still, length-append l.given next.pieces.pending)
 
-      pub living_unread_stands : Stands ending text c m reads left left'' w w'' rest
-      living_unread_stands = stand_so_far ending text c m reads j left left'' w w'' rest given gave_all few_now l.parts l.verdicts l.told (read_inside next left'' given l.parts read_all) wrote
+      pub living_unread_stands : Stands ending claims text c m reads left left'' w w'' rest
+      living_unread_stands = stand_so_far ending claims text c m reads j left left'' w w'' rest given gave_all few_now l.parts l.outcomes l.told (read_inside next left'' given l.parts read_all) wrote
 
-      pub living_no_bytes : StopsOnceWritten ending text c m left left'' w w'' rest errors.Read
-      living_no_bytes = stops_for ending text c m reads j left left'' w w'' rest given gave_all few_now l.parts l.verdicts l.told (read_inside next left'' given l.parts read_all) wrote errors.Read (all_taken next given l.parts still read_all)
+      pub living_no_bytes : StopsOnceWritten ending claims text c m left left'' w w'' rest errors.Read
+      living_no_bytes = stops_for ending claims text c m reads j left left'' w w'' rest given gave_all few_now l.parts l.outcomes l.told (read_inside next left'' given l.parts read_all) wrote errors.Read (all_taken next given l.parts still read_all)
 
     pub living_read : next.pieces.reads + 1 ≡ s.pieces.reads → length next.pieces.pending ≤ piece_size
         → (next.pieces.at_end ≡ true → (next.pieces.pending ≡ []) × IsAtEnd left'') → s.splitter.stage ≢ Finished
-        → Living text c m reads next j left left'' w w'' rest
+        → Living claims text c m reads next j left left'' w w'' rest
     living_read fewer size end going = record {
       given = given;
       consumes = gave_all;
       few = few_read next.pieces.at_end (length l.given) (length next.pieces.pending) next.pieces.reads s.pieces.reads reads (length given) (cond s.pieces.at_end 1 0) l.few fewer size (λ e. ap length (end e).0) (length-append l.given next.pieces.pending);
       parts = l.parts;
       stands = inl (read_all, λ e. (end e).1);
-      verdicts = l.verdicts;
+      outcomes = l.outcomes;
       told = l.told;
       gathered = wrote;
       counted = λ running. (
@@ -299,49 +302,51 @@ module _ (ending : Ending) (text : Event → List ℕ) (c : Completion) (m : Mod
     at_end = ended left' l.given l.parts l.stands
 
     module _ (answer : the_tally.Answer)
-        (is : answer_view answer ≡ answer_by j.tally.violated j.tally.undecided j.tally.blocks)
+        (is : answer_view answer ≡ answer_with j.ledger.refuted (answer_by j.tally.violated j.tally.undecided j.tally.blocks))
         (lines' : List ℕ) where
-      answered : answer_view answer ≡ answer_of l.verdicts
+      answered : answer_view answer ≡ answer_told m claims l.outcomes l.parts
       answered =
-          answer_is c m j (map located_block l.told.blocks) l.verdicts _ l.told.judged is
+          is ∙ ap (λ (k : Ledger). answer_with k.refuted _) l.told.ledger_is
+          ∙ ap (answer_with (ledger m.aim claims 0 no_ledger l.outcomes l.parts).refuted)
+          (answer_is c m j (map located_block l.told.blocks) (verdicts_of l.outcomes) _ l.told.judged refl)
 
       abbrev pub last : List Event
       last = cut_events cut ++ Answered (answer_view answer) ∷ []
 
       module _ (added : lines' ≡ lines ++ text_of text last) where
-        gathered_all : Wrote w w' (text_of text (events_of 0 l.verdicts l.parts ++ last)) lines'
+        gathered_all : Wrote w w' (text_of text (told_of m claims l.outcomes l.parts ++ last)) lines'
         gathered_all =
-            let more = flat_map-append text (events_of 0 l.verdicts l.parts) last in
+            let more = flat_map-append text (told_of m claims l.outcomes l.parts) last in
             wrote_longer w w' _ lines _ lines' (text_of text last) l.gathered more added
 
-        are_last : AreLast ending left' l.given l.parts l.verdicts last
+        are_last : AreLast ending left' l.given l.parts (answer_told m claims l.outcomes l.parts) last
         are_last = inr (
           at_end.0,
           holds_at_end ending l.given l.parts cut (λ front before. IsStreamText front l.parts
-              × (last ≡ before ++ Answered (answer_of l.verdicts) ∷ [])) at_end.1
+              × (last ≡ before ++ Answered (answer_told m claims l.outcomes l.parts) ∷ [])) at_end.1
               (λ front t. (t, ap (λ a. cut_events cut ++ Answered a ∷ []) answered)),
         )
 
-        answered_stands : Stands ending text c m reads left left' w w' lines'
-        answered_stands = stand ending text c m reads j left left' w w' lines' l.given l.consumes
-            so_few l.parts l.verdicts l.told last inside are_last gathered_all
+        answered_stands : Stands ending claims text c m reads left left' w w' lines'
+        answered_stands = stand ending claims text c m reads j left left' w w' lines' l.given l.consumes
+            so_few l.parts l.outcomes l.told last inside are_last gathered_all
 
         told_of : (front : List ℕ) → IsStreamText front l.parts
-            → IsToldWith (cut_events cut) text c m front w w' lines' (answer_view answer)
+            → IsToldWith claims (cut_events cut) text c m front w w' lines' (answer_view answer)
         told_of front t = record {
-          events = events_of 0 l.verdicts l.parts;
+          events = told_of m claims l.outcomes l.parts;
           report = record {
             parts = l.parts;
             text_of_stream = t;
-            verdicts = l.verdicts;
-            have_verdicts = have_verdicts c m j l.parts l.verdicts l.told;
+            outcomes = l.outcomes;
+            have_outcomes = have_outcomes claims c m j l.parts l.outcomes l.told;
             answer_is = answered;
             events_are = refl;
           };
           writes = λ next a. wrote_all w w' next _ lines' gathered_all a;
         }
 
-        answers_then : s.pieces.at_end ≡ true → AnswersOnceWritten ending text c m reads left left' w w'
+        answers_then : s.pieces.at_end ≡ true → AnswersOnceWritten ending claims text c m reads left left' w w'
             lines' (answer_view answer)
         answers_then found = record {
           given = l.given;
@@ -349,63 +354,63 @@ module _ (ending : Ending) (text : Event → List ℕ) (c : Completion) (m : Mod
           end = at_end.0;
           few = omega (arith, l.few, ap {B = ℕ} (λ b. cond b 1 0) found);
           report = holds_at_end ending l.given l.parts cut
-              (λ front before. IsToldWith before text c m front w w' lines' (answer_view answer))
+              (λ front before. IsToldWith claims before text c m front w w' lines' (answer_view answer))
               at_end.1 told_of;
         }
 
       -- the answer is told, or memory ran out
       pub living_ended : (r : Result the_tally.Answer CheckError)
           → OnOk r (lines' ≡ lines ++ text_of text last) → OnErr r (lines' ≡ lines)
-          → Stands ending text c m reads left left' w w' lines'
+          → Stands ending claims text c m reads left left' w w' lines'
       living_ended (Ok a) told same = answered_stands told
       living_ended (Err e) told same =
-          subst (Stands ending text c m reads left left' w w') (sym same) living_stands
+          subst (Stands ending claims text c m reads left left' w w') (sym same) living_stands
 
       pub living_answered : (r : Result the_tally.Answer CheckError)
           → OnOk r (lines' ≡ lines ++ text_of text last) → IfOk r (λ a. a ≡ answer)
           → s.pieces.at_end ≡ true
-          → IfOk r (λ a. AnswersOnceWritten ending text c m reads left left' w w' lines' (answer_view a))
-      living_answered (Ok a) told same found = subst (λ b. AnswersOnceWritten ending text c m reads left left' w w' lines' (answer_view b)) (sym same) (answers_then told found)
+          → IfOk r (λ a. AnswersOnceWritten ending claims text c m reads left left' w w' lines' (answer_view a))
+      living_answered (Ok a) told same found = subst (λ b. AnswersOnceWritten ending claims text c m reads left left' w w' lines' (answer_view b)) (sym same) (answers_then told found)
       living_answered (Err e) told same found = tt
 
       pub living_unanswered : (r : Result the_tally.Answer CheckError)
           → OnOk r (lines' ≡ lines ++ text_of text last) → OnErr r (lines' ≡ lines)
           → IfErr r (λ e. e ≡ errors.Memory)
-          → IfErr r (StopsOnceWritten ending text c m left left' w w' lines')
+          → IfErr r (StopsOnceWritten ending claims text c m left left' w w' lines')
       living_unanswered (Ok a) told same kinds = tt
-      living_unanswered (Err e) told same kinds = stops_unwritten ending text c m reads left left' w w' lines' e (living_ended (Err e) told same) (subst IsUnwritten (sym kinds) tt)
+      living_unanswered (Err e) told same kinds = stops_unwritten ending claims text c m reads left left' w w' lines' e (living_ended (Err e) told same) (subst IsUnwritten (sym kinds) tt)
 
 -- ---- once the lines that are left are written, of the model of a text
 
-ended_by : (ending : Ending) (text : Event → List ℕ) (c : Completion) (model : List ℕ) (m : Model)
-    (left left' w w' : Option (List ℕ)) (e : CheckError) → IsLoadedFrom model m → IsStopped ending text c m left left' w w' e → IsEndedBy ending text c model left left' w w' e
-ended_by ending text c model m left left' w w' (errors.Model e) loaded h = absurd h.why
-ended_by ending text c model m left left' w w' (errors.Names e) loaded h = absurd h.why
-ended_by ending text c model m left left' w w' errors.Memory loaded h = inr (record { m = m; loaded = loaded; holds = h })
-ended_by ending text c model m left left' w w' errors.Write loaded h = record { m = m; loaded = loaded; holds = h }
-ended_by ending text c model m left left' w w' errors.Read loaded h = record { m = m; loaded = loaded; holds = h }
-ended_by ending text c model m left left' w w' (errors.Stream e) loaded h = record { m = m; loaded = loaded; holds = h }
-ended_by ending text c model m left left' w w' (errors.Block n e) loaded h = record { m = m; loaded = loaded; holds = h }
+ended_by : (ending : Ending) (claims : Claims) (text : Event → List ℕ) (c : Completion) (model : List ℕ) (m : Model)
+    (left left' w w' : Option (List ℕ)) (e : CheckError) → IsLoadedFrom model m → IsStopped ending claims text c m left left' w w' e → IsEndedBy ending claims text c model left left' w w' e
+ended_by ending claims text c model m left left' w w' (errors.Model e) loaded h = absurd h.why
+ended_by ending claims text c model m left left' w w' (errors.Names e) loaded h = absurd h.why
+ended_by ending claims text c model m left left' w w' errors.Memory loaded h = inr (record { m = m; loaded = loaded; holds = h })
+ended_by ending claims text c model m left left' w w' errors.Write loaded h = record { m = m; loaded = loaded; holds = h }
+ended_by ending claims text c model m left left' w w' errors.Read loaded h = record { m = m; loaded = loaded; holds = h }
+ended_by ending claims text c model m left left' w w' (errors.Stream e) loaded h = record { m = m; loaded = loaded; holds = h }
+ended_by ending claims text c model m left left' w w' (errors.Block n e) loaded h = record { m = m; loaded = loaded; holds = h }
 
-module _ (ending : Ending) (text : Event → List ℕ) (c : Completion) (model : List ℕ) (m : Model) (reads : ℕ) (left left' w w' w'' : Option (List ℕ)) (lines : List ℕ) (loaded : IsLoadedFrom model m) (j : JudgeState) (same : j ≡ record { model = m; completion = c; before = None; found = None }) where
-  -- what holds of the judge's model and way of judging
-  at : (P : Completion → Model → Type 0) → P j.completion j.model → P c m
-  at P h = subst (λ (k : JudgeState). P k.completion k.model) same h
+module _ (ending : Ending) (claims : Claims) (text : Event → List ℕ) (c : Completion) (model : List ℕ) (m : Model) (reads : ℕ) (left left' w w' w'' : Option (List ℕ)) (lines : List ℕ) (loaded : IsLoadedFrom model m) (j : JudgeState) (same : j ≡ record { model = m; completion = c; before = None; found = None }) (k : Claims) (same_claims : k ≡ claims) where
+  -- what holds of the judge's model and way of judging, and of what is known of claims
+  at : (P : Claims → Completion → Model → Type 0) → P k j.completion j.model → P claims c m
+  at P h = subst₂ (λ l (i : JudgeState). P l i.completion i.model) same_claims same h
 
   -- but for some that can't be
-  pub unwritten_then : Stands ending text j.completion j.model reads left left' w w' lines
+  pub unwritten_then : Stands ending k text j.completion j.model reads left left' w w' lines
       → WritesFront w' w'' lines
-      → IsEndedBy ending text c model left left' w w'' errors.Write
+      → IsEndedBy ending claims text c model left left' w w'' errors.Write
   unwritten_then stands f =
-      let here : Stands ending text c m reads left left' w w' lines =
-      at (λ d n. Stands ending text d n reads left left' w w' lines) stands in
-      let holds = stands_front ending text c m reads left left' w w' w'' lines here f in
+      let here : Stands ending claims text c m reads left left' w w' lines =
+      at (λ l d n. Stands ending l text d n reads left left' w w' lines) stands in
+      let holds = stands_front ending claims text c m reads left left' w w' w'' lines here f in
       record { m = m; loaded = loaded; holds = holds }
 
   module _ (r : Result the_tally.Answer CheckError) where
-    module _ (answered : IfOk r (λ a. AnswersOnceWritten ending text j.completion j.model reads left left' w w' lines (answer_view a))) where
-      now : IfOk r (λ a. AnswersOnceWritten ending text c m reads left left' w w' lines (answer_view a))
-      now = at (λ d n. IfOk r (λ a. AnswersOnceWritten ending text d n reads left left' w w' lines (answer_view a))) answered
+    module _ (answered : IfOk r (λ a. AnswersOnceWritten ending k text j.completion j.model reads left left' w w' lines (answer_view a))) where
+      now : IfOk r (λ a. AnswersOnceWritten ending claims text c m reads left left' w w' lines (answer_view a))
+      now = at (λ l d n. IfOk r (λ a. AnswersOnceWritten ending l text d n reads left left' w w' lines (answer_view a))) answered
 
       pub accepted_then : IfOk r (λ a. (count : ℕ) → a ≡ answers.Accepted count
           → HoldsOfStream left left'
@@ -414,8 +419,8 @@ module _ (ending : Ending) (text : Event → List ℕ) (c : Completion) (model :
         given = h.given;
         reads = h.consumes;
         end = h.end;
-        holds = if_judged ending h.given (λ front cut. IsToldWith cut text c m front w w' lines (answer_view a)) (λ front _. HasSolutions model front count)
-            (λ front cut t. solutions_of c model m front (t.events ++ Answered (answer_view a) ∷ []) (answer_view a) loaded t.report count (ap answer_view is)) h.report;
+        holds = if_judged ending h.given (λ front cut. IsToldWith claims cut text c m front w w' lines (answer_view a)) (λ front _. HasSolutions model front count)
+            (λ front cut t. accepted_solutions claims c model m front t.events (answer_view a) loaded t.report count (ap answer_view is)) h.report;
       }) now
 
       pub end_read_then : IfOk r (λ _. SpendsReads reads 1 left left')
@@ -424,16 +429,16 @@ module _ (ending : Ending) (text : Event → List ℕ) (c : Completion) (model :
       -- the lines that were left are written
       pub reported_then : Appends w' w'' lines
           → IfOk r (λ a. HoldsOfStream left left' (λ given. HoldsOfJudged ending given
-          (λ front cut. IsReportedWith cut text c model front w w'' (answer_view a))))
+          (λ front cut. IsReportedWith claims cut text c model front w w'' (answer_view a))))
       reported_then appends = if_ok _ _ r (λ a h. record {
         given = h.given;
         reads = h.consumes;
         end = h.end;
-        holds = if_judged ending h.given (λ front cut. IsToldWith cut text c m front w w' lines (answer_view a)) (λ front cut. IsReportedWith cut text c model front w w'' (answer_view a))
-            (λ front cut t. record { events = t.events; has_report = report_of c model m front (t.events ++ Answered (answer_view a) ∷ []) (answer_view a) loaded t.report; writes = t.writes w'' appends }) h.report;
+        holds = if_judged ending h.given (λ front cut. IsToldWith claims cut text c m front w w' lines (answer_view a)) (λ front cut. IsReportedWith claims cut text c model front w w'' (answer_view a))
+            (λ front cut t. record { events = t.events; has_report = reported claims c model m front t.events (answer_view a) loaded t.report; writes = t.writes w'' appends }) h.report;
       }) now
 
     pub refused_then : Appends w' w'' lines
-        → IfErr r (StopsOnceWritten ending text j.completion j.model left left' w w' lines)
-        → IfErr r (IsEndedBy ending text c model left left' w w'')
-    refused_then appends h = if_err _ _ r (λ e stops. ended_by ending text c model m left left' w w'' e loaded (stops w'' appends)) (at (λ d n. IfErr r (StopsOnceWritten ending text d n left left' w w' lines)) h)
+        → IfErr r (StopsOnceWritten ending k text j.completion j.model left left' w w' lines)
+        → IfErr r (IsEndedBy ending claims text c model left left' w w'')
+    refused_then appends h = if_err _ _ r (λ e stops. ended_by ending claims text c model m left left' w w'' e loaded (stops w'' appends)) (at (λ l d n. IfErr r (StopsOnceWritten ending l text d n left left' w w' lines)) h)

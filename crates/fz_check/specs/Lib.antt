@@ -1,5 +1,6 @@
 pub mod Report
 pub mod Reported
+pub mod Claims
 pub mod Headline
 pub mod Cutting
 pub mod Refused

@@ -1,6 +1,6 @@
 -- What a check tells of a stream: its events in order, which make up the report, and the line of
 -- each (this project's profile).
-use Rattle.std.specs.Prelude.{◌≡◌, ℕ, suc, List, [], ◌∷◌, ◌++◌, map, codes, decimal, flat_map}
+use Rattle.std.specs.Prelude.{◌≡◌, ℕ, suc, List, [], ◌∷◌, ◌++◌, cond, map, codes, decimal, flat_map}
 use Rattle.std.specs.List.{AllByRecursion}
 use Rattle.std.specs.Fmt.{signed_decimal}
 use Rattle.fz_base.specs.declared.span.Span.{Span}
@@ -17,12 +17,18 @@ use Rattle.fz_judge.specs.Verdict.{Fault, Reason, Verdict, Answer, answer_of}
 use Rattle.fz_judge.specs.Verdict.Fault.{PrintedFault, DomainFault, DefinitionFault, ConstraintFault, NotBetter}
 use Rattle.fz_judge.specs.Verdict.Reason.{NoValueFor, NotKnown, NotShownBetter, SumTooLarge}
 use Rattle.fz_judge.specs.Verdict.Verdict.{Satisfied, Violated, Undecided}
-use Rattle.fz_judge.specs.Verdict.Answer.{Accepted, Rejected, UndecidedAt, NoBlocks}
+use Rattle.fz_judge.specs.Verdict.Answer.{Accepted, Rejected, UndecidedAt, NoBlocks, ClaimRejected}
+use Rattle.fz_check.specs.declared.claims.Refutation.{Refutation}
+use Rattle.fz_check.specs.declared.claims.Refuter.{Refuter}
+use Rattle.fz_check.specs.declared.claims.Refuter.TheVariants as refuters
+use Rattle.fz_check.specs.declared.claims.Source.{Source}
 
--- the verdict on the block of this number, from 1; a claim; what was cut off; the answer
+-- the verdict on the block of this number, from 1; a claim that isn't refuted; one that is, with
+-- what refutes it; what was cut off; the answer
 pub data Event : Type 0 where
   Judged : ℕ → Verdict → Event
   Claimed : ClaimKind → Event
+  Refuted : Refutation → Event
   CutOff : Span → Event
   Answered : Answer → Event
 
@@ -90,10 +96,28 @@ answer_text (Accepted n) = codes "accepted: blocks " ++ decimal n
 answer_text (Rejected n) = codes "rejected: block " ++ decimal n
 answer_text (UndecidedAt n) = codes "undecided: block " ++ decimal n
 answer_text NoBlocks = codes "no blocks"
+answer_text (ClaimRejected n) = codes "rejected: claim after block " ++ decimal n
+
+-- a known block; its file is named where there are several
+abbrev pub source_text : Source → List ℕ
+source_text s = codes "known block " ++ decimal s.block
+    ++ cond s.is_only [] (codes " of " ++ s.file.now)
+
+abbrev pub refuter_text : Refuter → List ℕ
+refuter_text (refuters.Block n) = codes "block " ++ decimal n
+refuter_text (refuters.Behind n) = codes "block " ++ decimal n
+refuter_text (refuters.Known s) = source_text s
+
+-- the claim is told in its place, or behind, and then with its place
+abbrev pub place_text : ℕ → Refuter → List ℕ
+place_text after (refuters.Behind n) = codes "claim after block " ++ decimal after ++ codes ": "
+place_text after _ = codes "claim: "
 
 abbrev pub event_text : Event → List ℕ
 event_text (Judged n v) = codes "block " ++ decimal n ++ codes ": " ++ verdict_text v
 event_text (Claimed k) = codes "claim: " ++ claim_text k ++ codes " not judged"
+event_text (Refuted r) = place_text r.claim.after r.by ++ claim_text r.claim.kind
+    ++ codes " refuted by " ++ refuter_text r.by
 event_text (CutOff span) = codes "cut: " ++ decimal span.start ++ codes ".." ++ decimal span.end
 event_text (Answered a) = answer_text a
 

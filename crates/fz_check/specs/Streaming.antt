@@ -11,7 +11,7 @@ use Rattle.fz_judge.specs.of_stream.Found.{HasPlaces, block_of}
 use Rattle.fz_judge.specs.of_stream.Parts.{blocks_in, StreamPart, BlockPart, IsStreamText}
 use Rattle.fz_judge.specs.BlockView.{located_block}
 use Rattle.fz_judge.specs.declared.completion.Completion.{Completion}
-use Rattle.fz_judge.specs.Verdict.{Verdict, Answer, answer_of}
+use Rattle.fz_judge.specs.Verdict.{Answer}
 use Rattle.fz_judge.specs.declared.error.BlockError.{BlockError}
 use Rattle.fz_judge.specs.declared.error.BlockError.TheVariants.{Memory}
 use Rattle.fz_judge.specs.Judged.{IsBlockRefusal}
@@ -22,9 +22,11 @@ use Rattle.fz_check.specs.declared.error.CheckError.TheVariants as errors
 use Rattle.fz_check.specs.Cutting.{HoldsOfJudged}
 use Rattle.fz_check.specs.Reading.{HasNoMore, IsRefusedBy}
 use Rattle.fz_check.specs.Refused.{HasNameFault, HasTextFault}
-use Rattle.fz_check.specs.Report.{Event, HaveVerdicts, events_of, text_of}
+use Rattle.fz_check.specs.declared.claims.Claims.{Claims}
+use Rattle.fz_check.specs.Claims.{HasReportWith, HaveOutcomes, Outcome, answer_told, told_of}
+use Rattle.fz_check.specs.Report.{Event, text_of}
 use Rattle.fz_check.specs.Report.Event.{Answered}
-use Rattle.fz_check.specs.Reported.{HasReport, HoldsOfModel}
+use Rattle.fz_check.specs.Reported.{HoldsOfModel}
 
 -- the most reads of a stream
 abbrev pub most_reads : ℕ
@@ -32,16 +34,17 @@ most_reads = 4294967296
 
 -- The writer got the report on these bytes, with this told before the answer, and nothing else, and
 -- this is its answer.
-pub record IsReportedWith (cut : List Event) (text : Event → List ℕ) (c : Completion)
-    (model given : List ℕ) (written written' : Option (List ℕ)) (answer : Answer) : Type 0 where
+pub record IsReportedWith (claims : Claims) (cut : List Event) (text : Event → List ℕ)
+    (c : Completion) (model given : List ℕ) (written written' : Option (List ℕ))
+    (answer : Answer) : Type 0 where
   pub events : List Event
-  pub has_report : HasReport c model given (events ++ Answered answer ∷ []) answer
+  pub has_report : HasReportWith claims c model given events answer
   pub writes : Appends written written' (text_of text (events ++ (cut ++ Answered answer ∷ [])))
 
 -- with nothing told but the report
-abbrev pub IsReportedTo : (Event → List ℕ) → Completion → List ℕ → List ℕ → Option (List ℕ)
-    → Option (List ℕ) → Answer → Type 0
-IsReportedTo = IsReportedWith []
+abbrev pub IsReportedTo : Claims → (Event → List ℕ) → Completion → List ℕ → List ℕ
+    → Option (List ℕ) → Option (List ℕ) → Answer → Type 0
+IsReportedTo claims = IsReportedWith claims []
 
 -- In the bytes, of which the reader gave the last where it is at its end, these parts end: they
 -- have ended in a front of the bytes, and no others, or all of the bytes are a text of them.
@@ -75,49 +78,49 @@ EndsFor ending m left given parts (errors.Names e) = ⊥
 
 -- The reader gave these bytes, and the writer got the events of all parts before the error, and
 -- nothing else.
-pub record StopsAfterEvents (ending : Ending) (text : Event → List ℕ) (c : Completion) (m : Model)
+pub record StopsAfterEvents (ending : Ending) (claims : Claims) (text : Event → List ℕ) (c : Completion) (m : Model)
     (left left' written written' : Option (List ℕ)) (e : CheckError) : Type 0 where
   pub given : List ℕ
   pub reads : Consumes left left' given
   pub parts : List StreamPart
-  pub verdicts : List Verdict
-  pub have_verdicts : HaveVerdicts c m parts verdicts
-  pub writes : Appends written written' (text_of text (events_of 0 verdicts parts))
+  pub outcomes : List Outcome
+  pub have_outcomes : HaveOutcomes c m parts outcomes
+  pub writes : Appends written written' (text_of text (told_of m claims outcomes parts))
   pub why : EndsFor ending m left' given parts e
 
 -- no event, or that of the answer where the bytes have ended, behind what was cut off
-abbrev pub AreLast : Ending → Option (List ℕ) → List ℕ → List StreamPart → List Verdict
-    → List Event → Type 0
-AreLast ending left given parts verdicts events =
+abbrev pub AreLast : Ending → Option (List ℕ) → List ℕ → List StreamPart → Answer → List Event
+    → Type 0
+AreLast ending left given parts answer events =
     (events ≡ []) ⊎ (IsAtEnd left × HoldsOfJudged ending given (λ front cut.
-    IsStreamText front parts × (events ≡ cut ++ Answered (answer_of verdicts) ∷ [])))
+    IsStreamText front parts × (events ≡ cut ++ Answered answer ∷ [])))
 
 -- The reader gave these bytes, and the writer got a front of the text of their events, and nothing
 -- else.
-pub record WritesFrontOfEvents (ending : Ending) (text : Event → List ℕ) (c : Completion)
+pub record WritesFrontOfEvents (ending : Ending) (claims : Claims) (text : Event → List ℕ) (c : Completion)
     (m : Model) (left left' written written' : Option (List ℕ)) : Type 0 where
   pub given : List ℕ
   pub reads : Consumes left left' given
   pub parts : List StreamPart
   pub end_inside : EndInside left' given parts
-  pub verdicts : List Verdict
-  pub have_verdicts : HaveVerdicts c m parts verdicts
+  pub outcomes : List Outcome
+  pub have_outcomes : HaveOutcomes c m parts outcomes
   pub last : List Event
-  pub are_last : AreLast ending left' given parts verdicts last
+  pub are_last : AreLast ending left' given parts (answer_told m claims outcomes parts) last
   pub front : List ℕ
   pub rest : List ℕ
-  pub whole : text_of text (events_of 0 verdicts parts ++ last) ≡ front ++ rest
+  pub whole : text_of text (told_of m claims outcomes parts ++ last) ≡ front ++ rest
   pub writes : Appends written written' front
 
 -- the check of a loaded model ends with this error
-abbrev pub IsStopped : Ending → (Event → List ℕ) → Completion → Model → Option (List ℕ)
+abbrev pub IsStopped : Ending → Claims → (Event → List ℕ) → Completion → Model → Option (List ℕ)
     → Option (List ℕ) → Option (List ℕ) → Option (List ℕ) → CheckError → Type 0
-IsStopped ending text c m left left' written written' errors.Write =
-    WritesFrontOfEvents ending text c m left left' written written'
-IsStopped ending text c m left left' written written' errors.Memory =
-    WritesFrontOfEvents ending text c m left left' written written'
-IsStopped ending text c m left left' written written' e =
-    StopsAfterEvents ending text c m left left' written written' e
+IsStopped ending claims text c m left left' written written' errors.Write =
+    WritesFrontOfEvents ending claims text c m left left' written written'
+IsStopped ending claims text c m left left' written written' errors.Memory =
+    WritesFrontOfEvents ending claims text c m left left' written written'
+IsStopped ending claims text c m left left' written written' e =
+    StopsAfterEvents ending claims text c m left left' written written' e
 
 -- nothing was read, and nothing was written
 abbrev pub IsUntouched : Option (List ℕ) → Option (List ℕ) → Option (List ℕ) → Option (List ℕ)
@@ -127,19 +130,19 @@ IsUntouched left left' written written' = (left' ≡ left) × (written' ≡ writ
 -- The check of a model's text ends with this error. The model is refused only where its bytes are
 -- not a text of any tree, or with the first fault of its names, and before anything is read or
 -- written.
-abbrev pub IsEndedBy : Ending → (Event → List ℕ) → Completion → List ℕ → Option (List ℕ)
+abbrev pub IsEndedBy : Ending → Claims → (Event → List ℕ) → Completion → List ℕ → Option (List ℕ)
     → Option (List ℕ) → Option (List ℕ) → Option (List ℕ) → CheckError → Type 0
-IsEndedBy ending text c model left left' written written' (errors.Model e) =
+IsEndedBy ending claims text c model left left' written written' (errors.Model e) =
     HasTextFault model e × IsUntouched left left' written written'
-IsEndedBy ending text c model left left' written written' (errors.Names e) =
+IsEndedBy ending claims text c model left left' written written' (errors.Names e) =
     HasNameFault model e × IsUntouched left left' written written'
-IsEndedBy ending text c model left left' written written' errors.Memory =
+IsEndedBy ending claims text c model left left' written written' errors.Memory =
     IsUntouched left left' written written'
-    ⊎ HoldsOfModel model (λ m. IsStopped ending text c m left left' written written' errors.Memory)
-IsEndedBy ending text c model left left' written written' e =
-    HoldsOfModel model (λ m. IsStopped ending text c m left left' written written' e)
+    ⊎ HoldsOfModel model (λ m. IsStopped ending claims text c m left left' written written' errors.Memory)
+IsEndedBy ending claims text c model left left' written written' e =
+    HoldsOfModel model (λ m. IsStopped ending claims text c m left left' written written' e)
 
 -- where nothing is cut
-abbrev pub IsEnded : (Event → List ℕ) → Completion → List ℕ → Option (List ℕ) → Option (List ℕ)
+abbrev pub IsEnded : Claims → (Event → List ℕ) → Completion → List ℕ → Option (List ℕ) → Option (List ℕ)
     → Option (List ℕ) → Option (List ℕ) → CheckError → Type 0
 IsEnded = IsEndedBy Whole

@@ -29,7 +29,9 @@ use Rattle.fz_check.specs.declared.tally.Tally.{Tally}
 use Rattle.fz_check.specs.declared.reader.Step.{Step}
 use Rattle.fz_check.specs.declared.reader.Step.TheVariants.{End}
 use Rattle.fz_check.specs.Cutting.{HoldsOfJudged, IsCutOff}
-use Rattle.fz_check.specs.Report.{Event, HaveVerdicts, IsReport, events_of, text_of}
+use Rattle.fz_check.specs.declared.claims.Claims.{Claims}
+use Rattle.fz_check.specs.Claims.{AreOutcomes, HaveOutcomes, IsReportWith, Outcome, answer_told, ledger, no_ledger, told_of, verdicts_of}
+use Rattle.fz_check.specs.Report.{Event, text_of}
 use Rattle.fz_check.specs.Report.Event.{CutOff, Answered}
 use Rattle.fz_check.specs.Reading.{HasNext, IsRefusedBy, ReaderState, StandsAt, piece_size}
 use Rattle.fz_check.specs.Streaming.{AreLast, EndInside, IsStopped}
@@ -79,6 +81,7 @@ pub record IsFresh (j : Jury) : Type 0 where
   pub before : j.judge.before ≡ None
   pub found : j.judge.found ≡ None
   pub tally : j.tally ≡ record { blocks = 0; violated = None; undecided = None }
+  pub ledger : j.ledger ≡ no_ledger
 
 -- one more block was judged, whatever was judged before
 abbrev pub JudgesOneMore : Jury → Jury → Block → Verdict → Type 0
@@ -95,22 +98,25 @@ IsUnjudged most j block (errors.Block n e) = (n ≡ suc j.tally.blocks) × (e �
 IsUnjudged most j block errors.Memory = ⊤
 IsUnjudged most j block _ = ⊥
 
--- The blocks among the parts were judged with these verdicts.
-pub record HasTold (c : Completion) (m : Model) (j : Jury) (parts : List StreamPart)
-    (verdicts : List Verdict) : Type 0 where
+-- The blocks among the parts were judged with these outcomes, and this is known of claims.
+pub record HasTold (claims : Claims) (c : Completion) (m : Model) (j : Jury)
+    (parts : List StreamPart) (outcomes : List Outcome) : Type 0 where
   pub blocks : List the_block.Block
   pub blocks_are : map block_of blocks ≡ blocks_in parts
   pub places : AllByRecursion HasPlaces blocks
-  pub judged : HasJudged c m j (map located_block blocks) verdicts
+  pub judged : HasJudged c m j (map located_block blocks) (verdicts_of outcomes)
+  pub are_outcomes : AreOutcomes m (map located_block blocks) outcomes
+  pub claims_are : j.claims ≡ claims
+  pub ledger_is : j.ledger ≡ ledger m.aim claims 0 no_ledger outcomes parts
 
 -- One more part was told, by this line.
-pub record TellsOneMore (text : Event → List ℕ) (c : Completion) (m : Model) (j : Jury)
-    (parts : List StreamPart) (verdicts : List Verdict) (part : StreamPart)
+pub record TellsOneMore (claims : Claims) (text : Event → List ℕ) (c : Completion) (m : Model)
+    (j : Jury) (parts : List StreamPart) (outcomes : List Outcome) (part : StreamPart)
     (line : List ℕ) : Type 0 where
-  pub more : List Verdict
-  pub told : HasTold c m j (parts ++ part ∷ []) more
-  pub lines : text_of text (events_of 0 more (parts ++ part ∷ []))
-      ≡ text_of text (events_of 0 verdicts parts) ++ line
+  pub more : List Outcome
+  pub told : HasTold claims c m j (parts ++ part ∷ []) more
+  pub lines : text_of text (told_of m claims more (parts ++ part ∷ []))
+      ≡ text_of text (told_of m claims outcomes parts) ++ line
 
 -- The part is a block, which has the number and this fault.
 pub record RefusesPart (m : Model) (parts : List StreamPart) (part : StreamPart) (number : ℕ)
@@ -138,19 +144,19 @@ IsUnread ending left given parts _ = ⊥
 -- Where a frame waits behind parts that were told, it is read as a part, which is told too.
 abbrev pub TellsNext : (Event → List ℕ) → ReaderState → Jury → Jury → List ℕ → Type 0
 TellsNext text s j j' line =
-    (c : Completion) (m : Model) (left : Option (List ℕ)) (given : List ℕ) (parts : List StreamPart)
-    (frame : Frame) (verdicts : List Verdict) → HasNext s left given parts frame
-    → HasTold c m j parts verdicts
+    (claims : Claims) (c : Completion) (m : Model) (left : Option (List ℕ)) (given : List ℕ)
+    (parts : List StreamPart) (frame : Frame) (outcomes : List Outcome)
+    → HasNext s left given parts frame → HasTold claims c m j parts outcomes
     → (part : StreamPart) × StandsAt s left given (parts ++ part ∷ [])
-    × TellsOneMore text c m j' parts verdicts part line
+    × TellsOneMore claims text c m j' parts outcomes part line
 
 -- there it can't be read, or is read and not told
 abbrev pub LeavesNext : ReaderState → Jury → CheckError → Type 0
 LeavesNext s j e =
-    (ending : Ending) (c : Completion) (m : Model) (left : Option (List ℕ)) (given : List ℕ)
-    (parts : List StreamPart) (frame : Frame) (verdicts : List Verdict)
+    (ending : Ending) (claims : Claims) (c : Completion) (m : Model) (left : Option (List ℕ))
+    (given : List ℕ) (parts : List StreamPart) (frame : Frame) (outcomes : List Outcome)
     → HasNext s left given parts frame
-    → HasTold c m j parts verdicts → IsUnread ending left given parts e
+    → HasTold claims c m j parts outcomes → IsUnread ending left given parts e
     ⊎ ((part : StreamPart) × StandsAt s left given (parts ++ part ∷ []) × IsUntold m parts part e)
 
 -- a failed write, or out of memory
@@ -161,42 +167,43 @@ IsUnwritten _ = ⊥
 
 -- How a check stands that has told of these parts, whether it goes on or not: these bytes were read,
 -- in at most so many reads, and once a front of the lines that wait is written, it is one of all.
-pub record Stands (ending : Ending) (text : Event → List ℕ) (c : Completion) (m : Model) (reads : ℕ)
-    (left left' written written' : Option (List ℕ)) (lines : List ℕ) : Type 0 where
+pub record Stands (ending : Ending) (claims : Claims) (text : Event → List ℕ) (c : Completion)
+    (m : Model) (reads : ℕ) (left left' written written' : Option (List ℕ))
+    (lines : List ℕ) : Type 0 where
   pub given : List ℕ
   pub consumes : Consumes left left' given
   pub few : length given ≤ reads * piece_size
   pub parts : List StreamPart
   pub end_inside : EndInside left' given parts
-  pub verdicts : List Verdict
-  pub have_verdicts : HaveVerdicts c m parts verdicts
+  pub outcomes : List Outcome
+  pub have_outcomes : HaveOutcomes c m parts outcomes
   pub last : List Event
-  pub are_last : AreLast ending left' given parts verdicts last
+  pub are_last : AreLast ending left' given parts (answer_told m claims outcomes parts) last
   pub front : (next : Option (List ℕ)) → WritesFront written' next lines
-      → WritesFront written next (text_of text (events_of 0 verdicts parts ++ last))
+      → WritesFront written next (text_of text (told_of m claims outcomes parts ++ last))
 
 -- the check ends with this error, once all of the lines that wait are written
-abbrev pub StopsOnceWritten : Ending → (Event → List ℕ) → Completion → Model → Option (List ℕ)
-    → Option (List ℕ) → Option (List ℕ) → Option (List ℕ) → List ℕ → CheckError → Type 0
-StopsOnceWritten ending text c m left left' written written' lines e = (next : Option (List ℕ))
-    → Appends written' next lines → IsStopped ending text c m left left' written next e
+abbrev pub StopsOnceWritten : Ending → Claims → (Event → List ℕ) → Completion → Model
+    → Option (List ℕ) → Option (List ℕ) → Option (List ℕ) → Option (List ℕ) → List ℕ → CheckError → Type 0
+StopsOnceWritten ending claims text c m left left' written written' lines e = (next : Option (List ℕ))
+    → Appends written' next lines → IsStopped ending claims text c m left left' written next e
 
 -- there is a report on the bytes, which is written then, with this told before the answer
-pub record IsToldWith (cut : List Event) (text : Event → List ℕ) (c : Completion) (m : Model)
-    (bytes : List ℕ) (written written' : Option (List ℕ)) (lines : List ℕ)
-    (answer : Answer) : Type 0 where
+pub record IsToldWith (claims : Claims) (cut : List Event) (text : Event → List ℕ)
+    (c : Completion) (m : Model) (bytes : List ℕ) (written written' : Option (List ℕ))
+    (lines : List ℕ) (answer : Answer) : Type 0 where
   pub events : List Event
-  pub report : IsReport c m bytes (events ++ Answered answer ∷ []) answer
+  pub report : IsReportWith claims c m bytes events answer
   pub writes : (next : Option (List ℕ)) → Appends written' next lines
       → Appends written next (text_of text (events ++ (cut ++ Answered answer ∷ [])))
 
 -- and the answer is the report's
-pub record AnswersOnceWritten (ending : Ending) (text : Event → List ℕ) (c : Completion) (m : Model)
-    (reads : ℕ) (left left' written written' : Option (List ℕ)) (lines : List ℕ)
-    (answer : Answer) : Type 0 where
+pub record AnswersOnceWritten (ending : Ending) (claims : Claims) (text : Event → List ℕ)
+    (c : Completion) (m : Model) (reads : ℕ) (left left' written written' : Option (List ℕ))
+    (lines : List ℕ) (answer : Answer) : Type 0 where
   pub given : List ℕ
   pub consumes : Consumes left left' given
   pub end : IsAtEnd left'
   pub few : length given + piece_size ≤ reads * piece_size
   pub report : HoldsOfJudged ending given
-      (λ front cut. IsToldWith cut text c m front written written' lines answer)
+      (λ front cut. IsToldWith claims cut text c m front written written' lines answer)

@@ -17,6 +17,7 @@ ghost use Rattle.fz_check.specs.Reported.{HasReport};
 ghost use Rattle.fz_check.specs.Shown.{IsShown, IsShownPrintingAll};
 ghost use Rattle.fz_check.specs.View.{answer_view, report_view};
 
+use crate::claims::Claims;
 use crate::error::{CheckError, stream_refusal};
 use crate::jury::Jury;
 use crate::outputs::print_all;
@@ -28,7 +29,12 @@ use fz_judge::fz_syntax::{Ast, SyntaxError, parse, to_text};
 use std::alloc::{AllocError, Global};
 
 /// The model of a text.
-pub(crate) fn read_model<'a>(alloc: Global, source: &'a [u8]) -> Result<Model<'a>, CheckError>
+///
+/// # Errors
+///
+/// `Model` where the bytes are not a text of any tree, `Names` with the first fault of its names,
+/// and `Memory` where memory runs out.
+pub fn read_model<'a>(alloc: Global, source: &'a [u8]) -> Result<Model<'a>, CheckError>
     ensures loaded { IfOk result (IsLoadedFrom source.now) }
     ensures refused { IfErr result (IsModelRefusal source.now) }
 {
@@ -121,7 +127,7 @@ fn judge_blocks<'a>(
         → IsReport Completion.Off model.now bytes (report_view r) (answer_view r.answer)) }
     ensures refused { IfErr result (IsJudgingRefusal model.now blocks.now) }
 {
-    let mut jury = Jury::new(model, Completion::Off);
+    let mut jury = Jury::new(model, Completion::Off, Claims::NotJudged);
     let mut entries = Vec::new(alloc);
     let mut rest = push_claims(&mut entries, claims, 0)?;
     for (place, block) in blocks.iter().enumerate() {

@@ -4,7 +4,8 @@ ghost use Rattle.std.specs.Prelude.{◌≡◌, ◌++◌, ℕ, List, OnOk};
 ghost use Rattle.fz_check.specs.Report.{Event as PlainEvent, event_line};
 ghost use Rattle.fz_check.specs.View.{event_view};
 
-use crate::line::{push_answer, push_block, push_claim, push_cut};
+use crate::claims::Refutation;
+use crate::line::{push_answer, push_block, push_claim, push_cut, push_refutation};
 use crate::tally::Answer;
 use fz_base::Span;
 use fz_judge::Verdict;
@@ -28,7 +29,10 @@ pub struct Judged<'e, 'a> {
 #[derive(Clone, Copy)]
 pub enum Event<'e, 'a> {
     Block(Judged<'e, 'a>),
+    /// A claim that isn't refuted, at its place.
     Claim(ClaimKind),
+    /// A claim that is refuted: at its place, or behind the block that refutes it.
+    Refuted(Refutation<'e>),
     /// What was cut off, where the stream ends inside a block.
     Cut(Span),
     Answer(Answer),
@@ -59,6 +63,7 @@ impl Taker for TextTaker {
         match event {
             Event::Block(judged) => push_block(line, judged.number, &judged.verdict),
             Event::Claim(kind) => push_claim(line, *kind),
+            Event::Refuted(refutation) => push_refutation(line, refutation),
             Event::Cut(span) => push_cut(line, *span),
             Event::Answer(answer) => push_answer(line, *answer),
         }

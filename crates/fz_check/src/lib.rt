@@ -6,10 +6,13 @@
 #![tactic(auto)]
 
 mod checking;
+mod claims;
 mod ending;
 mod error;
 mod event;
 mod jury;
+mod learning;
+mod ledger;
 mod line;
 mod outputs;
 mod pieces;
@@ -22,19 +25,22 @@ mod telling;
 mod text;
 mod writing;
 
+ghost use Rattle.fz_check.specs.Claims.{UnaskedClaimsAreNotJudged};
 ghost use Rattle.fz_check.specs.Cutting.{IsCutOnlyWhereOpen};
 ghost use Rattle.fz_check.specs.Reported.{WrittenLinesAreBorneOut};
 
-pub use checking::{check, show, show_printing_all};
+pub use checking::{check, read_model, show, show_printing_all};
+pub use claims::{Best, Claims, Known, Refutation, Refuter, Saying, Source, Statement};
 pub use ending::Ending;
 pub use error::CheckError;
 pub use event::{Event, Judged, Taker, TextTaker};
 pub use fz_base::Span;
-pub use fz_judge::fz_model::ModelError;
+pub use fz_judge::fz_model::{Model, ModelError};
 pub use fz_judge::fz_stream::{ClaimKind, StreamError};
 pub use fz_judge::fz_syntax::SyntaxError;
 pub use fz_judge::{BlockError, Completion, Fault, Judge, Reason, Verdict, fill, fill_with_steps};
-pub use line::claim_text;
+pub use learning::{Listener, learn};
+pub use line::{block_text, claim_text};
 pub use refusal::{Told, refusal_fault, refusal_text, status};
 pub use report::{Entry, Report, report_text};
 pub use streaming::{MOST_READS, check_events, check_stream, check_stream_up_to};
@@ -48,4 +54,9 @@ pub fn written_lines_are_borne_out()
 /// A stream that ends outside a block is cut nowhere.
 pub fn cut_streams_end_inside()
     ensures { IsCutOnlyWhereOpen }
+{}
+
+/// Where claims aren't judged, none is told as refuted, and none has a part in the answer.
+pub fn unasked_claims_are_not_judged()
+    ensures { UnaskedClaimsAreNotJudged }
 {}

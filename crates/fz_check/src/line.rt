@@ -1,17 +1,18 @@
 //! The lines of a report, one at a time.
 
-ghost use Rattle.std.specs.Prelude.{◌≡◌, ◌++◌, ◌∷◌, [], OnOk, codes, decimal};
-ghost use Rattle.fz_check.specs.Report.{claim_text, event_line, verdict_text};
-ghost use Rattle.fz_check.specs.Report.Event.{Answered, Claimed, CutOff, Judged};
+ghost use Rattle.std.specs.Prelude.{◌≡◌, ◌++◌, ◌∷◌, [], IfOk, OnOk, codes, decimal};
+ghost use Rattle.fz_check.specs.Report.{claim_text, event_line, place_text, refuter_text, verdict_text};
+ghost use Rattle.fz_check.specs.Report.Event.{Answered, Claimed, CutOff, Judged, Refuted};
 ghost use Rattle.fz_judge.specs.View.{verdict_view};
 ghost use Rattle.fz_check.specs.View.{answer_view};
 
+use crate::claims::{Refutation, Refuter};
 use crate::tally::Answer;
 use crate::text::{push_bytes, push_count, push_fault, push_reason};
 use fz_base::Span;
 use fz_judge::Verdict;
 use fz_judge::fz_stream::ClaimKind;
-use std::alloc::AllocError;
+use std::alloc::{AllocError, Global};
 
 /// A claim's line in a stream, without blanks at its ends.
 pub fn claim_text(kind: ClaimKind) -> &'static [u8]
@@ -35,6 +36,58 @@ pub(crate) fn push_claim(text: &mut Vec<u8>, kind: ClaimKind) -> Result<(), Allo
     push_bytes(text, b"claim: ")?;
     push_bytes(text, claim_text(kind))?;
     push_bytes(text, b" not judged\n")?;
+    Ok(())
+}
+
+/// Adds the name of the block that refutes a claim.
+fn push_refuter(text: &mut Vec<u8>, refuter: &Refuter<'_>) -> Result<(), AllocError>
+    ensures { OnOk result (text.new.items ≡ text.old.items ++ refuter_text refuter.now) }
+{
+    let source = match *refuter {
+        Refuter::Block(number) | Refuter::Behind(number) => {
+            push_bytes(text, b"block ")?;
+            return push_count(text, number);
+        }
+        Refuter::Known(source) => source,
+    };
+    push_bytes(text, b"known block ")?;
+    push_count(text, source.block)?;
+    if source.is_only {
+        return Ok(());
+    }
+    push_bytes(text, b" of ")?;
+    push_bytes(text, source.file)?;
+    Ok(())
+}
+
+/// Adds the place of a claim: none where it is told at its place.
+fn push_place(text: &mut Vec<u8>, after: usize, refuter: &Refuter<'_>) -> Result<(), AllocError>
+    ensures { OnOk result (text.new.items ≡ text.old.items ++ place_text after refuter.now) }
+{
+    match refuter {
+        Refuter::Behind(_) => {
+            push_bytes(text, b"claim after block ")?;
+            push_count(text, after)?;
+            push_bytes(text, b": ")?;
+            Ok(())
+        }
+        Refuter::Block(_) | Refuter::Known(_) => push_bytes(text, b"claim: "),
+    }
+}
+
+/// Adds the line of a claim that is refuted.
+pub(crate) fn push_refutation(
+    text: &mut Vec<u8>,
+    refutation: &Refutation<'_>,
+) -> Result<(), AllocError>
+    ensures { OnOk result (text.new.items
+        ≡ text.old.items ++ event_line (Refuted refutation.now)) }
+{
+    push_place(text, refutation.claim.after, &refutation.by)?;
+    push_bytes(text, claim_text(refutation.claim.kind))?;
+    push_bytes(text, b" refuted by ")?;
+    push_refuter(text, &refutation.by)?;
+    push_bytes(text, b"\n")?;
     Ok(())
 }
 
@@ -75,6 +128,24 @@ pub(crate) fn push_block(
     Ok(())
 }
 
+/// The line of the block with this number, as it is in a report.
+///
+/// # Errors
+///
+/// Out of memory.
+pub fn block_text(
+    alloc: Global,
+    number: usize,
+    verdict: &Verdict<'_>,
+) -> Result<Vec<u8>, AllocError>
+    ensures { IfOk result (λ text. text.items
+        ≡ event_line (Judged number (verdict_view verdict.now))) }
+{
+    let mut text = Vec::new(alloc);
+    push_block(&mut text, number, verdict)?;
+    Ok(text)
+}
+
 /// Adds the line of what was cut off.
 pub(crate) fn push_cut(text: &mut Vec<u8>, span: Span) -> Result<(), AllocError>
     ensures { OnOk result (text.new.items
@@ -98,6 +169,9 @@ pub(crate) fn push_answer(text: &mut Vec<u8>, answer: Answer) -> Result<(), Allo
         Answer::Rejected(number) => push_numbered(text, b"rejected: block ", number),
         Answer::Undecided(number) => push_numbered(text, b"undecided: block ", number),
         Answer::NoBlocks => push_bytes(text, b"no blocks\n"),
+        Answer::ClaimRejected(after) => {
+            push_numbered(text, b"rejected: claim after block ", after)
+        }
     }
 }
 

@@ -162,7 +162,7 @@ pub fn status(outcome: &Result<Answer, CheckError>) -> u8
 {
     match outcome {
         Ok(Answer::Accepted(_)) => 0,
-        Ok(Answer::Rejected(_)) => 1,
+        Ok(Answer::Rejected(_) | Answer::ClaimRejected(_)) => 1,
         Ok(Answer::Undecided(_)) => 2,
         Ok(Answer::NoBlocks) => 3,
         Err(CheckError::Read | CheckError::Write) => 6,

@@ -11,6 +11,7 @@ ghost use Rattle.fz_check.specs.Telling.{AnswersOnceWritten, IsFresh, Stands, St
 ghost use Rattle.fz_check.specs.View.{answer_view};
 
 use crate::checking::read_model;
+use crate::claims::Claims;
 use crate::ending::Ending;
 use crate::error::CheckError;
 use crate::event::{Taker, TextTaker};
@@ -28,7 +29,7 @@ use std::io::{Read, Write};
 /// after the last one are left to be written.
 fn tell_parts<R: Read, W: Write, T: Taker>(
     alloc: Global,
-    mut jury: Jury<'_, '_>,
+    mut jury: Jury<'_, '_, '_>,
     reader: &mut R,
     writer: &mut W,
     taker: &mut T,
@@ -38,14 +39,14 @@ fn tell_parts<R: Read, W: Write, T: Taker>(
 ) -> Result<Answer, CheckError>
     requires fresh { IsFresh jury }
     requires none { lines.old.items ≡ [] }
-    ensures stands { Stands ending T.text jury.entry.judge.completion jury.entry.judge.model reads
+    ensures stands { Stands ending jury.entry.claims T.text jury.entry.judge.completion jury.entry.judge.model reads
         (R.remaining reader.old) (R.remaining reader.new) (W.contents writer.old)
         (W.contents writer.new) lines.new.items }
-    ensures answered { IfOk result (λ a. AnswersOnceWritten ending T.text
-        jury.entry.judge.completion jury.entry.judge.model reads (R.remaining reader.old)
+    ensures answered { IfOk result (λ a. AnswersOnceWritten ending jury.entry.claims
+        T.text jury.entry.judge.completion jury.entry.judge.model reads (R.remaining reader.old)
         (R.remaining reader.new) (W.contents writer.old) (W.contents writer.new) lines.new.items
         (answer_view a)) }
-    ensures refused { IfErr result (StopsOnceWritten ending T.text jury.entry.judge.completion
+    ensures refused { IfErr result (StopsOnceWritten ending jury.entry.claims T.text jury.entry.judge.completion
         jury.entry.judge.model (R.remaining reader.old) (R.remaining reader.new)
         (W.contents writer.old) (W.contents writer.new) lines.new.items) }
 {
@@ -75,7 +76,7 @@ fn tell_parts<R: Read, W: Write, T: Taker>(
                 }
             }
             Ok(Step::End(cut)) => {
-                return tell_end(taker, &mut line, lines, cut, jury.tally.answer());
+                return tell_end(taker, &mut line, lines, cut, jury.answer());
             }
             Err(error) => return Err(error),
         }
@@ -111,6 +112,7 @@ pub fn check_events<R: Read, W: Write, T: Taker>(
     reads: u64,
     completion: Completion,
     ending: Ending,
+    claims: Claims<'_>,
 ) -> Result<Answer, CheckError>
     // What is accepted has solutions.
     ensures accepted { IfOk result (λ a. (count : ℕ) → a ≡ Answer.Accepted count
@@ -120,11 +122,11 @@ pub fn check_events<R: Read, W: Write, T: Taker>(
     // which is told, and nothing else.
     ensures report { IfOk result (λ a. HoldsOfStream (R.remaining reader.old)
         (R.remaining reader.new) (λ given. HoldsOfJudged ending given
-        (λ front cut. IsReportedWith cut T.text completion model.now front
+        (λ front cut. IsReportedWith claims.entry cut T.text completion model.now front
         (W.contents writer.old) (W.contents writer.new) (answer_view a)))) }
     // The model, the stream or a block is refused only for its first fault. What was told of the
     // parts before it was written, and nothing else.
-    ensures refused { IfErr result (IsEndedBy ending T.text completion model.now
+    ensures refused { IfErr result (IsEndedBy ending claims.entry T.text completion model.now
         (R.remaining reader.old) (R.remaining reader.new) (W.contents writer.old)
         (W.contents writer.new)) }
     // No more bytes were read than so many reads of 4,096 bytes can bring, and where there is an
@@ -137,7 +139,7 @@ pub fn check_events<R: Read, W: Write, T: Taker>(
         Ok(loaded) => loaded,
         Err(error) => return Err(error),
     };
-    let jury = Jury::new(&loaded, completion);
+    let jury = Jury::new(&loaded, completion, claims);
     let mut lines = Vec::new(alloc);
     let outcome = tell_parts(
         alloc, jury, reader, writer, taker, reads, ending, &mut lines,
@@ -160,14 +162,15 @@ pub fn check_stream_up_to<R: Read, W: Write>(
     writer: &mut W,
     reads: u64,
     completion: Completion,
+    claims: Claims<'_>,
 ) -> Result<Answer, CheckError>
     ensures accepted { IfOk result (λ a. (count : ℕ) → a ≡ Answer.Accepted count
         → HoldsOfStream (R.remaining reader.old) (R.remaining reader.new)
         (λ given. HasSolutions model.now given count)) }
     ensures report { IfOk result (λ a. HoldsOfStream (R.remaining reader.old)
-        (R.remaining reader.new) (λ given. IsReportedTo event_line completion model.now given
+        (R.remaining reader.new) (λ given. IsReportedTo claims.entry event_line completion model.now given
         (W.contents writer.old) (W.contents writer.new) (answer_view a))) }
-    ensures refused { IfErr result (IsEnded event_line completion model.now
+    ensures refused { IfErr result (IsEnded claims.entry event_line completion model.now
         (R.remaining reader.old) (R.remaining reader.new) (W.contents writer.old)
         (W.contents writer.new)) }
     ensures reads { SpendsReads reads 0 (R.remaining reader.old) (R.remaining reader.new) }
@@ -177,7 +180,7 @@ pub fn check_stream_up_to<R: Read, W: Write>(
     let mut taker = TextTaker;
     let ending = Ending::Whole;
     check_events(
-        alloc, model, reader, writer, &mut taker, reads, completion, ending,
+        alloc, model, reader, writer, &mut taker, reads, completion, ending, claims,
     )
 }
 
@@ -200,14 +203,22 @@ pub fn check_stream<R: Read, W: Write>(
         → HoldsOfStream (R.remaining reader.old) (R.remaining reader.new)
         (λ given. HasSolutions model.now given count)) }
     ensures report { IfOk result (λ a. HoldsOfStream (R.remaining reader.old)
-        (R.remaining reader.new) (λ given. IsReportedTo event_line Completion.Off model.now given
+        (R.remaining reader.new) (λ given. IsReportedTo Claims.NotJudged event_line Completion.Off model.now given
         (W.contents writer.old) (W.contents writer.new) (answer_view a))) }
-    ensures refused { IfErr result (IsEnded event_line Completion.Off model.now
+    ensures refused { IfErr result (IsEnded Claims.NotJudged event_line Completion.Off model.now
         (R.remaining reader.old) (R.remaining reader.new) (W.contents writer.old)
         (W.contents writer.new)) }
     ensures reads { SpendsReads most_reads 0 (R.remaining reader.old) (R.remaining reader.new) }
     ensures end_read { IfOk result
         (λ _. SpendsReads most_reads 1 (R.remaining reader.old) (R.remaining reader.new)) }
 {
-    check_stream_up_to(alloc, model, reader, writer, MOST_READS, Completion::Off)
+    check_stream_up_to(
+        alloc,
+        model,
+        reader,
+        writer,
+        MOST_READS,
+        Completion::Off,
+        Claims::NotJudged,
+    )
 }

@@ -2,6 +2,7 @@ ghost use Rattle.std.specs.Prelude.{◌≡◌, ◌+◌, ◌<◌, [], cond, Some,
 ghost use Rattle.std.specs.Option.{option_or};
 ghost use Rattle.fz_judge.specs.Verdict.{answer_by, is_undecided, is_violated};
 ghost use Rattle.fz_judge.specs.View.{verdict_view};
+ghost use Rattle.fz_check.specs.Claims.{answer_with, is_satisfied};
 ghost use Rattle.fz_check.specs.View.{answer_view};
 
 use fz_judge::Verdict;
@@ -17,6 +18,8 @@ pub enum Answer {
     Undecided(usize),
     /// The stream has no block.
     NoBlocks,
+    /// A claim is refuted that comes after this many blocks, and no block before it is violated.
+    ClaimRejected(usize),
 }
 
 /// How many blocks were judged, and the numbers of the first violated and of the first undecided
@@ -37,6 +40,15 @@ fn is_violated(verdict: &Verdict<'_>) -> bool
     }
 }
 
+pub(crate) fn is_satisfied(verdict: &Verdict<'_>) -> bool
+    ensures { result ≡ is_satisfied (verdict_view verdict.now) }
+{
+    match verdict {
+        Verdict::Satisfied => true,
+        Verdict::Violated(_) | Verdict::Undecided(_) => false,
+    }
+}
+
 fn is_undecided(verdict: &Verdict<'_>) -> bool
     ensures { result ≡ is_undecided (verdict_view verdict.now) }
 {
@@ -48,7 +60,7 @@ fn is_undecided(verdict: &Verdict<'_>) -> bool
 
 /// The number of the first block of a kind, where this one has the number and is of the kind or
 /// not.
-fn first(before: Option<usize>, is: bool, number: usize) -> Option<usize>
+pub(crate) fn first(before: Option<usize>, is: bool, number: usize) -> Option<usize>
     ensures { result ≡ option_or before (cond is (Some number) None) }
 {
     match before {
@@ -95,6 +107,25 @@ impl Tally {
         match self.blocks {
             0 => Answer::NoBlocks,
             count => Answer::Accepted(count),
+        }
+    }
+}
+
+impl Answer {
+    /// The answer where the first refuted claim, if there is one, comes after so many blocks.
+    pub(crate) fn with_claim(self, refuted: Option<usize>) -> Answer
+        ensures { answer_view result ≡ answer_with refuted (answer_view self) }
+    {
+        match (refuted, self) {
+            (None, answer) => answer,
+            (Some(after), Answer::Rejected(block)) => {
+                if block <= after {
+                    self
+                } else {
+                    Answer::ClaimRejected(after)
+                }
+            }
+            (Some(after), _) => Answer::ClaimRejected(after),
         }
     }
 }

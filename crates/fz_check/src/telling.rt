@@ -3,14 +3,17 @@ ghost use Rattle.fz_judge.specs.of_model.Meaning.{Model as PlainModel};
 ghost use Rattle.fz_judge.specs.of_stream.Parts.{StreamPart};
 ghost use Rattle.fz_judge.specs.of_stream.Splitting.{most_taken};
 ghost use Rattle.fz_judge.specs.of_stream.Lending.{part_of, HasPlacesOfItems, PartEndsWithin};
-ghost use Rattle.fz_judge.specs.Verdict.{Verdict as PlainVerdict};
+ghost use Rattle.fz_judge.specs.View.{verdict_view};
 ghost use Rattle.fz_judge.specs.declared.completion.Completion.{Completion};
 ghost use Rattle.fz_check.specs.Report.{text_of};
-ghost use Rattle.fz_check.specs.Report.Event.{Answered};
+ghost use Rattle.fz_check.specs.declared.claims.Claims.{Claims};
+ghost use Rattle.fz_check.specs.Claims.{Outcome, late_events};
+ghost use Rattle.fz_check.specs.Report.Event.{Answered, Judged as PlainJudged};
 ghost use Rattle.fz_check.specs.Telling.{HasTold, IsUntold, IsUnwritten, LeavesNext, TellsNext, TellsOneMore, cut_events};
 ghost use Rattle.fz_check.specs.View.{answer_view, event_view};
 ghost use Rattle.fz_check.specs.Writing.{WritesFront, Wrote};
 
+use crate::claims::{Refutation, Refuter, Statement};
 use crate::error::CheckError;
 use crate::event::{Event, Judged, Taker};
 use crate::jury::Jury;
@@ -41,23 +44,49 @@ fn make_line<T: Taker>(
     }
 }
 
+/// Makes the line of a block, and that of the claim that it refutes.
+fn make_block_line<T: Taker>(
+    taker: &mut T,
+    line: &mut Vec<u8>,
+    judged: Judged<'_, '_>,
+    refuted: Option<Statement>,
+) -> Result<(), CheckError>
+    ensures made { OnOk result (line.new.items ≡ text_of T.text (PlainJudged judged.number
+        (verdict_view judged.verdict) ∷ late_events refuted judged.number)) }
+    ensures kinds { IfErr result (λ e. e ≡ CheckError.Memory) }
+{
+    match make_line(taker, line, &Event::Block(judged)) {
+        Ok(()) => {}
+        Err(error) => return Err(error),
+    }
+    let Some(claim) = refuted else {
+        return Ok(());
+    };
+    let by = Refuter::Behind(judged.number);
+    match taker.take(&Event::Refuted(Refutation { claim, by }), line) {
+        Ok(()) => Ok(()),
+        Err(_) => Err(CheckError::Memory),
+    }
+}
+
 /// Makes the line of the next part: of a claim, or of a block's verdict.
 fn tell_part<T: Taker>(
     alloc: Global,
-    jury: &mut Jury<'_, '_>,
+    jury: &mut Jury<'_, '_, '_>,
     taker: &mut T,
     line: &mut Vec<u8>,
     part: &Part<'_>,
 ) -> Result<(), CheckError>
     requires { jury.old.tally.blocks < usize.MAX }
-    ensures told { OnOk result ((c : Completion) (m : PlainModel) (parts : List StreamPart)
-        (verdicts : List PlainVerdict) → HasTold c m jury.old parts verdicts
-        → HasPlacesOfItems part.now → TellsOneMore T.text c m jury.new parts verdicts
-        (part_of part.now) line.new.items) }
+    ensures told { OnOk result ((claims : Claims) (c : Completion) (m : PlainModel)
+        (parts : List StreamPart) (outcomes : List Outcome)
+        → HasTold claims c m jury.old parts outcomes → HasPlacesOfItems part.now
+        → TellsOneMore claims T.text c m jury.new parts outcomes (part_of part.now)
+        line.new.items) }
     ensures counted { OnOk result (jury.new.tally.blocks ≤ jury.old.tally.blocks + 1) }
-    ensures refused { IfErr result (λ e. (c : Completion) (m : PlainModel)
-        (parts : List StreamPart) (verdicts : List PlainVerdict)
-        → HasTold c m jury.old parts verdicts → HasPlacesOfItems part.now
+    ensures refused { IfErr result (λ e. (claims : Claims) (c : Completion) (m : PlainModel)
+        (parts : List StreamPart) (outcomes : List Outcome)
+        → HasTold claims c m jury.old parts outcomes → HasPlacesOfItems part.now
         → PartEndsWithin most_taken part.now → IsUntold m parts (part_of part.now) e) }
 {
     match part {
@@ -66,19 +95,20 @@ fn tell_part<T: Taker>(
                 Ok(verdict) => verdict,
                 Err(error) => return Err(error),
             };
-            let number = jury.tally.blocks;
-            let objective = jury.judge.objective();
-            let model = jury.model;
+            let refuted = jury.hear_block(&verdict);
             let judged = Judged {
-                number,
+                number: jury.tally.blocks,
                 block,
                 verdict,
-                objective,
-                model,
+                objective: jury.judge.objective(),
+                model: jury.judge.model(),
             };
-            make_line(taker, line, &Event::Block(judged))
+            make_block_line(taker, line, judged, refuted)
         }
-        Part::Claim(kind) => make_line(taker, line, &Event::Claim(*kind)),
+        Part::Claim(kind) => match jury.hear_claim(*kind) {
+            Some(refutation) => make_line(taker, line, &Event::Refuted(refutation)),
+            None => make_line(taker, line, &Event::Claim(*kind)),
+        },
     }
 }
 
@@ -119,7 +149,7 @@ pub(crate) fn tell_end<T: Taker>(
 pub(crate) fn tell_next<T: Taker>(
     alloc: Global,
     parts: &PartReader,
-    jury: &mut Jury<'_, '_>,
+    jury: &mut Jury<'_, '_, '_>,
     taker: &mut T,
     line: &mut Vec<u8>,
 ) -> Result<(), CheckError>

@@ -3,7 +3,8 @@
 /// The line on standard error where the command line is wrong, or asks for help.
 pub const USAGE: &str = "\
 usage: fzcheck show [--print-all] MODEL \
-| check [--complete] [--cut] [--explain[=all] [--names FILE]] [--json] MODEL [STREAM]";
+| check [--complete] [--cut] [--claims [--known STREAM]..] [--explain[=all] [--names FILE]] \
+[--json] MODEL [STREAM]";
 
 /// The answer to `--version`: the program and its version.
 pub const VERSION: &str = "fzcheck 0.4.0";
@@ -12,13 +13,19 @@ pub const VERSION: &str = "fzcheck 0.4.0";
 pub const HELP: &str = "\
 fzcheck: checks the output of a FlatZinc solver against its model
 
-fzcheck check [--complete] [--cut] [--explain[=all] [--names FILE]] [--json] MODEL [STREAM]
+fzcheck check [--complete] [--cut] [--claims [--known STREAM]..]
+        [--explain[=all] [--names FILE]] [--json] MODEL [STREAM]
     Judges each solution block of the file STREAM, or of standard input where it is left out,
     against the model in the file MODEL. There is a line for each block and claim, and then the
     answer.
     --complete  looks for values that the solver left out, and judges what it finds
     --cut       where the stream ends inside a block, as that of a solver does that was killed,
                 judges what comes before that block, and tells the byte range of what it left out
+    --claims    judges claims on the whole search as far as a satisfied block refutes them: that there
+                is no solution, or none better than the last one
+    --known STREAM
+                with --claims, and up to 64 times: the blocks of another solver's stream, each judged
+                by itself before all others, refute claims too
     --explain   shows on standard error what stands behind the verdict that the answer names,
                 or where the fault stands that a refusal tells of
     --explain=all
@@ -42,7 +49,7 @@ fzcheck --help, fzcheck --version
 The status is
     0  accepted: each block is satisfied, and each objective better than the one before;
        or the model or the version is printed
-    1  rejected: a block is violated
+    1  rejected: a block is violated, or a claim is refuted
     2  undecided: no block is violated, but one at least can't be decided
     3  no blocks
     4  refused: the model or the stream is broken, at the place that is told, in bytes from 0

@@ -6,7 +6,7 @@ use clap::{Arg, ArgAction, ArgMatches, Command, Error};
 use std::alloc::{AllocError, Global};
 
 /// A command, as the command line asks for it.
-#[derive(Clone, Copy)]
+#[derive(Drop)]
 pub enum Request<'a> {
     /// Print the canonical text of the model in a file.
     Show {
@@ -19,6 +19,8 @@ pub enum Request<'a> {
         stream: Option<&'a str>,
         /// The file of the table of names, where one is given.
         names: Option<&'a str>,
+        /// The files of the known streams.
+        known: Vec<&'a str>,
         options: CheckOptions,
     },
 }
@@ -37,6 +39,8 @@ pub struct CheckOptions {
     pub completes: bool,
     /// Whether a block is cut off in which the stream ends.
     pub cuts: bool,
+    /// Whether claims on the whole search are judged.
+    pub judges_claims: bool,
     pub explains: Explaining,
     pub form: Form,
 }
@@ -83,7 +87,7 @@ impl From<AllocError> for Refused {
 #[inline(never)]
 pub fn read_words<'a>(alloc: Global, words: &'a [String]) -> Result<Request<'a>, Refused> {
     match command(alloc)?.try_get_matches_from(words) {
-        Ok(matches) => request_of(&matches),
+        Ok(matches) => request_of(alloc, &matches),
         Err(error) => Err(refusal_of(alloc, &error)),
     }
 }
@@ -111,7 +115,7 @@ fn first_paragraph(alloc: Global, error: &Error) -> Result<String, AllocError> {
 }
 
 /// The command of the words that `clap` read.
-fn request_of<'a>(matches: &ArgMatches<'a>) -> Result<Request<'a>, Refused> {
+fn request_of<'a>(alloc: Global, matches: &ArgMatches<'a>) -> Result<Request<'a>, Refused> {
     match matches.subcommand() {
         Some(("show", given)) => Ok(Request::Show {
             model: model_of(given)?,
@@ -121,9 +125,11 @@ fn request_of<'a>(matches: &ArgMatches<'a>) -> Result<Request<'a>, Refused> {
             model: model_of(given)?,
             stream: given.get_str("STREAM"),
             names: given.get_str("names"),
+            known: known_of(alloc, given)?,
             options: CheckOptions {
                 completes: given.get_flag("complete"),
                 cuts: given.get_flag("cut"),
+                judges_claims: given.get_flag("claims"),
                 explains: explaining_of(given),
                 form: form_of(given),
             },
@@ -135,6 +141,18 @@ fn request_of<'a>(matches: &ArgMatches<'a>) -> Result<Request<'a>, Refused> {
 /// The file of the model, which both commands require.
 fn model_of<'a>(given: &ArgMatches<'a>) -> Result<&'a str, Refused> {
     given.get_str("MODEL").ok_or(Refused::Help)
+}
+
+/// The files of the known streams, in order.
+fn known_of<'a>(alloc: Global, given: &ArgMatches<'a>) -> Result<Vec<&'a str>, Refused> {
+    let Some(names) = given.get_strs("known") else {
+        return Ok(Vec::new(alloc));
+    };
+    if names.len() > MOST_KNOWN {
+        let told = format!(in alloc; "error: more than {MOST_KNOWN} known streams")?;
+        return Err(Refused::Wrong(told));
+    }
+    Ok(Vec::from_slice(alloc, names)?)
 }
 
 fn printing_of(given: &ArgMatches<'_>) -> Printing {
@@ -185,9 +203,23 @@ fn check_command<'a>(alloc: Global) -> Result<Command<'a>, AllocError> {
         .arg(file_word(alloc, "STREAM"))?
         .arg(flag(alloc, "complete"))?
         .arg(flag(alloc, "cut"))?
+        .arg(flag(alloc, "claims"))?
+        .arg(known_option(alloc)?)?
         .arg(flag(alloc, "json"))?
         .arg(explain_option(alloc))?
         .arg(names_option(alloc)?)
+}
+
+/// The most known streams.
+const MOST_KNOWN: usize = 64;
+
+/// The option that is `--known STREAM`, with `--claims`.
+fn known_option<'a>(alloc: Global) -> Result<Arg<'a>, AllocError> {
+    Arg::new(alloc, "known")
+        .long("known")
+        .value_name("STREAM")
+        .action(ArgAction::Append)
+        .requires_arg("claims")
 }
 
 /// What `--explain` may name; where it names nothing, it is the first.

@@ -1,7 +1,7 @@
 //! Checks over a reader and a writer, either of which may fail.
 
 use crate::outside::{file, number, tell};
-use fz_check::{Answer, CheckError, Completion, check_stream, check_stream_up_to};
+use fz_check::{Answer, CheckError, Claims, Completion, check_stream, check_stream_up_to};
 use std::alloc::Global;
 use std::io::{self, ErrorKind, Read, Stdout, Write};
 
@@ -107,7 +107,17 @@ fn answer(
     let (reader, writer) = (&mut reader, &mut writer);
     match bounds.most {
         Some(most) => {
-            check_stream_up_to(alloc, model, reader, writer, most as u64, bounds.completion)
+            let completion = bounds.completion;
+            let claims = Claims::NotJudged;
+            check_stream_up_to(
+                alloc,
+                model,
+                reader,
+                writer,
+                most as u64,
+                completion,
+                claims,
+            )
         }
         None => check_stream(alloc, model, reader, writer),
     }

@@ -40,13 +40,13 @@ compared Off filled found = filled
 compared On filled found = found
 
 -- the values under which a block that is told satisfied is satisfied
-record SatisfiedUnder (c : Completion) (m : Model) (block : Block) (F : Partial) (filled found kept : Option ℤ) : Type 0 where
-  values : Partial
-  partial : IsPartial m values
-  satisfied : verdict m values block (compared c filled found) ≡ Satisfied
-  kept_is : objective m values ≡ compared c (objective m F) kept
+pub record SatisfiedUnder (c : Completion) (m : Model) (block : Block) (F : Partial) (filled found kept : Option ℤ) : Type 0 where
+  pub values : Partial
+  pub partial : IsPartial m values
+  pub satisfied : verdict m values block (compared c filled found) ≡ Satisfied
+  pub kept_is : objective m values ≡ compared c (objective m F) kept
 
-satisfied_under : (c : Completion) (m : Model) (block : Block) (F : Partial)
+pub satisfied_under : (c : Completion) (m : Model) (block : Block) (F : Partial)
     (filled found kept : Option ℤ) (w v : Verdict) → IsPartial m F → w ≡ verdict m F block filled
     → IsToldBy c m block found F w v kept → v ≡ Satisfied
     → SatisfiedUnder c m block F filled found kept

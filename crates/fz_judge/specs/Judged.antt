@@ -1,11 +1,12 @@
 -- What is judged of a block, and why a block is refused (this project's profile).
 use Rattle.std.specs.Prelude.{◌≡◌, ℤ, IfSome, IsSomeAnd, None, Option, Some, ⊤}
 use Rattle.fz_base.specs.declared.span.Span.{Span}
-use Rattle.fz_search.specs.of_model.Meaning.{Model, Partial, objective}
+use Rattle.fz_search.specs.of_model.Meaning.{Model, Partial, objective, IsPartial}
 use Rattle.fz_judge.specs.Solutions.{Block}
 use Rattle.fz_judge.specs.BlockFaults.{BlockFault, BlockFaultKind, block_fault}
 use Rattle.fz_judge.specs.BlockFaults.BlockFaultKind.{UnknownName, WrongKind, WrongLength}
 use Rattle.fz_judge.specs.declared.completion.Completion.{Completion}
+use Rattle.fz_judge.specs.declared.completion.Completion.TheVariants.{Off}
 use Rattle.fz_judge.specs.Completed.{IsToldBy}
 use Rattle.fz_judge.specs.Verdict.{Verdict, IsFilled, verdict}
 use Rattle.fz_judge.specs.declared.error.BlockError.{BlockError}
@@ -20,13 +21,15 @@ pub record JudgeState : Type 0 where
   pub found : Option ℤ
 
 -- The verdict on a block is that under its filling, compared with the objective before; the
--- objective under that filling is stored.
+-- objective under that filling is stored, as the only one where no values are looked for.
 pub record IsJudged (old new : JudgeState) (block : Block) (v : Verdict) : Type 0 where
   pub filling : Partial
   pub is_filled : IsFilled old.model block filling
+  pub partial : IsPartial old.model filling
   pub told : IsToldBy old.completion old.model block old.found filling
       (verdict old.model filling block old.before) v new.found
   pub kept_is : new.before ≡ objective old.model filling
+  pub one_objective : old.completion ≡ Off → new.found ≡ new.before
 
 -- the error is that of the fault, unless memory ran out
 abbrev pub TellsFault : BlockError → Option BlockFault → Type 0

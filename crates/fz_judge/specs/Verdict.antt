@@ -151,6 +151,8 @@ pub data Answer : Type 0 where
   Rejected : ℕ → Answer
   UndecidedAt : ℕ → Answer
   NoBlocks : Answer
+  -- a claim that comes after so many blocks is refuted
+  ClaimRejected : ℕ → Answer
 
 abbrev pub is_violated : Verdict → Bool
 is_violated (Violated f) = true

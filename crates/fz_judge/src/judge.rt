@@ -182,11 +182,38 @@ impl<'m, 'a> Judge<'m, 'a> {
         }
     }
 
+    pub fn model(&self) -> &'m Model<'a>
+        ensures { result.now ≡ self.now.model }
+    {
+        self.model
+    }
+
     /// The objective of the block that was judged last, with the values that were found for it.
     pub fn objective(&self) -> Option<i64>
         ensures { result ≡ self.now.found }
     {
         self.found
+    }
+
+    /// The objective of the block that was judged last, under its filling: no value counts that was
+    /// looked for.
+    pub fn filled_objective(&self) -> Option<i64>
+        ensures { result ≡ self.now.before }
+    {
+        self.before
+    }
+
+    /// Forgets the block that was judged last: the next one is compared with none.
+    pub fn forget(&mut self)
+        ensures { self.new ≡ record {
+          model = self.old.model;
+          completion = self.old.completion;
+          before = None;
+          found = None;
+        } }
+    {
+        self.before = None;
+        self.found = None;
     }
 
     /// The verdict on a block that has the verdict `under` and the objective `now` under its

@@ -2,7 +2,8 @@
 //! tells their members, and `tests/as_json.py` tests them.
 
 use fz_check::{
-    Answer, CheckError, ClaimKind, Fault, Judged, Reason, Span, Verdict, claim_text, refusal_fault,
+    Answer, CheckError, ClaimKind, Fault, Judged, Reason, Refutation, Refuter, Span, Verdict,
+    claim_text, refusal_fault,
 };
 use fz_explain::{FixedNote, MOST_RANGES, Message, Note, Origin, Remarks, Value};
 use json::Writer;
@@ -279,6 +280,25 @@ pub fn claim_line(alloc: Global, kind: ClaimKind, after: usize) -> Result<Vec<u8
     object.line()
 }
 
+/// The line of a claim that is refuted.
+pub fn refuted_line(alloc: Global, refutation: &Refutation<'_>) -> Result<Vec<u8>, AllocError> {
+    let mut object = Object::new(alloc)?;
+    object.word("claim", claim_text(refutation.claim.kind))?;
+    object.count("after", refutation.claim.after)?;
+    object.writer.key("refuted_by")?;
+    object.writer.begin_object()?;
+    let number = match refutation.by {
+        Refuter::Block(number) | Refuter::Behind(number) => number,
+        Refuter::Known(source) => {
+            object.word("file", source.file)?;
+            source.block
+        }
+    };
+    object.count("block", number)?;
+    object.writer.end_object()?;
+    object.line()
+}
+
 /// The line of what was cut off, with its byte range.
 pub fn cut_line(alloc: Global, span: Span) -> Result<Vec<u8>, AllocError> {
     let mut object = Object::new(alloc)?;
@@ -292,16 +312,17 @@ pub fn cut_line(alloc: Global, span: Span) -> Result<Vec<u8>, AllocError> {
 
 /// The line of the answer.
 pub fn answer_line(alloc: Global, answer: Answer, counts: Counts) -> Result<Vec<u8>, AllocError> {
-    let (word, block) = match answer {
+    let (word, place) = match answer {
         Answer::Accepted(_) => ("accepted", None),
-        Answer::Rejected(number) => ("rejected", Some(number)),
-        Answer::Undecided(number) => ("undecided", Some(number)),
+        Answer::Rejected(number) => ("rejected", Some(("block", number))),
+        Answer::ClaimRejected(after) => ("rejected", Some(("claim_after", after))),
+        Answer::Undecided(number) => ("undecided", Some(("block", number))),
         Answer::NoBlocks => ("no blocks", None),
     };
     let mut object = Object::new(alloc)?;
     object.text("answer", word)?;
-    if let Some(number) = block {
-        object.count("block", number)?;
+    if let Some((key, number)) = place {
+        object.count(key, number)?;
     }
     object.count("blocks", counts.blocks())?;
     object.count("satisfied", counts.satisfied)?;

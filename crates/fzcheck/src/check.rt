@@ -3,11 +3,12 @@
 use crate::MOST_BYTES;
 use crate::as_json::refusal_line;
 use crate::explain::explanation;
+use crate::known::{Unread, claims_of};
 use crate::names::check_with_names;
 use crate::refuse::{refuse, refuse_at, refuse_file, unread};
 use crate::teller::Teller;
 use crate::waiting::InPlace;
-use fz_check::{Answer, CheckError, Completion, Ending, MOST_READS, check_events, status};
+use fz_check::{Answer, CheckError, Claims, Completion, Ending, MOST_READS, check_events, status};
 use fz_command::{CheckOptions, Explaining, Form};
 use fz_explain::{Explainer, Message, NameTable, Text};
 use fz_files::{NOTHING, Recent, Recorder, read_up_to};
@@ -37,6 +38,7 @@ pub fn check_files(
     model: &str,
     stream: Option<&str>,
     names: Option<&str>,
+    known: &[&str],
     options: CheckOptions,
 ) -> u8 {
     let task = Task {
@@ -57,10 +59,10 @@ pub fn check_files(
         }
     };
     if stream.is_none() {
-        return check_readers(rt, &task, file, rt.stdin());
+        return check_readers(rt, &task, known, file, rt.stdin());
     }
     match fs::open(rt, task.stream) {
-        Ok(stream) => check_readers(rt, &task, file, stream),
+        Ok(stream) => check_readers(rt, &task, known, file, stream),
         Err(failure) => refuse_reading(rt, &task, CheckError::Read, task.stream, Some(&failure)),
     }
 }
@@ -77,12 +79,23 @@ fn find_input(rt: &HostRuntime) -> io::Result<()> {
 fn check_readers<M: Read + Drop, S: Read + Drop>(
     rt: &HostRuntime,
     task: &Task<'_>,
+    known: &[&str],
     model: M,
     stream: S,
 ) -> u8 {
     let mut model = Recorder::new(model, None);
     match read_up_to(rt.alloc(), &mut model, MOST_BYTES) {
-        Ok(bytes) => check_with_names(rt, task, &bytes, stream),
+        Ok(bytes) => match claims_of(rt, task.options, &bytes, known) {
+            Ok(claims) => check_with_names(rt, task, claims, &bytes, stream),
+            Err(failure) => {
+                let Unread {
+                    error,
+                    name,
+                    failure,
+                } = failure;
+                refuse_reading(rt, task, error, name, failure.as_ref())
+            }
+        },
         Err(error) => refuse_reading(rt, task, unread(error), task.model, model.failure()),
     }
 }
@@ -91,6 +104,7 @@ fn check_readers<M: Read + Drop, S: Read + Drop>(
 pub fn check_stream<S: Read + Drop>(
     rt: &HostRuntime,
     task: &Task<'_>,
+    claims: Claims<'_>,
     model: &[u8],
     names: NameTable<'_>,
     stream: S,
@@ -111,10 +125,20 @@ pub fn check_stream<S: Read + Drop>(
     let explainer = Explainer::new(text, names, options.completes);
     let mut teller = Teller::new(rt, options, explainer, task.stream, &recent, &waiting);
     let outcome = match options.form {
-        Form::Text => check_to(rt, task, model, &mut stream, &mut rt.stdout(), &mut teller),
+        Form::Text => {
+            check_to(
+                rt,
+                task,
+                claims,
+                model,
+                &mut stream,
+                &mut rt.stdout(),
+                &mut teller,
+            )
+        }
         Form::Json => {
             let mut out = InPlace::new(rt.stdout(), &waiting);
-            check_to(rt, task, model, &mut stream, &mut out, &mut teller)
+            check_to(rt, task, claims, model, &mut stream, &mut out, &mut teller)
         }
     };
     teller.clear();
@@ -134,6 +158,7 @@ pub fn check_stream<S: Read + Drop>(
 fn check_to<S: Read, W: Write>(
     rt: &HostRuntime,
     task: &Task<'_>,
+    claims: Claims<'_>,
     model: &[u8],
     stream: &mut S,
     out: &mut W,
@@ -150,10 +175,11 @@ fn check_to<S: Read, W: Write>(
         MOST_READS,
         completion,
         ending,
+        claims,
     )
 }
 
-fn completion_of(completes: bool) -> Completion {
+pub fn completion_of(completes: bool) -> Completion {
     if completes {
         Completion::On
     } else {

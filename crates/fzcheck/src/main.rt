@@ -7,6 +7,7 @@
 mod as_json;
 mod check;
 mod explain;
+mod known;
 mod names;
 mod refuse;
 mod show;
@@ -48,9 +49,10 @@ fn run(rt: &HostRuntime) -> u8 {
                 model,
                 stream,
                 names,
+                known,
                 options,
             },
-        ) => check_files(rt, model, stream, names, options),
+        ) => check_files(rt, model, stream, names, &known, options),
         Err(Refused::Help) => show_help(rt),
         Err(Refused::Version) => show_version(rt),
         Err(Refused::Wrong(error)) => refuse_wrong(rt, &error),

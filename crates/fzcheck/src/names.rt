@@ -3,7 +3,7 @@
 use crate::as_json::names_line;
 use crate::check::{Task, check_stream, refuse_reading};
 use crate::refuse::{refuse, unread};
-use fz_check::{CheckError, Span};
+use fz_check::{CheckError, Claims, Span};
 use fz_command::Form;
 use fz_explain::{Message, NameTable, TableError, Text, message_at};
 use fz_files::{NOTHING, Recorder, read_up_to};
@@ -25,11 +25,12 @@ const COLUMNS: &str = "a line of a table of names has three columns, with a tab 
 pub fn check_with_names<S: Read + Drop>(
     rt: &HostRuntime,
     task: &Task<'_>,
+    claims: Claims<'_>,
     model: &[u8],
     stream: S,
 ) -> u8 {
     let Some(name) = task.names else {
-        return check_stream(rt, task, model, NameTable::empty(rt.alloc()), stream);
+        return check_stream(rt, task, claims, model, NameTable::empty(rt.alloc()), stream);
     };
     let file = match fs::open(rt, name) {
         Ok(file) => file,
@@ -40,7 +41,7 @@ pub fn check_with_names<S: Read + Drop>(
     let mut file = Recorder::new(file, None);
     match read_up_to(rt.alloc(), &mut file, MOST_BYTES) {
         Ok(bytes) if bytes.len() > MOST_BYTES as usize => refuse_table(rt, task, None, None),
-        Ok(bytes) => check_with_table(rt, task, model, name, &bytes, stream),
+        Ok(bytes) => check_with_table(rt, task, claims, model, name, &bytes, stream),
         Err(error) => refuse_reading(rt, task, unread(error), name, file.failure()),
     }
 }
@@ -49,13 +50,14 @@ pub fn check_with_names<S: Read + Drop>(
 fn check_with_table<S: Read + Drop>(
     rt: &HostRuntime,
     task: &Task<'_>,
+    claims: Claims<'_>,
     model: &[u8],
     name: &str,
     bytes: &[u8],
     stream: S,
 ) -> u8 {
     match NameTable::read(rt.alloc(), bytes) {
-        Ok(names) => check_stream(rt, task, model, names, stream),
+        Ok(names) => check_stream(rt, task, claims, model, names, stream),
         Err(TableError::Memory) => refuse_reading(rt, task, CheckError::Memory, name, None),
         Err(TableError::Columns(place)) => {
             let text = Text {

@@ -3,9 +3,11 @@
 
 ghost use Rattle.fz_check.specs.Report.{event_line};
 
-use crate::as_json::{Counts, answer_line, block_line, claim_line, cut_line, explanation_line};
+use crate::as_json::{
+    Counts, answer_line, block_line, claim_line, cut_line, explanation_line, refuted_line,
+};
 use crate::waiting::{Waiting, add_line};
-use fz_check::{Event, Judged, Taker, TextTaker, Verdict};
+use fz_check::{Answer, Event, Judged, Taker, TextTaker, Verdict};
 use fz_command::{CheckOptions, Explaining, Form};
 use fz_explain::{Case, Explainer, Message, Text};
 use fz_files::{Passed, Progress, Recent};
@@ -123,6 +125,7 @@ impl<'r, 'n> Teller<'r, 'n> {
         let line = match event {
             Event::Block(judged) => self.block_line(judged)?,
             Event::Claim(kind) => claim_line(alloc, *kind, self.counts.blocks())?,
+            Event::Refuted(refutation) => refuted_line(alloc, refutation)?,
             Event::Cut(span) => cut_line(alloc, *span)?,
             Event::Answer(answer) => {
                 self.tell();
@@ -175,6 +178,9 @@ impl Taker for Teller<'_, '_> {
 
     fn take(&mut self, event: &Event<'_, '_>, line: &mut Vec<u8>) -> Result<(), AllocError> {
         TextTaker.take(event, line)?;
+        if let Event::Answer(Answer::ClaimRejected(_)) = event {
+            self.told = None;
+        }
         if let Form::Json = self.options.form {
             self.add(event)?;
         }

@@ -1,28 +1,40 @@
-use Rattle.std.proofs.Common.{sym, subst, arith}
+use Rattle.std.proofs.Common.{◌∷◌, refl, sym, ap, subst, ◌∙◌, arith}
+use Rattle.std.specs.Prelude.{None, Some}
 use Rattle.fz_judge.specs.of_stream.Found.{EndsWithin}
 use Rattle.fz_judge.specs.of_stream.Lending.{part_of, HasPlacesOfItems, PartEndsWithin}
 use Rattle.fz_judge.specs.of_stream.Splitting.{most_taken}
+use Rattle.fz_judge.specs.BlockView.{located_block}
 use Rattle.fz_judge.specs.View.{verdict_view}
+use Rattle.fz_check.specs.declared.tally.Tally.{Tally}
+use Rattle.fz_check.specs.Claims.{claim_event, late_events}
+use Rattle.fz_check.specs.Report.{text_of}
+use Rattle.fz_check.specs.Report.Event.{Judged}
 use Rattle.fz_check.specs.Telling.{IsUntold, TellsOneMore}
-use Rattle.fz_check.proofs.JuryLemmas.{leaves_block, on_ok, tells_block, tells_claim}
+use Rattle.fz_check.proofs.JuryLemmas.{HearsBlock, HearsClaim, leaves_block, on_ok, tells_block, tells_claim}
 use Rattle.fz_check.proofs.telling.tell_part.Goals as goal
 
 pub returns-in-Err-clause-refused : goal.returns-in-Err-clause-refused
-returns-in-Err-clause-refused g c = λ by m parts verdicts h places within.
+returns-in-Err-clause-refused g c = λ claims by m parts outcomes h places within.
     (let short : EndsWithin most_taken c.in-Block.block = subst (PartEndsWithin most_taken) c.in-Block.is within in
     subst (λ p. IsUntold m parts (part_of p) c.in-Err.error) (sym c.in-Block.is)
-    (leaves_block by m c.args.jury.now parts verdicts h _ c.in-Block.block c.in-Err.error c.in-Err.ensures.refused (subst HasPlacesOfItems c.in-Block.is places) (omega (arith, short))))
+    (leaves_block claims by m c.args.jury.now parts outcomes h _ c.in-Block.block c.in-Err.error c.in-Err.ensures.refused (subst HasPlacesOfItems c.in-Block.is places) (omega (arith, short))))
 
 pub returns-in-Ok-clause-told : goal.returns-in-Ok-clause-told
 returns-in-Ok-clause-told g c =
-    on_ok c.make_line.result (λ made by m parts verdicts h places.
-    subst (λ p. TellsOneMore g.T.Taker.text by m c.judge.new.self parts verdicts (part_of p) c.make_line.new.line.items) (sym c.in-Block.is)
-    (tells_block by m c.args.jury.now parts verdicts h g.T.Taker.text c.judge.new.self c.in-Block.block (verdict_view c.in-Ok.verdict) c.judge.new.self.tally.blocks c.make_line.new.line.items c.in-Ok.ensures.judged c.in-Ok.ensures.counted made (subst HasPlacesOfItems c.in-Block.is places)))
-    c.make_line.ensures.made
-
-pub returns-in-Claim-clause-told : goal.returns-in-Claim-clause-told
-returns-in-Claim-clause-told g c =
-    on_ok c.make_line-in-Claim.result (λ made by m parts verdicts h places.
-    subst (λ p. TellsOneMore g.T.Taker.text by m c.args.jury.now parts verdicts (part_of p) c.make_line-in-Claim.new.line.items) (sym c.in-Claim.is)
-    (tells_claim by m c.args.jury.now parts verdicts h g.T.Taker.text c.in-Claim.kind c.make_line-in-Claim.new.line.items made))
-    c.make_line-in-Claim.ensures.made
+    let hears : HearsBlock c.args.jury.now c.judge.new.self c.hear_block.new.self (located_block c.in-Block.block) (record { verdict = verdict_view c.in-Ok.verdict; filled = c.judge.new.self.judge.before; found = c.judge.new.self.judge.found }) = record {
+      judges = c.in-Ok.ensures.judged;
+      outcome = c.in-Ok.ensures.outcome;
+      filled_is = refl;
+      found_is = refl;
+      same_model = c.judge.ensures.same_model;
+      same_claims = c.judge.ensures.same_claims;
+      same_ledger = c.judge.ensures.same_ledger;
+      counted = c.in-Ok.ensures.counted;
+      heard = c.hear_block.ensures.heard;
+      same = c.hear_block.ensures.same;
+    } in
+    let count = ap (λ (t : Tally). t.blocks) c.hear_block.ensures.same.1 in
+    on_ok c.make_block_line.result (λ made claims by m parts outcomes h places.
+    subst (λ p. TellsOneMore claims g.T.Taker.text by m c.hear_block.new.self parts outcomes (part_of p) c.make_block_line.new.line.items) (sym c.in-Block.is)
+    (tells_block claims by m c.args.jury.now parts outcomes h g.T.Taker.text c.judge.new.self c.hear_block.new.self c.in-Block.block _ c.make_block_line.new.line.items hears (made ∙ (λ i. text_of g.T.Taker.text (Judged (count i) (verdict_view c.in-Ok.verdict) ∷ late_events (c.hear_block.ensures.late i) (count i)))) (subst HasPlacesOfItems c.in-Block.is places)))
+    c.make_block_line.ensures.made

@@ -1,4 +1,5 @@
 use Rattle.std.proofs.Common.{◌≡◌, ◌∙◌, sym, ap, subst, rules}
+use Rattle.fz_search.specs.of_model.Meaning.{IsPartial}
 use Rattle.fz_judge.specs.Verdict.{IsFilled}
 use Rattle.fz_judge.specs.BlockView.{located_block}
 use Rattle.fz_judge.specs.Judged.{JudgeState}
@@ -17,6 +18,8 @@ pub returns-clause-judged : goal.returns-clause-judged
 returns-clause-judged c = record {
   filling = c.deref-partial.result.now;
   is_filled = subst (IsFilled c.args.self.now.model (located_block c.args.block.now)) (sym c.deref-partial.ensures) (search rules);
+  partial = subst (IsPartial c.args.self.now.model) (sym c.deref-partial.ensures) (search rules);
   told = search rules;
   kept_is = search rules;
+  one_objective = search rules;
 }
