@@ -267,10 +267,13 @@ def pages(place):
         shutil.copy(f"{example}/model.fzn", place.path(f"models/{name}.fzn"))
         for kind in ("streams", "printed"):
             shutil.copy(f"{example}/stream.txt", place.path(f"{kind}/{name}.out"))
-    _, table, explained, _ = run_blocks(place, "docs/ORGANISERS.md", [0, 0, 0, 0])
+    for solver in ("one", "other"):
+        shutil.copy(place.path("streams/NAME.out"), place.path(f"streams/NAME.{solver}.out"))
+    _, table, explained, claims, _ = run_blocks(place, "docs/ORGANISERS.md", [0, 0, 0, 0, 0])
     rows = re.findall(r"\.json +(?:accepted|rejected|undecided) ", table)
     expect("each has a row", 200, len(rows))
     expect("one is explained", True, explained.endswith("accepted: blocks 3\n"))
+    expect("claims of two solvers", 2, claims.count("accepted: blocks 3\n"))
     keep(place, "NAME|_1$")
     _, job, _ = run_blocks(place, "docs/SOLVER_AUTHORS.md", [0, 1, 1])
     expect("a job ends at the first violated block", 1, len(re.findall("jobs|teams", job)))
