@@ -7,6 +7,7 @@
 
 mod annotation;
 mod case;
+mod chain;
 mod domain;
 mod element;
 mod excerpt;
@@ -19,6 +20,7 @@ mod message;
 mod notes;
 mod path;
 mod place;
+mod reasons;
 mod remarks;
 mod scalars;
 mod sentence;
