@@ -6,6 +6,7 @@
 #![tactic(auto)]
 
 mod case;
+mod chain;
 mod differing;
 mod domain;
 mod excerpt;
@@ -18,6 +19,7 @@ mod naming;
 mod notes;
 mod place;
 mod printed;
+mod reasons;
 mod remarks;
 mod scalars;
 mod sentence;

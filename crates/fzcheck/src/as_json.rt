@@ -189,6 +189,9 @@ impl Object {
             }
             Origin::Nothing => {}
         }
+        if !note.behind.is_empty() {
+            self.texts("behind", &note.behind)?;
+        }
         self.writer.end_object()
     }
 
@@ -395,6 +398,9 @@ pub fn explanation_line(
     object.count("explained", block)?;
     object.message(Some(message))?;
     object.remarks(&message.remarks)?;
+    if let Some(reason) = &message.reason {
+        object.text("reason", reason)?;
+    }
     object.writer.key("variables")?;
     object.writer.begin_array()?;
     for note in &message.variables {
@@ -402,6 +408,9 @@ pub fn explanation_line(
     }
     object.writer.end_array()?;
     object.left_out(message.left_out)?;
+    if message.behind_left_out > 0 {
+        object.count("behind_left_out", message.behind_left_out)?;
+    }
     object.fixed(&message.fixed)?;
     object.texts("notes", &message.notes)?;
     object.line()

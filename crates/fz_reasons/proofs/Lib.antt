@@ -1,0 +1,12 @@
+pub mod Lists
+pub mod Numbers
+pub mod Turning
+pub mod Misplaced
+pub mod Adding
+pub mod Sums
+pub mod Stepping
+pub mod Scheduled
+pub mod Ordered
+pub mod SetRows
+pub mod Fails
+pub mod Forms

@@ -1,0 +1,5 @@
+pub mod Relating
+pub mod Compared
+pub mod Elements
+pub mod Reasons
+pub mod Forms
