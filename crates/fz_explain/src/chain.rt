@@ -28,7 +28,7 @@ struct Chain {
 /// Adds to each variable of a message on a point why it has its value.
 pub(crate) fn note_chain(
     alloc: Global,
-    reading: &Reading<'_, '_, '_, '_>,
+    reading: &Reading<'_, '_, '_, '_, '_>,
     message: &mut Message,
     point: usize,
 ) -> Result<(), AllocError> {
@@ -51,7 +51,7 @@ impl Chain {
     fn behind(
         &mut self,
         alloc: Global,
-        reading: &Reading<'_, '_, '_, '_>,
+        reading: &Reading<'_, '_, '_, '_, '_>,
         variable: usize,
     ) -> Result<Vec<String>, AllocError> {
         let mut lines = Vec::new(alloc);
@@ -73,7 +73,7 @@ impl Chain {
     /// The point that gave a variable its value, where that wasn't told before.
     fn new_giver(
         &mut self,
-        reading: &Reading<'_, '_, '_, '_>,
+        reading: &Reading<'_, '_, '_, '_, '_>,
         variable: usize,
     ) -> Result<Option<usize>, AllocError>
         ensures { IfOk result (λ o. IfSome o (λ k. k < length (points reading.now.model.now))) }
@@ -92,7 +92,7 @@ impl Chain {
     fn tell(
         &mut self,
         alloc: Global,
-        reading: &Reading<'_, '_, '_, '_>,
+        reading: &Reading<'_, '_, '_, '_, '_>,
         lines: &mut Vec<String>,
         variable: usize,
         point: usize,

@@ -109,7 +109,7 @@ pub(crate) fn giver_lines(alloc: Global, note: &Note) -> Result<Vec<String>, All
 /// A variable with its value, by its name in the MiniZinc model where it has one.
 pub(crate) fn told_value(
     alloc: Global,
-    reading: &Reading<'_, '_, '_, '_>,
+    reading: &Reading<'_, '_, '_, '_, '_>,
     variable: usize,
 ) -> Result<String, AllocError> {
     let name = name_at(reading.model, variable);
