@@ -1,0 +1,290 @@
+#!/usr/bin/env python3
+"""Evaluates what explanations say of random constraints that fail.
+
+    reasons.py PROGRAM [COUNT] [SEED]
+
+Each constraint stands alone in a model, over literals, and fails by the tests of slow.py and
+constraints.py beside this file. What `check --explain` tells as the reason is read here, and has to
+be so of these literals. COUNT is how many have to fail, 10,000 where none is given. Prints what
+isn't so, how many had a reason, and ends with 'N passed, M failed'."""
+import collections
+import json
+import math
+import os
+import random
+import re
+import subprocess
+import sys
+import tempfile
+
+import constraints
+import slow
+
+RELATIONS = {
+    "": lambda a, b: a == b,
+    "≠": lambda a, b: a != b,
+    "≤": lambda a, b: a <= b,
+    "<": lambda a, b: a < b,
+    "≥": lambda a, b: a >= b,
+    ">": lambda a, b: a > b,
+}
+BLOCK = "----------\n"
+MOST_LISTED = 8
+NUMBER = "-?[0-9]+"
+
+
+def literal(kind, rand):
+    """A random value of a kind: small, so that constraints fail in many ways."""
+    if kind.startswith("["):
+        return [literal(kind[1:-1], rand) for _ in range(rand.randint(0, 5))]
+    if kind == "B":
+        return rand.random() < 0.5
+    if kind == "S":
+        return set(rand.sample(range(-1, 6), rand.randint(0, 4)))
+    return rand.randint(-1, 5)
+
+
+def arguments(row, rand):
+    args = [literal(kind, rand) for kind in row.kinds]
+    for place in row.together:
+        first = args[row.together[0]]
+        args[place] = (args[place] + [literal(row.kinds[place][1:-1], rand) for _ in first])[: len(first)]
+    return args
+
+
+def text_of(value):
+    if isinstance(value, bool):
+        return str(value).lower()
+    if isinstance(value, int):
+        return str(value)
+    if isinstance(value, set):
+        return "{" + ",".join(map(str, sorted(value))) + "}"
+    return "[" + ",".join(map(text_of, value)) + "]"
+
+
+def failing(rand):
+    """The name and the arguments of a constraint that fails."""
+    names = sorted({*slow.TESTS, *slow.RESULTS, *slow.EITHER})
+    while True:
+        name = rand.choice(names)
+        if name in slow.FORMS and rand.random() < 0.3:
+            name += rand.choice(["_reif", "_imp"])
+        row = slow.Row(name)
+        args = arguments(row, rand)
+        terms = [it if isinstance(it, list) else ("fixed", it) for it in args]
+        if row.has_whole_rows and not row.has_whole_rows(*terms):
+            continue
+        if not row.holds(args):
+            return name, args
+
+
+def products_are(told, value, pairs):
+    """Whether the listed products are some of these in their order, and make the value."""
+    terms = told.split(" + ")
+    left_out = re.fullmatch("([0-9]+) more", terms[-1])
+    count = len(pairs) - (int(left_out[1]) if left_out else 0)
+    terms = terms[: count]
+    listed = [tuple(map(int, term.split("·"))) if "·" in term else (1, int(term)) for term in terms if term]
+    rest = iter(pairs)
+    in_order = all(any(pair == it for it in rest) for pair in listed)
+    return in_order and count <= MOST_LISTED and sum(math.prod(pair) for pair in pairs) == value
+
+
+def sides(name, args, told):
+    """Of `LEFT, not RELATION RIGHT`: whether the left side is so and doesn't compare with the right
+    one as it is asked."""
+    parts = re.fullmatch(f"(.*?)({NUMBER}|true|false|no value)( times)?, not ([≠≤<≥>]?) ?({NUMBER}|true|false)", told)
+    if not parts:
+        return None
+    front, left, _, relation, right = parts.groups()
+    if name in slow.RESULTS:
+        place = slow.RESULTS[name][1]
+        value = slow.Row(name).value_at(place, args)
+        so = text_of(args[place]) == right and left == ("no value" if value is None else text_of(value))
+        return so and relation == "" and value != args[place]
+    if name in slow.EITHER:
+        return left != right and relation == "" and right in map(text_of, args)
+    value = int(left)
+    if name.startswith("int_lin"):
+        so = products_are(front.removesuffix(" = "), value, list(zip(args[0], args[1])))
+    elif name.startswith("bool_lin"):
+        so = slow.where(args[0], args[1]) == value
+    elif " comes " in front:
+        so = args[[isinstance(it, list) for it in args].index(True)].count(int(front.split()[0])) == value
+    else:
+        so = value == args[0]
+    return so and text_of(args[-1] if "comes" not in front else right) == right and not RELATIONS[relation](value, int(right))
+
+
+def stretches(told, starts, lengths, one, other):
+    """Whether two stretches of time are those of the two tasks and overlap or one is in the other."""
+    ends = [(starts[place], starts[place] + lengths[place]) for place in (one, other)]
+    return told == [str(end) for pair in ends for end in pair] and ends[0][0] < ends[1][1] and ends[1][0] < ends[0][1] \
+        or told == [str(end) for pair in ends for end in pair] and 0 in (lengths[one], lengths[other])
+
+
+def circle(name, args, parts):
+    path, length, count = parts
+    path = path.split(" → ")
+    first, following = args[0], args[1]
+    steps = [(int(a), int(b)) for a, b in zip(path, path[1:]) if "..." not in (a, b)]
+    return all(following[a - first] == b for a, b in steps) and int(length) < int(count) == len(following) \
+        and path[0] == path[-1]
+
+
+def transitions(args):
+    x, states, symbols, table, start, final = args
+    state, states_before = start, []
+    for symbol in x:
+        states_before.append(state)
+        state = table[(state - 1) * symbols + symbol - 1] if 1 <= symbol <= symbols and 1 <= state <= states else 0
+        if not 1 <= state <= states:
+            break
+    return states_before, state
+
+
+def at(values, place):
+    """An element that counts from 1, or none."""
+    return values[int(place) - 1] if 1 <= int(place) <= len(values) else None
+
+
+def clash(args, one, other, value):
+    return one != other and at(args[0], one) == at(args[0], other) == int(value)
+
+
+def neighbours(args, place, value, relation, other):
+    return at(args[0], place) == int(value) and at(args[0], int(place) + 1) == int(other) \
+        and not RELATIONS[relation](int(value), int(other))
+
+
+def first_difference(args, place, left, right):
+    place = int(place)
+    return args[0][: place - 1] == args[1][: place - 1] and at(args[0], place) == int(left) != at(args[1], place) == int(right)
+
+
+def in_sets(args, number, *there):
+    sets = [it for it in args if isinstance(it, set)]
+    return all((int(number) in it) == (word == "in") for it, word in zip(sets, there))
+
+
+def tasks_overlap(args, one, other, *ends):
+    return stretches(list(ends), args[0], args[1], int(one) - 1, int(other) - 1)
+
+
+def load(args, time, tasks, used, limit):
+    time = int(time)
+    running = [k for k, (s, d) in enumerate(zip(args[0], args[1])) if s <= time < s + d]
+    told = [int(it) - 1 for it in tasks.split(", ")]
+    return told == running[: len(told)] and sum(args[2][k] for k in running) == int(used) > int(limit) == args[3]
+
+
+def boxes(name, args, one, other, *ends):
+    x, y, dx, dy = (args[0], args[2], args[1], args[3]) if name == "gecode_nooverlap" else args
+    one, other = int(one) - 1, int(other) - 1
+    return stretches(list(ends[:4]), x, dx, one, other) and stretches(list(ends[4:]), y, dy, one, other)
+
+
+def near_row(args, row, place, wanted, value):
+    width = len(args[0])
+    found = args[1][(int(row) - 1) * width : int(row) * width]
+    place = int(place) - 1
+    return found[:place] == args[0][:place] and [found[place], args[0][place]] == [int(wanted), int(value)] and wanted != value
+
+
+STRETCH = f"from ({NUMBER}) to ({NUMBER}) and from ({NUMBER}) to ({NUMBER})"
+# What is told, and whether it is so of a constraint's arguments.
+FORMS = {
+    "no literal is true": lambda n, a: not any(a[0]) and all(a[1]),
+    "an even number of elements are true": lambda n, a: sum(a[0]) % 2 == 0,
+    f"elements (\\d+) and (\\d+) are both ({NUMBER})": lambda n, a, *p: clash(a, *p),
+    f"element (\\d+) is ({NUMBER}), not ([≠≤<≥>]?) ?({NUMBER}), the next one": lambda n, a, *p: neighbours(a, *p),
+    f"element (\\d+) is ({NUMBER}), which isn't in the cover": lambda n, a, k, v: at(a[0], k) == int(v) not in a[1],
+    f"no element is ({NUMBER})": lambda n, a, v: int(v) not in a[0] and int(v) == a[1],
+    f"the first difference is at element (\\d+): ({NUMBER}) and ({NUMBER})": lambda n, a, *p: first_difference(a, *p),
+    r"the second list ends before element (\d+), the first goes on": lambda n, a, k: a[1] == a[0][: int(k) - 1] != a[0],
+    r"the first list ends before element (\d+), the second goes on": lambda n, a, k: a[0] == a[1][: int(k) - 1] != a[1],
+    "the lists are the same": lambda n, a: a[0] == a[1],
+    f"element (\\d+) is ({NUMBER}), and none before it is ({NUMBER})": lambda n, a, k, v, b: any(
+        isinstance(x, list) and at(x, k) == int(v) and int(b) not in x[: int(k) - 1] for x in a),
+    f"task (\\d+) lasts ({NUMBER})": lambda n, a, k, v: any(
+        isinstance(x, list) and at(x, k) == int(v) < 0 for x in a),
+    f"tasks (\\d+) and (\\d+) overlap: {STRETCH}": lambda n, a, *p: tasks_overlap(a, *p),
+    f"boxes (\\d+) and (\\d+) overlap: {STRETCH}, and {STRETCH}": lambda n, a, *p: boxes(n, a, *p),
+    f"at ({NUMBER}) the tasks ([0-9, ]+) run and use ({NUMBER}), not ≤ ({NUMBER})": lambda n, a, *p: load(a, *p),
+    f"in bin ({NUMBER}) lies ({NUMBER}), not ≤ ({NUMBER})": lambda n, a, b, w, m: (
+        constraints.load(a[1], a[2], int(b)) == int(w) > int(m) == a[0]),
+    r"the circle (.*) has (\d+) of (\d+)": lambda n, a, *p: circle(n, a, p),
+    f"element (\\d+) of the (first|second) list is ({NUMBER}), which doesn't lead back": lambda n, a, k, l, v: (
+        at(a[0 if l == "first" else 2], k) == int(v)
+        and (at(a[2 if l == "first" else 0], int(v) - a[3 if l == "first" else 1] + 1)
+             != int(k) - 1 + a[1 if l == "first" else 3])),
+    f"element (\\d+): there is no step from state ({NUMBER}) by ({NUMBER})": lambda n, a, k, q, s: (
+        transitions(a)[0][-1] == int(q) and len(transitions(a)[0]) == int(k) and at(a[0], k) == int(s)
+        and not 1 <= transitions(a)[1] <= a[1]),
+    f"it ends in state ({NUMBER}), which isn't one of the last": lambda n, a, q: (
+        transitions(a)[1] == int(q) not in a[5]),
+    f"no row fits; row (\\d+) differs at element (\\d+): ({NUMBER}), not ({NUMBER})": lambda n, a, *p: near_row(a, *p),
+    f"({NUMBER}) is (in|not in) the first, (in|not in) the second and (in|not in) the third": lambda n, a, *p: in_sets(a, *p),
+    f"({NUMBER}) is (in|not in) the first and (in|not in) the second": lambda n, a, *p: in_sets(a, *p),
+}
+
+
+def is_so(name, args, told):
+    """Whether what is told of a base row's arguments is so; none where it has no known form."""
+    for form, test in FORMS.items():
+        if parts := re.fullmatch(form, told):
+            return test(name, args, *parts.groups())
+    if parts := re.fullmatch(f"({NUMBER}) comes (\\d+) times, not ([≠≤<≥>]?) ?({NUMBER})", told):
+        value, times, relation, asked = parts.groups()
+        lists = [it for it in args if isinstance(it, list)]
+        counted = any(it.count(int(value)) == int(times) for it in lists)
+        return counted and not RELATIONS[relation](int(times), int(asked))
+    return sides(name, args, told)
+
+
+def reason_of(program, folder, name, args):
+    model, stream = os.path.join(folder, "model.fzn"), os.path.join(folder, "stream.txt")
+    with open(model, "w", encoding="utf-8") as file:
+        file.write(f"constraint {name}({','.join(map(text_of, args))});\nsolve satisfy;\n")
+    with open(stream, "w", encoding="utf-8") as file:
+        file.write(BLOCK)
+    ran = subprocess.run([program, "check", "--json", "--explain", model, stream], capture_output=True, text=True)
+    if ran.returncode != 1:
+        raise SystemExit(f"{name}{args}: status {ran.returncode}")
+    told = [json.loads(line) for line in ran.stdout.splitlines()]
+    return next(it["explained"] if isinstance(it.get("explained"), dict) else it for it in told if "explained" in it).get("reason")
+
+
+def outcome(name, args, told):
+    base, _, form = name.rpartition("_")
+    if form not in ("reif", "imp"):
+        return is_so(name, args, told)
+    if held := re.fullmatch("(.*), but the Boolean is false", told):
+        return form == "reif" and args[-1] is False and slow.Row(base).holds(args[:-1])
+    return args[-1] is True and is_so(base, args[:-1], told)
+
+
+def main():
+    program = os.path.abspath(sys.argv[1])
+    count = int(sys.argv[2]) if len(sys.argv) > 2 else 10_000
+    rand = random.Random(int(sys.argv[3]) if len(sys.argv) > 3 else 1)
+    told_of, without = collections.Counter(), collections.Counter()
+    failed = 0
+    with tempfile.TemporaryDirectory() as folder:
+        for _ in range(count):
+            name, args = failing(rand)
+            told = reason_of(program, folder, name, args)
+            if told is None:
+                without[name] += 1
+                continue
+            told_of[name] += 1
+            if not outcome(name, args, told):
+                failed += 1
+                print(f"failed: {name}({','.join(map(text_of, args))}): {told}")
+    print(f"{sum(told_of.values())} of {count} had a reason; none of: {' '.join(sorted({*without} - {*told_of}))}")
+    print(f"{count - failed} passed, {failed} failed")
+    return 1 if failed else 0
+
+
+if __name__ == "__main__":
+    sys.exit(main())
