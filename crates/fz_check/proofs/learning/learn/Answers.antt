@@ -17,7 +17,7 @@ loop-parts-preserved-in-Ok g c =
     listening_next _ _ _ _ _ _ c.loop-parts.invariant c.advance.new.self c.learn_next.new.judge c.learn_next.new.known (c.advance.ensures.part is) c.in-Ok.ensures.read c.learn_next.ensures.same_model c.learn_next.ensures.knows
 
 pub returns-in-Err-learn_next : goal.returns-in-Err-learn_next
-returns-in-Err-learn_next g c = knows_next _ _ _ _ _ _ c.loop-parts.invariant c.learn_next.new.known c.learn_next.ensures.knows
+returns-in-Err-learn_next g c = record { knows = knows_next _ _ _ _ _ _ c.loop-parts.invariant c.learn_next.new.known c.learn_next.ensures.knows }
 
 pub read-requires-clause-none : goal.read-requires-clause-none
 read-requires-clause-none g c =
@@ -30,10 +30,10 @@ loop-parts-preserved g c =
     listening_read _ _ _ _ _ _ c.loop-parts.invariant c.advance.new.self c.read.new.self _ (c.advance.ensures.bytes is) c.read.ensures.same c.read.ensures.end
 
 pub returns-in-Err-read : goal.returns-in-Err-read
-returns-in-Err-read g c = c.loop-parts.invariant.knows
+returns-in-Err-read g c = record { knows = c.loop-parts.invariant.knows }
 
 pub returns-in-Ok-End : goal.returns-in-Ok-End
-returns-in-Ok-End g c = c.loop-parts.invariant.knows
+returns-in-Ok-End g c = record { knows = c.loop-parts.invariant.knows }
 
 pub returns-in-Err : goal.returns-in-Err
-returns-in-Err g c = c.loop-parts.invariant.knows
+returns-in-Err g c = record { knows = c.loop-parts.invariant.knows }
