@@ -37,6 +37,10 @@ def words_of_runs():
     page = os.path.join(ROOT, "tests", "explained", "undecided_then_violated")
     pair = os.path.join(page, "model.fzn"), os.path.join(page, "stream.txt")
     yield "undecided and then violated, explained", ["check", "--explain", *pair], b""
+    page = os.path.join(ROOT, "examples", "deliveries")
+    names = "other_stream.txt", "model.fzn", "stream.txt"
+    known = ["check", "--claims", "--known", *(os.path.join(page, name) for name in names)]
+    yield "a claim that a known stream refutes", known, b""
     yield "a broken model, explained", ["check", "--explain", FIRST_STREAM, FIRST_STREAM], b""
     yield "no such file", ["check", FIRST_MODEL + ".none"], b""
     yield "wrong words", ["check", "--fast"], b""
