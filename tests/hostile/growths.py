@@ -41,6 +41,10 @@ def words_of_runs():
     names, *pair = (os.path.join(page, file) for file in ("model.names", "model.fzn", "stream.txt"))
     yield "a table of names", ["check", "--explain", "--names", names, *pair], b""
     yield "no table of names", ["check", "--explain", "--names", FIRST_STREAM, *pair], b""
+    page = os.path.join(ROOT, "examples", "deliveries")
+    files = "other_stream.txt", "model.fzn", "stream.txt"
+    known = ["check", "--claims", "--known", *(os.path.join(page, name) for name in files)]
+    yield "a claim that a known stream refutes", known, b""
     yield "a broken model, explained", ["check", "--explain", FIRST_STREAM, FIRST_STREAM], b""
     yield "no such file", ["check", FIRST_MODEL + ".none"], b""
     yield "wrong words", ["check", "--fast"], b""

@@ -168,10 +168,10 @@ satisfied_is Satisfied e = refl
 satisfied_is (Violated f) e = absurd (let no : false ≡ true = e in cc)
 satisfied_is (Undecided r) e = absurd (let no : false ≡ true = e in cc)
 
-if_true : {A : Type 0} {P : A → Type 0} (b : Bool) (x : A) → (b ≡ true → P x)
+if_true : {A : Type 0} (P : A → Type 0) (b : Bool) (x : A) → (b ≡ true → P x)
     → IfSome (cond b (Some x) None) P
-if_true true x f = f refl
-if_true false x f = tt
+if_true P true x f = f refl
+if_true P false x f = tt
 
 module _ (m : Model) where
   false_by : (s : Saying) (o : Option ℤ) → HasSolutionWith m o → refutes m.aim s o ≡ true
@@ -204,7 +204,7 @@ module _ (m : Model) where
       → IfSome (best_refuter m.aim s best) (λ _. IsFalse m s)
   best_false s None h = tt
   best_false s (Some b) h =
-      if_true (refutes m.aim s (Some b.objective)) b.source (λ e. false_by s (Some b.objective) h e)
+      if_true (λ _. IsFalse m s) (refutes m.aim s (Some b.objective)) b.source (λ e. false_by s (Some b.objective) h e)
 
   known_false : (k : Known) (s : Saying) → Knows m k
       → IfSome (known_refuter m.aim k s) (λ _. IsFalse m s)
@@ -247,7 +247,7 @@ module _ (m : Model) where
       → IfSome (option_or before (cond (is_satisfied v) (Some number) None)) (λ n. (o : Option ℤ) × HasSolutionWith m o)
   one_more_sound (Some n) v found number solved h = h
   one_more_sound None v found number solved h =
-      if_true (is_satisfied v) number (λ e. (found, solved (satisfied_is v e)))
+      if_true (λ n. (o : Option ℤ) × HasSolutionWith m o) (is_satisfied v) number (λ e. (found, solved (satisfied_is v e)))
 
   sound_behind : (number : ℕ) (l : Ledger) (o : Outcome) → (o.verdict ≡ Satisfied → HasSolutionWith m o.found)
       → IsSound l → IsSound (behind m.aim number l o)
@@ -261,7 +261,7 @@ module _ (m : Model) where
   late_false None is found solved = tt
   late_false (Some s) false found solved = tt
   late_false (Some s) true found solved =
-      if_true (refutes m.aim s.says found) s (λ e. false_by s.says found (solved refl) e)
+      if_true (λ (t : Statement). IsFalse m t.says) (refutes m.aim s.says found) s (λ e. false_by s.says found (solved refl) e)
 
   late_true : (s : Option Statement) (number : ℕ) (es : List Event) → IfSome s (λ s. IsFalse m s.says)
       → AllByRecursion (IsTrueOf m) es → AllByRecursion (IsTrueOf m) (late_events s number ++ es)

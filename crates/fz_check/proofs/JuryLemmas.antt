@@ -66,15 +66,16 @@ judges_more j j' block v judged same_model same_completion blocks violated undec
       tallies = tallies_more j.tally j'.tally vs v blocks violated undecided h.tallies;
     }
 
-pub judged_none : (j : Jury) → IsFresh j → HasJudged j.judge.completion j.judge.model j [] []
-judged_none j f = record {
+pub judged_none : (j : Jury) → j.judge.before ≡ None → j.judge.found ≡ None
+    → j.tally ≡ record { blocks = 0; violated = None; undecided = None } → HasJudged j.judge.completion j.judge.model j [] []
+judged_none j before found tally = record {
   same_model = refl;
   same_completion = refl;
-  goes_on = λ more ws told. subst₂ (λ b e. AreTold j.judge.completion j.judge.model b e more ws) f.before f.found told;
+  goes_on = λ more ws told. subst₂ (λ b e. AreTold j.judge.completion j.judge.model b e more ws) before found told;
   tallies = record {
-    blocks = ap (λ (t : Tally). t.blocks) f.tally;
-    violated = ap (λ (t : Tally). t.violated) f.tally;
-    undecided = ap (λ (t : Tally). t.undecided) f.tally;
+    blocks = ap (λ (t : Tally). t.blocks) tally;
+    violated = ap (λ (t : Tally). t.violated) tally;
+    undecided = ap (λ (t : Tally). t.undecided) tally;
   };
 }
 
@@ -83,7 +84,7 @@ pub judged_by : (j : Jury) (m : Model) (c : Completion)
     → j.judge ≡ record { model = m; completion = c; before = None; found = None } → j.tally ≡ record { blocks = 0; violated = None; undecided = None } → HasJudged c m j [] []
 judged_by j m c is tally =
     subst (λ (k : JudgeState). HasJudged k.completion k.model j [] []) is
-    (judged_none j (record { before = ap (λ (k : JudgeState). k.before) is; found = ap (λ (k : JudgeState). k.found) is; tally = tally }))
+    (judged_none j (ap (λ (k : JudgeState). k.before) is) (ap (λ (k : JudgeState). k.found) is) tally)
 
 -- the numbers give the answer
 pub answer_is : (c : Completion) (m : Model) (j : Jury) (bs : List Block) (vs : List Verdict)
@@ -99,7 +100,7 @@ told_none j f = record {
   blocks = [];
   blocks_are = refl;
   places = tt;
-  judged = judged_none j f;
+  judged = judged_none j f.before f.found f.tally;
   are_outcomes = tt;
   claims_are = refl;
   ledger_is = f.ledger;

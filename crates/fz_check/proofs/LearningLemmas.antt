@@ -1,13 +1,18 @@
 -- What is known between two parts of a known stream.
-use Rattle.std.proofs.Common.{◌≡◌, ℕ, false, true, List, [], ◌∷◌, ◌++◌, Option, None, inl, sym, ap, ◌∙◌, subst}
+use Rattle.std.proofs.Common.{◌≡◌, ℕ, ℤ, false, true, List, [], ◌∷◌, ◌++◌, Option, None, inl, sym, ap, ◌∙◌, subst, subst₂}
 use Rattle.std.specs.Io.KnownBytes.{Consumes, IsAtEnd}
-use Rattle.fz_judge.specs.of_model.Meaning.{Model}
+use Rattle.fz_judge.specs.of_model.Meaning.{Aim, Model}
 use Rattle.fz_judge.specs.of_stream.Parts.{StreamPart, Frame}
 use Rattle.fz_judge.specs.declared.completion.Completion.{Completion}
-use Rattle.fz_judge.specs.Judged.{JudgeState}
+use Rattle.fz_judge.specs.Judged.{JudgeState, IsJudged}
+use Rattle.fz_judge.specs.Solutions.{Block}
+use Rattle.fz_judge.specs.Verdict.{Verdict}
+use Rattle.fz_judge.specs.Verdict.Verdict.{Satisfied}
+use Rattle.fz_check.specs.declared.claims.Source.{Source}
 use Rattle.fz_check.specs.declared.claims.Known.{Known}
-use Rattle.fz_check.specs.Claims.{Knows}
+use Rattle.fz_check.specs.Claims.{HasSolutionWith, Knows, known_with}
 use Rattle.fz_check.specs.Reading.{PiecesState, ReaderState, HasRead, HasNext, StandsAt}
+use Rattle.fz_check.proofs.ClaimLemmas.{knows_more, outcome_of}
 use Rattle.fz_check.proofs.ReaderLemmas.{read_more}
 
 -- Parts of the bytes that were read have ended, and what is known is still so.
@@ -66,3 +71,11 @@ module _ (s : ReaderState) (left : Option (List ℕ)) (m : Model) (j : JudgeStat
         same_model = l.same_model;
         knows = l.knows;
       }
+
+-- a satisfied block is known
+pub learned : (m : Model) (j j' : JudgeState) (block : Block) (v : Verdict) (old new : Known)
+    (aim : Aim) (o : Option ℤ) (s : Source) → j.model ≡ m → IsJudged j j' block v → v ≡ Satisfied
+    → aim ≡ m.aim → o ≡ j'.found → new ≡ known_with aim old o s → Knows m old → Knows m new
+learned m j j' block v old new aim o s same judged satisfied aims is known h =
+    let solved : HasSolutionWith m o = subst₂ (λ n k. HasSolutionWith n k) same (sym is) ((outcome_of j j' block v judged).solved satisfied) in
+    subst (Knows m) (sym (known ∙ ap (λ a. known_with a old o s) aims)) (knows_more m old o s h solved)

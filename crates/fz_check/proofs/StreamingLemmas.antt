@@ -306,7 +306,7 @@ module _ (ending : Ending) (claims : Claims) (text : Event → List ℕ) (c : Co
         (lines' : List ℕ) where
       answered : answer_view answer ≡ answer_told m claims l.outcomes l.parts
       answered =
-          is ∙ ap (λ (k : Ledger). answer_with k.refuted _) l.told.ledger_is
+          is ∙ ap (λ (k : Ledger). answer_with k.refuted (answer_by j.tally.violated j.tally.undecided j.tally.blocks)) l.told.ledger_is
           ∙ ap (answer_with (ledger m.aim claims 0 no_ledger l.outcomes l.parts).refuted)
           (answer_is c m j (map located_block l.told.blocks) (verdicts_of l.outcomes) _ l.told.judged refl)
 
@@ -331,9 +331,9 @@ module _ (ending : Ending) (claims : Claims) (text : Event → List ℕ) (c : Co
         answered_stands = stand ending claims text c m reads j left left' w w' lines' l.given l.consumes
             so_few l.parts l.outcomes l.told last inside are_last gathered_all
 
-        told_of : (front : List ℕ) → IsStreamText front l.parts
+        told_here : (front : List ℕ) → IsStreamText front l.parts
             → IsToldWith claims (cut_events cut) text c m front w w' lines' (answer_view answer)
-        told_of front t = record {
+        told_here front t = record {
           events = told_of m claims l.outcomes l.parts;
           report = record {
             parts = l.parts;
@@ -355,7 +355,7 @@ module _ (ending : Ending) (claims : Claims) (text : Event → List ℕ) (c : Co
           few = omega (arith, l.few, ap {B = ℕ} (λ b. cond b 1 0) found);
           report = holds_at_end ending l.given l.parts cut
               (λ front before. IsToldWith claims before text c m front w w' lines' (answer_view answer))
-              at_end.1 told_of;
+              at_end.1 told_here;
         }
 
       -- the answer is told, or memory ran out

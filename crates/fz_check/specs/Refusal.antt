@@ -94,6 +94,7 @@ status_of (Ok (answers.Accepted n)) = 0
 status_of (Ok (answers.Rejected n)) = 1
 status_of (Ok (answers.Undecided n)) = 2
 status_of (Ok answers.NoBlocks) = 3
+status_of (Ok (answers.ClaimRejected n)) = 1
 status_of (Err errors.Read) = 6
 status_of (Err errors.Write) = 6
 status_of (Err errors.Memory) = 7

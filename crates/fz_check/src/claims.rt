@@ -8,7 +8,7 @@ use fz_judge::fz_model::Goal;
 use fz_judge::fz_stream::ClaimKind;
 
 /// What a claim says of a model's solutions, as far as a solution can refute it.
-#[derive(Clone, Copy, Debug, PartialEq, Eq)]
+#[derive(Clone, Copy)]
 pub enum Saying {
     Nothing,
     /// There is no solution.
@@ -18,7 +18,7 @@ pub enum Saying {
 }
 
 /// A claim, by the number of blocks before it, and what it says.
-#[derive(Clone, Copy, Debug, PartialEq, Eq)]
+#[derive(Clone, Copy)]
 pub struct Statement {
     pub after: usize,
     pub kind: ClaimKind,
@@ -26,7 +26,7 @@ pub struct Statement {
 }
 
 /// A block of a known stream, by its number from 1 and the name of the file.
-#[derive(Clone, Copy, Debug, PartialEq, Eq)]
+#[derive(Clone, Copy)]
 pub struct Source<'k> {
     pub file: &'k [u8],
     /// Whether it is the only known stream, so that its name needn't be told.
@@ -35,7 +35,7 @@ pub struct Source<'k> {
 }
 
 /// A satisfied block that refutes a claim.
-#[derive(Clone, Copy, Debug, PartialEq, Eq)]
+#[derive(Clone, Copy)]
 pub enum Refuter<'k> {
     /// The block with this number, before the claim.
     Block(usize),
@@ -45,14 +45,14 @@ pub enum Refuter<'k> {
 }
 
 /// A claim with the block that refutes it.
-#[derive(Clone, Copy, Debug, PartialEq, Eq)]
+#[derive(Clone, Copy)]
 pub struct Refutation<'k> {
     pub claim: Statement,
     pub by: Refuter<'k>,
 }
 
 /// The best objective of satisfied blocks, with the first block that has it.
-#[derive(Clone, Copy, Debug, PartialEq, Eq)]
+#[derive(Clone, Copy)]
 pub struct Best<'k> {
     pub objective: i64,
     pub source: Source<'k>,
@@ -60,14 +60,14 @@ pub struct Best<'k> {
 
 /// What is known of a model by blocks of other streams: the first satisfied one, and the best
 /// objective of satisfied ones.
-#[derive(Clone, Copy, Debug, PartialEq, Eq)]
+#[derive(Clone, Copy)]
 pub struct Known<'k> {
     pub satisfied: Option<Source<'k>>,
     pub best: Option<Best<'k>>,
 }
 
 /// Whether claims are judged, and by what they are refuted but the stream's own blocks.
-#[derive(Clone, Copy, Debug, PartialEq, Eq)]
+#[derive(Clone, Copy)]
 pub enum Claims<'k> {
     NotJudged,
     Judged(Known<'k>),

@@ -16,9 +16,10 @@ use fz_judge::{BlockError, Completion, Judge, Verdict};
 use std::alloc::Global;
 use std::io::Read;
 
-/// Who is told of the blocks of a known stream.
+/// Who is told of the blocks of a known stream that refute nothing.
 pub trait Listener {
-    /// Is told the verdict on the block with this number, from 1, or why it doesn't fit the model.
+    /// Is told of a block that isn't satisfied, by its number from 1: the verdict on it, or why it
+    /// doesn't fit the model.
     fn hear(&mut self, number: usize, outcome: Result<Verdict<'_>, BlockError>);
 }
 
@@ -36,16 +37,17 @@ fn learn_block<'k, L: Listener>(
 {
     source.block = source.block.saturating_add(1);
     judge.forget();
-    let outcome = judge.judge(alloc, block);
-    match outcome {
-        Err(BlockError::Memory) => return Err(CheckError::Memory),
+    match judge.judge(alloc, block) {
         Ok(Verdict::Satisfied) => {
             *known = known.with(judge.model().goal(), judge.objective(), *source);
+            Ok(())
         }
-        _ => {}
+        Err(BlockError::Memory) => Err(CheckError::Memory),
+        outcome => {
+            listener.hear(source.block, outcome);
+            Ok(())
+        }
     }
-    listener.hear(source.block, outcome);
-    Ok(())
 }
 
 /// Learns of the part that waits, which is read for it.

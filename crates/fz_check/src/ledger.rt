@@ -10,7 +10,7 @@ use fz_judge::fz_model::Goal;
 use fz_judge::fz_stream::ClaimKind;
 
 /// What is known behind the parts of a stream.
-#[derive(Clone, Copy, Debug)]
+#[derive(Clone, Copy)]
 pub(crate) struct Ledger {
     /// The number of the first satisfied block.
     satisfied: Option<usize>,

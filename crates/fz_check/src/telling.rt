@@ -51,8 +51,8 @@ fn make_block_line<T: Taker>(
     judged: Judged<'_, '_>,
     refuted: Option<Statement>,
 ) -> Result<(), CheckError>
-    ensures made { OnOk result (line.new.items ≡ text_of T.text (PlainJudged judged.number
-        (verdict_view judged.verdict) ∷ late_events refuted judged.number)) }
+    ensures made { OnOk result (line.new.items ≡ text_of T.text (PlainJudged judged.entry.number
+        (verdict_view judged.entry.verdict) ∷ late_events refuted judged.entry.number)) }
     ensures kinds { IfErr result (λ e. e ≡ CheckError.Memory) }
 {
     match make_line(taker, line, &Event::Block(judged)) {

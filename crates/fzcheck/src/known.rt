@@ -108,7 +108,6 @@ impl Listener for Told<'_, '_> {
     fn hear(&mut self, number: usize, outcome: Result<Verdict<'_>, BlockError>) {
         let alloc = self.rt.alloc();
         let line = match outcome {
-            Ok(Verdict::Satisfied) => return,
             Ok(verdict) => block_text(alloc, number, &verdict),
             Err(error) => refusal_text(alloc, &CheckError::Block(number, error)),
         };
