@@ -26,8 +26,3 @@ pub use rows::{a_form_fails_by_its_reason, a_row_fails_by_its_reason, holds, rea
 pub use sides::sides_of;
 pub use tasks::runs_at;
 pub use tours::place_after;
-
-#[test]
-fn compiles() {
-    a_row_fails_by_its_reason();
-}

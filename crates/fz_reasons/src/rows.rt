@@ -33,6 +33,7 @@ use std::alloc::{AllocError, Global};
 /// # Errors
 ///
 /// Out of memory.
+#[tactic(auto, unfolding(crate::specs::Reasons::Says))]
 pub fn reason_of(
     alloc: Global,
     builtin: Builtin,
