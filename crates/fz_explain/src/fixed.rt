@@ -1,6 +1,6 @@
 //! Parameters, and arrays of fixed values, by their names.
 
-ghost use Rattle.std.specs.Prelude.{◌≡◌, [], ◌∷◌, IfOk, false, map, option_map};
+ghost use Rattle.std.specs.Prelude.{◌≡◌, [], ◌∷◌, IfOk, false, map, option_map, true};
 ghost use Rattle.fz_judge.specs.of_model.Shown.{scalar_terms};
 ghost use Rattle.fz_judge.specs.of_model.Slots.{scalar_term, slot_term};
 ghost use Rattle.fz_explain.specs.Fixings.{fixed_value, fixed_values, fixing, fixing_view};
@@ -61,16 +61,22 @@ pub fn fixing_of(
     };
     match found.what {
         What::Scalar(scalar) => parameter(alloc, scalar),
-        What::Array(_, scalars) => {
-            let Some(values) = values_of(alloc, scalars)? else {
-                return Ok(None);
-            };
-            Ok(Some(Fixing {
-                is_array: true,
-                values,
-            }))
-        }
+        What::Array(_, scalars) => elements(alloc, scalars),
     }
+}
+
+/// The values of the elements of an array.
+fn elements(alloc: Global, scalars: Scalars<'_>) -> Result<Option<Fixing>, AllocError>
+    ensures { IfOk result (λ o. option_map fixing_view o
+        ≡ option_map (λ vs. (true, vs)) (fixed_values (scalar_terms scalars.entry))) }
+{
+    let Some(values) = values_of(alloc, scalars)? else {
+        return Ok(None);
+    };
+    Ok(Some(Fixing {
+        is_array: true,
+        values,
+    }))
 }
 
 /// The value of a parameter.
