@@ -128,8 +128,14 @@ fn left_text(
             let sum = sum_text(alloc, &view.elements(0), &view.elements(1))?;
             format!(in alloc; "{sum} = {left}")
         }
-        Builtin::BoolLinLe => format!(in alloc; "the sum where it is true is {left}"),
-        Builtin::IntNe | Builtin::IntLe | Builtin::IntLt => format!(in alloc; "{left}"),
+        Builtin::BoolLinNe
+        | Builtin::BoolLinLe
+        | Builtin::BoolLinLt
+        | Builtin::BoolLinGe
+        | Builtin::BoolLinGt => format!(in alloc; "the sum where it is true is {left}"),
+        Builtin::IntNe | Builtin::IntLe | Builtin::IntLt | Builtin::IntGe | Builtin::IntGt => {
+            format!(in alloc; "{left}")
+        }
         Builtin::FznAtLeastInt | Builtin::FznAtMostInt | Builtin::FznExactlyInt => {
             comes_text(alloc, view.int(2), left)
         }
@@ -483,6 +489,7 @@ fn term_text(
     let (a, b) = (view.int(0), view.int(1));
     match builtin {
         Builtin::IntPlus => format!(in alloc; "{a} + {b} = "),
+        Builtin::IntMinus => format!(in alloc; "{a} - {b} = "),
         Builtin::IntTimes => format!(in alloc; "{a}·{b} = "),
         Builtin::IntMin => format!(in alloc; "min({a}, {b}) = "),
         Builtin::IntMax => format!(in alloc; "max({a}, {b}) = "),

@@ -19,6 +19,11 @@ scalars K xs relation = Some (int_at K xs 0, relation, int_at K xs 1)
 abbrev pub sums : Partial → List Argument → Relation → Option Compared
 sums K xs relation = Some (total (products (ints_at K xs 0) (ints_at K xs 1)), relation, int_at K xs 2)
 
+-- the sum of the numbers whose Booleans are true, and the third argument
+abbrev pub weights : Partial → List Argument → Relation → Option Compared
+weights K xs relation =
+    Some (total (where_true (ints_at K xs 0) (bools_at K xs 1)), relation, int_at K xs 2)
+
 -- how often the second argument is an element of the first, and the third
 abbrev pub counts : Partial → List Argument → Relation → Option Compared
 counts K xs relation = Some (count_of (ints_at K xs 0) (int_at K xs 1), relation, int_at K xs 2)
@@ -32,11 +37,16 @@ unfoldable pub compared : Builtin → Partial → List Argument → Option Compa
 compared builtin.IntNe K xs = scalars K xs NotEqual
 compared builtin.IntLe K xs = scalars K xs AtMost
 compared builtin.IntLt K xs = scalars K xs Below
+compared builtin.IntGe K xs = scalars K xs AtLeast
+compared builtin.IntGt K xs = scalars K xs Above
 compared builtin.IntLinEq K xs = sums K xs Equal
 compared builtin.IntLinNe K xs = sums K xs NotEqual
 compared builtin.IntLinLe K xs = sums K xs AtMost
-compared builtin.BoolLinLe K xs =
-    Some (total (where_true (ints_at K xs 0) (bools_at K xs 1)), AtMost, int_at K xs 2)
+compared builtin.BoolLinNe K xs = weights K xs NotEqual
+compared builtin.BoolLinLe K xs = weights K xs AtMost
+compared builtin.BoolLinLt K xs = weights K xs Below
+compared builtin.BoolLinGe K xs = weights K xs AtLeast
+compared builtin.BoolLinGt K xs = weights K xs Above
 compared builtin.FznCountNeq K xs = counts K xs NotEqual
 compared builtin.FznCountGeq K xs = counts K xs AtMost
 compared builtin.FznCountGt K xs = counts K xs Below

@@ -5,8 +5,7 @@ ghost use Rattle.fz_builtins.specs.of_meaning.Relations.{products, total};
 ghost use Rattle.fz_builtins.specs.of_meaning.States.{leaves_128};
 ghost use Rattle.fz_builtins.specs.of_kernel.Views.{arguments_of, assigned};
 ghost use Rattle.fz_builtins.specs.Readings.{ints};
-ghost use Rattle.fz_builtins.specs.of_meaning.declared.builtin.Builtin.TheVariants.{BoolLinLe};
-ghost use Rattle.fz_reasons.specs.Compared.{compared, counts, counts_last, scalars, sums};
+ghost use Rattle.fz_reasons.specs.Compared.{counts, counts_last, scalars, sums, weights};
 ghost use Rattle.fz_reasons.specs.Reasons.{AreCompared, Unlike};
 
 use crate::reason::{Relation, Sides};
@@ -24,10 +23,16 @@ pub fn sides_of(builtin: Builtin, view: &ArgumentView<'_, '_>) -> Option<Sides>
         Builtin::IntNe => Some(scalars(view, Relation::NotEqual)),
         Builtin::IntLe => Some(scalars(view, Relation::AtMost)),
         Builtin::IntLt => Some(scalars(view, Relation::Below)),
+        Builtin::IntGe => Some(scalars(view, Relation::AtLeast)),
+        Builtin::IntGt => Some(scalars(view, Relation::Above)),
         Builtin::IntLinEq => sums(view, Relation::Equal),
         Builtin::IntLinNe => sums(view, Relation::NotEqual),
         Builtin::IntLinLe => sums(view, Relation::AtMost),
-        Builtin::BoolLinLe => Some(weights(view)),
+        Builtin::BoolLinNe => Some(weights(view, Relation::NotEqual)),
+        Builtin::BoolLinLe => Some(weights(view, Relation::AtMost)),
+        Builtin::BoolLinLt => Some(weights(view, Relation::Below)),
+        Builtin::BoolLinGe => Some(weights(view, Relation::AtLeast)),
+        Builtin::BoolLinGt => Some(weights(view, Relation::Above)),
         Builtin::FznCountNeq => Some(counts(view, Relation::NotEqual)),
         Builtin::FznCountGeq => Some(counts(view, Relation::AtMost)),
         Builtin::FznCountGt => Some(counts(view, Relation::Below)),
@@ -65,14 +70,13 @@ fn sums(view: &ArgumentView<'_, '_>, relation: Relation) -> Option<Sides>
     })
 }
 
-#[tactic(auto, unfolding(crate::specs::Compared::compared))]
-fn weights(view: &ArgumentView<'_, '_>) -> Sides
+fn weights(view: &ArgumentView<'_, '_>, relation: Relation) -> Sides
     ensures { Some (result.left, result.relation, result.right)
-        ≡ compared BoolLinLe (assigned view.now) (arguments_of view.now) }
+        ≡ weights (assigned view.now) (arguments_of view.now) relation }
 {
     Sides {
         left: sum_where_true(&view.elements(0), &view.elements(1)),
-        relation: Relation::AtMost,
+        relation,
         right: i128::from(view.int(2)),
     }
 }

@@ -17,6 +17,14 @@ pub returns-in-IntLt : goal.returns-in-IntLt
 unfolding compared row_at
 returns-in-IntLt c = rw c.in-IntLt.is (record { exact = record { compared = sym c.scalars-in-IntLt.ensures; added = refl } })
 
+pub returns-in-IntGe : goal.returns-in-IntGe
+unfolding compared row_at
+returns-in-IntGe c = rw c.in-IntGe.is (record { exact = record { compared = sym c.scalars-in-IntGe.ensures; added = refl } })
+
+pub returns-in-IntGt : goal.returns-in-IntGt
+unfolding compared row_at
+returns-in-IntGt c = rw c.in-IntGt.is (record { exact = record { compared = sym c.scalars-in-IntGt.ensures; added = refl } })
+
 pub returns-in-IntLinEq : goal.returns-in-IntLinEq
 unfolding compared row_at
 returns-in-IntLinEq c = rw c.in-IntLinEq.is (record { exact = told c.sums.result (λ s e l. record { compared = sym e; added = ap (λ t. t || false) l }) c.sums.ensures.sides c.sums.ensures.added })
@@ -29,9 +37,25 @@ pub returns-in-IntLinLe : goal.returns-in-IntLinLe
 unfolding compared row_at
 returns-in-IntLinLe c = rw c.in-IntLinLe.is (record { exact = told c.sums-in-IntLinLe.result (λ s e l. record { compared = sym e; added = ap (λ t. t || false) l }) c.sums-in-IntLinLe.ensures.sides c.sums-in-IntLinLe.ensures.added })
 
+pub returns-in-BoolLinNe : goal.returns-in-BoolLinNe
+unfolding compared row_at
+returns-in-BoolLinNe c = rw c.in-BoolLinNe.is (record { exact = record { compared = sym c.weights.ensures; added = refl } })
+
 pub returns-in-BoolLinLe : goal.returns-in-BoolLinLe
 unfolding compared row_at
-returns-in-BoolLinLe c = rw c.in-BoolLinLe.is (record { exact = record { compared = sym c.weights.ensures; added = refl } })
+returns-in-BoolLinLe c = rw c.in-BoolLinLe.is (record { exact = record { compared = sym c.weights-in-BoolLinLe.ensures; added = refl } })
+
+pub returns-in-BoolLinLt : goal.returns-in-BoolLinLt
+unfolding compared row_at
+returns-in-BoolLinLt c = rw c.in-BoolLinLt.is (record { exact = record { compared = sym c.weights-in-BoolLinLt.ensures; added = refl } })
+
+pub returns-in-BoolLinGe : goal.returns-in-BoolLinGe
+unfolding compared row_at
+returns-in-BoolLinGe c = rw c.in-BoolLinGe.is (record { exact = record { compared = sym c.weights-in-BoolLinGe.ensures; added = refl } })
+
+pub returns-in-BoolLinGt : goal.returns-in-BoolLinGt
+unfolding compared row_at
+returns-in-BoolLinGt c = rw c.in-BoolLinGt.is (record { exact = record { compared = sym c.weights-in-BoolLinGt.ensures; added = refl } })
 
 pub returns-in-FznCountNeq : goal.returns-in-FznCountNeq
 unfolding compared row_at
