@@ -3,7 +3,7 @@
 use crate::MOST_BYTES;
 use crate::as_json::refusal_line;
 use crate::explain::explanation;
-use crate::known::{Unread, claims_of};
+use crate::known::{Unlearned, claims_of};
 use crate::names::check_with_names;
 use crate::refuse::{refuse, refuse_at, refuse_file, unread};
 use crate::teller::Teller;
@@ -88,7 +88,7 @@ fn check_readers<M: Read + Drop, S: Read + Drop>(
         Ok(bytes) => match claims_of(rt, task.options, &bytes, known) {
             Ok(claims) => check_with_names(rt, task, claims, &bytes, stream),
             Err(failure) => {
-                let Unread {
+                let Unlearned {
                     error,
                     name,
                     failure,

@@ -13,7 +13,7 @@ use std::{fs, io};
 
 /// The file of a known stream that can't be read, and why.
 #[derive(Drop)]
-pub struct Unread<'k> {
+pub struct Unlearned<'k> {
     pub error: CheckError,
     pub name: &'k str,
     pub failure: Option<io::Error>,
@@ -26,7 +26,7 @@ pub fn claims_of<'k>(
     options: CheckOptions,
     model: &[u8],
     names: &[&'k str],
-) -> Result<Claims<'k>, Unread<'k>> {
+) -> Result<Claims<'k>, Unlearned<'k>> {
     if !options.judges_claims {
         return Ok(Claims::NotJudged);
     }
@@ -36,7 +36,7 @@ pub fn claims_of<'k>(
     }
     let model = match read_model(rt.alloc(), model) {
         Ok(model) => model,
-        Err(CheckError::Memory) => return Err(unread(CheckError::Memory, "", None)),
+        Err(CheckError::Memory) => return Err(not_learned(CheckError::Memory, "", None)),
         // The check refuses it too, and tells why.
         Err(_) => return Ok(Claims::Judged(known)),
     };
@@ -55,10 +55,10 @@ fn learn_file<'k>(
     name: &'k str,
     is_only: bool,
     known: &mut Known<'k>,
-) -> Result<(), Unread<'k>> {
+) -> Result<(), Unlearned<'k>> {
     let file = match fs::open(rt, name) {
         Ok(file) => file,
-        Err(failure) => return Err(unread(CheckError::Read, name, Some(failure))),
+        Err(failure) => return Err(not_learned(CheckError::Read, name, Some(failure))),
     };
     let mut reader = Recorder::new(file, None);
     let mut listener = Told { rt, name };
@@ -85,12 +85,12 @@ fn learn_file<'k>(
             );
             Ok(())
         }
-        Err(error) => Err(unread(error, name, None)),
+        Err(error) => Err(not_learned(error, name, None)),
     }
 }
 
-fn unread(error: CheckError, name: &str, failure: Option<io::Error>) -> Unread<'_> {
-    Unread {
+fn not_learned(error: CheckError, name: &str, failure: Option<io::Error>) -> Unlearned<'_> {
+    Unlearned {
         error,
         name,
         failure,
