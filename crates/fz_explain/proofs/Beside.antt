@@ -1,5 +1,5 @@
 -- Elements beside their printed values, one after another.
-use Rattle.std.proofs.Common.{◌≡◌, ◌<◌, ◌≤◌, ℕ, zero, suc, cond, List, [], ◌∷◌, map, length, drop, get_or, slice_get, Option, None, Some, refl, sym, ap, ◌∙◌, arith}
+use Rattle.std.proofs.Common.{◌≡◌, ◌<◌, ◌≤◌, ℕ, zero, suc, cond, List, [], ◌∷◌, map, length, drop, get_or, slice_get, None, Some, refl, arith}
 use Rattle.fz_base.specs.declared.value.Value.{Value}
 use Rattle.fz_judge.specs.of_model.Meaning.{Partial}
 use Rattle.fz_judge.specs.of_model.declared.Term.{Term}

@@ -1,5 +1,5 @@
 -- The element of a printed array whose value isn't the printed one (this project's profile).
-use Rattle.std.specs.Prelude.{ℕ, suc, Bool, false, cond, List, [], ◌∷◌, Option, None, Some}
+use Rattle.std.specs.Prelude.{ℕ, suc, Bool, false, cond, List, ◌∷◌, Option, None, Some}
 use Rattle.std.specs.Option.{option_map_or}
 use Rattle.fz_base.specs.declared.value.Value.{Value}
 use Rattle.fz_judge.specs.of_model.Meaning.{Partial, value}

@@ -3,8 +3,8 @@
 --     FILE|LINE|COLUMN|LINE|COLUMN|WHAT;
 -- with the first and the last position of what is there, such as `ca|forall`. Of a loop variable
 -- WHAT is its name, a sign of equality, and its value. Files without a bar leave a path one list.
-use Rattle.std.specs.Prelude.{◌≡◌, ℕ, ◌-◌, Bool, not, ◌&&◌, ◌==◌, cond, nat_eq, nat_le, List, [], ◌∷◌, ◌++◌, length, take, map, flat_map, Option, Some, None, bytes_eq}
-use Rattle.std.specs.List.{filter, list_any}
+use Rattle.std.specs.Prelude.{◌≡◌, ℕ, ◌-◌, ◌<◌, ◌⊎◌, Bool, true, not, ◌&&◌, ◌==◌, cond, nat_eq, nat_le, List, [], ◌∷◌, ◌++◌, length, take, map, flat_map, Option, Some, None, bytes_eq}
+use Rattle.std.specs.List.{list_all, filter, list_any}
 use Rattle.fz_places.specs.Lines.{first_part, last_part}
 use Rattle.fz_places.specs.declared.path.ModelPlace.{ModelPlace}
 use Rattle.fz_places.specs.declared.path.Segment.{Segment}
@@ -18,6 +18,24 @@ segment_text s = barred s.file.now (barred s.line.now (barred s.column.now
 
 abbrev pub is_digit : ℕ → Bool
 is_digit byte = nat_le 48 byte && nat_le byte 57
+
+-- one digit at least, and nothing else
+abbrev pub IsNumber : List ℕ → Type 0
+IsNumber text = (0 < length text) × (list_all is_digit text ≡ true)
+
+-- A text is one segment, with no semicolon in WHAT. All that is before the last segment of a path
+-- could be a part of its file, so a text is such a path just where it is one segment.
+pub record HasForm (text : List ℕ) : Type 0 where
+  pub file : List ℕ
+  pub line : List ℕ
+  pub column : List ℕ
+  pub end_line : List ℕ
+  pub end_column : List ℕ
+  pub what : List ℕ
+  pub is : text ≡ barred file (barred line (barred column
+      (barred end_line (barred end_column (what ++ 59 ∷ [])))))
+  pub numbers : IsNumber line × IsNumber column × IsNumber end_line × IsNumber end_column
+  pub whole : list_all (λ b. not (b == 59)) what ≡ true
 
 -- the file that a path names, without its folders, and these
 abbrev pub name_of : List ℕ → List ℕ
@@ -66,3 +84,13 @@ pub record IsPlaceOf (path : List ℕ) (p : ModelPlace) : Type 0 where
   pub others : List Segment
   pub text : flat_map segment_text (outermost ∷ others) ≡ path
   pub is : IsPlaceIn (outermost ∷ others) outermost.file.now p
+
+-- no place is in a path that is of another form, or of which each own segment is a loop variable
+pub record IsNowhere (path : List ℕ) : Type 0 where
+  pub outermost : Segment
+  pub others : List Segment
+  pub text : flat_map segment_text (outermost ∷ others) ≡ path
+  pub none : innermost outermost.file.now None (outermost ∷ others) ≡ None
+
+abbrev pub HasNoPlace : List ℕ → Type 0
+HasNoPlace path = (HasForm path → ⊥) ⊎ IsNowhere path

@@ -1,9 +1,10 @@
 //! Where in a MiniZinc model a constraint is from, by the path to it that the compiler writes.
 
-ghost use Rattle.std.specs.Prelude.{◌≡◌, ◌==◌, ◌≤◌, ◌∷◌, ◌++◌, [], IfOk, IfSome, OnOk, Some, None, List, flat_map, length, map, option_map, take, drop};
-ghost use Rattle.std.specs.List.{filter, list_any};
+ghost use Rattle.std.specs.Prelude.{◌≡◌, ◌==◌, ◌≤◌, ◌∷◌, ◌++◌, [], IfOk, IfSome, IsNone, OnOk, Some, None, List, ℕ, flat_map, length, map, option_map, take, drop};
+ghost use Rattle.std.specs.List.{filter, list_any, prefix_len};
 ghost use Rattle.fz_places.specs.Lines.{first_part, last_part};
-ghost use Rattle.fz_places.specs.Paths.{IsPlaceIn, IsPlaceOf, folder_of, innermost, is_alike, is_digit, is_loop, is_own, is_own_loop, name_of, segment_text, short_name};
+ghost use Rattle.fz_places.specs.Paths.{HasForm, HasNoPlace, IsPlaceIn, IsPlaceOf, folder_of, innermost, is_alike, is_digit, is_loop, is_own, is_own_loop, name_of, segment_text, short_name};
+ghost use Rattle.fz_places.specs.Segments.{behind_bar, behind_segment, number};
 
 use crate::lines::{part_len, part_start, parted};
 use std::alloc::{AllocError, Global};
@@ -46,7 +47,8 @@ fn is_digit(byte: u8) -> bool
 
 /// How many digits come first.
 fn count_digits(text: &[u8]) -> usize
-    ensures { result ≤ length text.now }
+    ensures within { result ≤ length text.now }
+    ensures digits { result ≡ prefix_len is_digit text.now }
 {
     for (place, byte) in text.iter().enumerate() {
         if !is_digit(*byte) {
@@ -58,7 +60,8 @@ fn count_digits(text: &[u8]) -> usize
 
 /// What is behind a bar at the front.
 fn behind_bar<'a>(text: &'a [u8]) -> Option<&'a [u8]>
-    ensures { IfSome result (λ rest. text.now ≡ 124 ∷ rest.now) }
+    ensures bar { IfSome result (λ rest. text.now ≡ 124 ∷ rest.now) }
+    ensures rest { option_map (λ r. r.now) result ≡ behind_bar text.now }
 {
     match text {
         [first, rest @ ..] if *first == BAR => Some(rest),
@@ -68,7 +71,9 @@ fn behind_bar<'a>(text: &'a [u8]) -> Option<&'a [u8]>
 
 /// The number behind a bar at the front, and what follows.
 fn number<'a>(text: &'a [u8]) -> Option<(&'a [u8], &'a [u8])>
-    ensures { IfSome result (λ n. text.now ≡ 124 ∷ n.0.now ++ n.1.now) }
+    ensures text { IfSome result (λ n. text.now ≡ 124 ∷ n.0.now ++ n.1.now) }
+    ensures number { option_map {U = List ℕ × List ℕ} (λ n. (n.0.now, n.1.now)) result
+        ≡ number text.now }
 {
     let rest = behind_bar(text)?;
     let count = count_digits(rest);
@@ -80,7 +85,8 @@ fn number<'a>(text: &'a [u8]) -> Option<(&'a [u8], &'a [u8])>
 
 /// A segment of this file at the front of a text that follows, and what is behind it.
 fn segment_of<'a>(file: &'a [u8], text: &'a [u8]) -> Option<(Segment<'a>, &'a [u8])>
-    ensures { IfSome result (λ s. segment_text s.0 ++ s.1.now ≡ file.now ++ text.now) }
+    ensures text { IfSome result (λ s. segment_text s.0 ++ s.1.now ≡ file.now ++ text.now) }
+    ensures rest { option_map (λ s. s.1.now) result ≡ behind_segment text.now }
 {
     let (line, text) = number(text)?;
     let (column, text) = number(text)?;
@@ -100,7 +106,8 @@ fn segment_of<'a>(file: &'a [u8], text: &'a [u8]) -> Option<(Segment<'a>, &'a [u
 
 /// The segment at the front, whose file is as short as can be, and what is behind it.
 fn first_segment<'a>(text: &'a [u8]) -> Option<(Segment<'a>, &'a [u8])>
-    ensures { IfSome result (λ s. segment_text s.0 ++ s.1.now ≡ text.now) }
+    ensures text { IfSome result (λ s. segment_text s.0 ++ s.1.now ≡ text.now) }
+    ensures none { IsNone result → HasForm text.now → ⊥ }
 {
     for length in 0..text.len() {
         let (file, rest) = text.split_at(length);
@@ -114,7 +121,8 @@ fn first_segment<'a>(text: &'a [u8]) -> Option<(Segment<'a>, &'a [u8])>
 
 /// The segments of a path.
 fn segments_of<'a>(alloc: Global, path: &'a [u8]) -> Result<Option<Vec<Segment<'a>>>, AllocError>
-    ensures { IfOk result (λ o. IfSome o (λ v. flat_map segment_text v.items ≡ path.now)) }
+    ensures text { IfOk result (λ o. IfSome o (λ v. flat_map segment_text v.items ≡ path.now)) }
+    ensures none { IfOk result (λ o. IsNone o → HasForm path.now → ⊥) }
 {
     let mut segments = Vec::new(alloc);
     let mut rest = path;
@@ -221,7 +229,8 @@ fn place_in<'a>(
     segments: &[Segment<'a>],
     first: &[u8],
 ) -> Result<Option<ModelPlace<'a>>, AllocError>
-    ensures { IfOk result (λ o. IfSome o (IsPlaceIn segments.now first.now)) }
+    ensures found { IfOk result (λ o. IfSome o (IsPlaceIn segments.now first.now)) }
+    ensures none { IfOk result (λ o. IsNone o → innermost first.now None segments.now ≡ None) }
 {
     let Some(segment) = innermost(segments, first) else {
         return Ok(None);
@@ -253,7 +262,8 @@ fn place_in<'a>(
 ///
 /// Out of memory.
 pub fn model_place<'a>(alloc: Global, path: &'a [u8]) -> Result<Option<ModelPlace<'a>>, AllocError>
-    ensures { IfOk result (λ o. IfSome o (IsPlaceOf path.now)) }
+    ensures found { IfOk result (λ o. IfSome o (IsPlaceOf path.now)) }
+    ensures none { IfOk result (λ o. IsNone o → HasNoPlace path.now) }
 {
     let Some(segments) = segments_of(alloc, path)? else {
         return Ok(None);

@@ -1,6 +1,5 @@
-use Rattle.std.proofs.Common.{◌≡◌, ◌++◌, flat_map}
-use Rattle.fz_places.specs.Paths.{segment_text}
+use Rattle.fz_places.proofs.Forms.{Reading}
 use Rattle.fz_places.proofs.path.segments_of.Given as goal
 
 abbrev pub invariant-loop : goal.invariant-loop
-invariant-loop l = flat_map segment_text l.segments.items ++ l.rest ≡ l.path
+invariant-loop l = Reading l.path l.segments.items l.rest l.counter
