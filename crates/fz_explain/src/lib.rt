@@ -20,7 +20,6 @@ mod message;
 mod notes;
 mod path;
 mod place;
-mod reasons;
 mod remarks;
 mod scalars;
 mod sentence;
