@@ -131,7 +131,7 @@ def message_lines(it, model, stream):
         notes.insert(8, [f"... and {it['left_out']} more ..."])
     if "behind_left_out" in it:
         notes.append([f"... and {it['behind_left_out']} more reasons ..."])
-    reason = [it["reason"]] if "reason" in it else []
+    reason = [it["reason"]] if "reason" in it and "message" in it else []
     notes = [*model_lines(it), *reason, *(line for lines in notes for line in lines)]
     notes += [f"{full_name(each)} = {each['value']}, fixed" for each in it.get("fixed", [])]
     name = stream if re.match("printed .* differs", it["message"]) else model

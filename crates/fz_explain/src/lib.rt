@@ -19,7 +19,6 @@ mod naming;
 mod notes;
 mod place;
 mod printed;
-mod reasons;
 mod remarks;
 mod scalars;
 mod sentence;
