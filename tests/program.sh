@@ -190,7 +190,8 @@ expect 'no table of names, as JSON' 4 '{"refused":"names","fault":"Columns","sta
   'refused: names: Columns at 6..10' named 'a\tb\tc\nonly\n' --explain --json
 nine="$folder/deep.fzn:3:12: constraint 1 int_le fails in block 1
    3 | constraint int_le(x,5);
-     |            ^^^^^^"
+     |            ^^^^^^
+     = 9, not ≤ 5"
 rejected=$'block 1: violated: constraint 1 int_le\nrejected: block 1'
 expect 'an empty table of names' 1 "$rejected" "$nine"$'\n     = x = 9, printed' named '' --explain
 expect 'a table of names without an end of line' 1 "$rejected" "$nine"$'\n     = time (x) = 9, printed' named 'x\ttime\t' --explain
