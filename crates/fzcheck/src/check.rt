@@ -33,12 +33,12 @@ pub struct Task<'a> {
 
 /// Checks the file of a stream, or standard input, against the file of a model. Both are opened
 /// before anything is read.
-pub fn check_files(
+pub fn check_files<'a>(
     rt: &HostRuntime,
-    model: &str,
-    stream: Option<&str>,
-    names: Option<&str>,
-    known: &[&str],
+    model: &'a str,
+    stream: Option<&'a str>,
+    names: Option<&'a str>,
+    known: &'a [&'a str],
     options: CheckOptions,
 ) -> u8 {
     let task = Task {
