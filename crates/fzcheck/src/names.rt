@@ -30,7 +30,14 @@ pub fn check_with_names<S: Read + Drop>(
     stream: S,
 ) -> u8 {
     let Some(name) = task.names else {
-        return check_stream(rt, task, claims, model, NameTable::empty(rt.alloc()), stream);
+        return check_stream(
+            rt,
+            task,
+            claims,
+            model,
+            NameTable::empty(rt.alloc()),
+            stream,
+        );
     };
     let file = match fs::open(rt, name) {
         Ok(file) => file,
