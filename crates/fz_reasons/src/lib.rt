@@ -1,0 +1,24 @@
+//! Why a constraint fails, in values.
+#![tactic(auto)]
+
+mod arranged;
+mod arrangement;
+mod inverses;
+mod lexical;
+mod loads;
+mod places;
+mod readings;
+mod table_rows;
+mod tours;
+mod words;
+
+pub use arranged::{an_arranged_row_fails_by_its_reason, by_arrangement};
+pub use arrangement::{
+    Arrangement, BinLoad, Difference, NearRow, NoIndex, NoStep, OneWay, Ring, Run, Total,
+};
+pub use tours::follow;
+
+#[test]
+fn compiles() {
+    an_arranged_row_fails_by_its_reason();
+}
