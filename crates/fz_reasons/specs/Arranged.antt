@@ -1,6 +1,6 @@
 -- What a reason says of rows over tours, bins, knapsacks, runs, tables, words and orders (this
--- project's profile). Each kind of reason belongs to the rows that are listed with it; of another row it says
--- nothing that can be so.
+-- project's profile). Each kind of reason belongs to the rows that are listed with it; of another
+-- row it says nothing that can be so.
 use Rattle.std.specs.Prelude.{◌≡◌, ℤ, false, List, length}
 use Rattle.std.specs.List.{list_any}
 use Rattle.fz_builtins.specs.of_meaning.declared.builtin.Builtin.{Builtin}
@@ -55,12 +55,14 @@ AddsUp b K xs = list_any (read_leave K xs) (row_at b).sums ≡ false
 
 abbrev pub HasWeight : Builtin → Partial → List Argument → Total → Type 0
 HasWeight builtin.FznKnapsack K xs t =
-    IsOtherTotal (ints_at K xs 0) (ints_at K xs 2) (int_at K xs 3) t × AddsUp builtin.FznKnapsack K xs
+    IsOtherTotal (ints_at K xs 0) (ints_at K xs 2) (int_at K xs 3) t
+    × AddsUp builtin.FznKnapsack K xs
 HasWeight b K xs t = ⊥
 
 abbrev pub HasProfit : Builtin → Partial → List Argument → Total → Type 0
 HasProfit builtin.FznKnapsack K xs t =
-    IsOtherTotal (ints_at K xs 1) (ints_at K xs 2) (int_at K xs 4) t × AddsUp builtin.FznKnapsack K xs
+    IsOtherTotal (ints_at K xs 1) (ints_at K xs 2) (int_at K xs 4) t
+    × AddsUp builtin.FznKnapsack K xs
 HasProfit b K xs t = ⊥
 
 abbrev pub HasRun : Builtin → Partial → List Argument → Run → Type 0

@@ -15,8 +15,8 @@ pub record IsStop (xs : List ℤ) (states symbols : ℤ) (d : List ℤ) (first :
   pub stops : step states symbols d s.state s.symbol ≡ None
 
 -- the word ends in the state, which isn't one of the last
-pub record EndsOutside (xs : List ℤ) (states symbols : ℤ) (d : List ℤ) (first : ℤ) (last : NumberSet)
-    (state : ℤ) : Type 0 where
+pub record EndsOutside (xs : List ℤ) (states symbols : ℤ) (d : List ℤ) (first : ℤ)
+    (last : NumberSet) (state : ℤ) : Type 0 where
   pub reached : run states symbols d first xs ≡ Some state
   pub outside : (lies_between (pos 1) states state && sets.contains last state) ≡ false
 

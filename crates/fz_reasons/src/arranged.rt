@@ -11,17 +11,18 @@ use crate::lexical::{after, not_before};
 use crate::loads::{other_load, other_run, other_total};
 use crate::places::no_index;
 use crate::readings::number_count;
+use crate::rings::{ring_of_moved, short_ring};
 use crate::table_rows::near_row;
-use crate::tours::{ring_of_moved, short_ring};
 use crate::words::stop;
 use fz_builtins::fz_kernel::ArgumentView;
 use fz_builtins::fz_meaning::Builtin;
 use fz_builtins::products_leave;
 
-/// Why a row over a tour, bins with given loads, a knapsack, runs of neighbours, a table, a word, an
-/// order or inverse lists fails. None of another row.
+/// Why a row over a tour, bins with given loads, a knapsack, runs of neighbours, a table, a word,
+/// an order or inverse lists fails. None of another row.
 pub fn by_arrangement(builtin: Builtin, view: &ArgumentView<'_, '_>) -> Option<Arrangement>
-    ensures says { IfSome result (SaysArranged builtin (assigned view.now) (arguments_of view.now)) }
+    ensures says { IfSome result
+        (SaysArranged builtin (assigned view.now) (arguments_of view.now)) }
 {
     match builtin {
         Builtin::GecodeCircuit => circuit(view),

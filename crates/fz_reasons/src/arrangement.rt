@@ -1,5 +1,4 @@
-//! What a reason says of tours, bins, knapsacks and runs of neighbours, in values. Places count from
-//! 0.
+//! What a reason says of rows that arrange, in values. Places count from 0.
 
 /// An element that isn't an index, which is from `low` to `high`.
 #[derive(Clone, Copy)]

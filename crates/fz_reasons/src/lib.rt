@@ -8,15 +8,15 @@ mod lexical;
 mod loads;
 mod places;
 mod readings;
+mod rings;
 mod table_rows;
-mod tours;
 mod words;
 
 pub use arranged::{an_arranged_row_fails_by_its_reason, by_arrangement};
 pub use arrangement::{
     Arrangement, BinLoad, Difference, NearRow, NoIndex, NoStep, OneWay, Ring, Run, Total,
 };
-pub use tours::follow;
+pub use rings::follow;
 
 #[test]
 fn compiles() {

@@ -5,8 +5,8 @@ use Rattle.fz_builtins.specs.of_kernel.Views.{ints}
 use Rattle.fz_globals.proofs.Led.{as_place, placed_at}
 use Rattle.fz_globals.proofs.Walked.{stays, moves}
 use Rattle.fz_reasons.proofs.Touring.{not_false, not_true}
-use Rattle.fz_reasons.proofs.tours.count_moved.Goals.{then-is_moved, else-is_moved}
-use Rattle.fz_reasons.proofs.tours.count_moved.Goals as goal
+use Rattle.fz_reasons.proofs.rings.count_moved.Goals.{then-is_moved, else-is_moved}
+use Rattle.fz_reasons.proofs.rings.count_moved.Goals as goal
 
 pub loop-place-preserved : goal.loop-place-preserved
 loop-place-preserved c =

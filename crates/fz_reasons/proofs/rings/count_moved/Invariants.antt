@@ -1,7 +1,7 @@
 use Rattle.std.proofs.Common.{◌≡◌, ◌+◌, ◌≤◌, pos, drop, length}
 use Rattle.fz_builtins.specs.of_meaning.Relations.{as_places, moved_from}
 use Rattle.fz_builtins.specs.of_kernel.Views.{ints}
-use Rattle.fz_reasons.proofs.tours.count_moved.Given as goal
+use Rattle.fz_reasons.proofs.rings.count_moved.Given as goal
 
 abbrev pub invariant-loop-place : goal.invariant-loop-place
 invariant-loop-place l =

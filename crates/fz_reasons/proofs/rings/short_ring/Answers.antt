@@ -6,7 +6,7 @@ use Rattle.fz_builtins.specs.of_kernel.Views.{ints}
 use Rattle.fz_globals.proofs.Led.{placed_counted}
 use Rattle.fz_globals.proofs.of_kernel.Read.{ints_counted}
 use Rattle.fz_reasons.specs.Tours.{ComesBack}
-use Rattle.fz_reasons.proofs.tours.short_ring.Goals as goal
+use Rattle.fz_reasons.proofs.rings.short_ring.Goals as goal
 
 pub returns : goal.returns
 returns c =

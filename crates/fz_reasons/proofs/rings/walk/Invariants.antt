@@ -1,7 +1,7 @@
 use Rattle.std.proofs.Common.{◌≡◌, ◌-◌}
 use Rattle.fz_builtins.specs.of_meaning.Relations.{as_places, end_of_tour}
 use Rattle.fz_builtins.specs.of_kernel.Views.{ints}
-use Rattle.fz_reasons.proofs.tours.walk.Given as goal
+use Rattle.fz_reasons.proofs.rings.walk.Given as goal
 
 abbrev pub invariant-loop-step : goal.invariant-loop-step
 invariant-loop-step l =

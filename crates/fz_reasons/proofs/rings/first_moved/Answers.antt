@@ -6,7 +6,7 @@ use Rattle.fz_builtins.specs.of_kernel.Views.{ints}
 use Rattle.fz_globals.proofs.Led.{as_place, placed_at}
 use Rattle.fz_globals.proofs.Walked.{stays, moves}
 use Rattle.fz_reasons.proofs.Touring.{not_false, not_true}
-use Rattle.fz_reasons.proofs.tours.first_moved.Goals as goal
+use Rattle.fz_reasons.proofs.rings.first_moved.Goals as goal
 
 pub returns-then-is_moved : goal.returns-then-is_moved
 returns-then-is_moved c =

@@ -4,7 +4,7 @@ use Rattle.std.proofs.lemmas.Int.{to_z-of_z}
 use Rattle.fz_builtins.specs.of_meaning.Relations.{as_places, element_at, end_of_tour}
 use Rattle.fz_builtins.specs.of_kernel.Views.{ints}
 use Rattle.fz_reasons.proofs.Touring.{all_taken, went_on, went_out}
-use Rattle.fz_reasons.proofs.tours.walk.Goals as goal
+use Rattle.fz_reasons.proofs.rings.walk.Goals as goal
 
 pub returns-in-None : goal.returns-in-None
 returns-in-None c =
