@@ -6,7 +6,9 @@
 #![tactic(auto)]
 
 mod annotation;
+mod arrangements;
 mod case;
+mod chain;
 mod domain;
 mod element;
 mod excerpt;
@@ -19,6 +21,7 @@ mod message;
 mod notes;
 mod path;
 mod place;
+mod reasons;
 mod remarks;
 mod scalars;
 mod sentence;

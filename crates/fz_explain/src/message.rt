@@ -48,9 +48,13 @@ pub struct Message {
     pub said: String,
     /// What the compiler wrote at the point.
     pub remarks: Remarks,
+    /// Why it fails, where there is a reason to tell.
+    pub reason: Option<String>,
     pub variables: Vec<Note>,
     /// How many variables are left out behind the first eight.
     pub left_out: usize,
+    /// How many reasons for values are left out.
+    pub behind_left_out: usize,
     pub fixed: Vec<FixedNote>,
     pub notes: Vec<String>,
     /// The lines of the text before those of the variables.
@@ -74,6 +78,9 @@ impl Message {
         for told in self.remarks.lines(alloc)? {
             writeln!(text, "{:digits$}    = {told}", "")?;
         }
+        if let Some(told) = &self.reason {
+            writeln!(text, "{:digits$}    = {told}", "")?;
+        }
         for (place, note) in self.variables.iter().enumerate() {
             if place == FIRST_VARIABLES && *left_out > 0 {
                 writeln!(text, "{:digits$}    = ... and {left_out} more ...", "")?;
@@ -83,6 +90,17 @@ impl Message {
             for told in giver_lines(alloc, note)? {
                 writeln!(text, "{:digits$}    =   {told}", "")?;
             }
+            for told in &note.behind {
+                writeln!(text, "{:digits$}    =   {told}", "")?;
+            }
+        }
+        if self.behind_left_out > 0 {
+            let left_out = self.behind_left_out;
+            writeln!(
+                text,
+                "{:digits$}    = ... and {left_out} more reasons ...",
+                ""
+            )?;
         }
         for FixedNote { name, value } in &self.fixed {
             writeln!(text, "{:digits$}    = {name} = {value}, fixed", "")?;
@@ -122,8 +140,10 @@ pub fn message_at(
         column,
         said,
         remarks: Remarks::none(alloc),
+        reason: None,
         variables: Vec::new(alloc),
         left_out: 0,
+        behind_left_out: 0,
         fixed: Vec::new(alloc),
         notes: Vec::new(alloc),
         head,

@@ -22,11 +22,16 @@ pub const MOST_RANGES: usize = 8;
 /// What a message says of a variable.
 #[derive(Drop)]
 pub struct Note {
+    /// The variable's number.
+    pub number: usize,
     pub name: String,
     /// The element of a printed array that it is, as `a[1,2]`.
     pub element: Option<String>,
     pub value: Option<Value>,
     pub origin: Origin,
+    /// Why the value is given, and those that it is from, each as `name = value: reason`, down to
+    /// what was printed.
+    pub behind: Vec<String>,
 }
 
 /// A parameter or an array without variables, and what it is, as `[3,2,1]`.
@@ -69,10 +74,12 @@ fn note_on(
 ) -> Result<Note, AllocError> {
     let name = name_at(reading.model, explained.variable);
     Ok(Note {
+        number: explained.variable,
         name: shown_text(alloc, name)?,
         element: element_text(alloc, reading.ast, name)?,
         origin: origin_of(alloc, reading, explained.source)?,
         value: explained.value,
+        behind: Vec::new(alloc),
     })
 }
 
@@ -94,6 +101,26 @@ pub(crate) fn giver_lines(alloc: Global, note: &Note) -> Result<Vec<String>, All
     match &note.origin {
         Origin::Given(_, _, remarks) => remarks.lines(alloc),
         Origin::Printed | Origin::Nothing => Ok(Vec::new(alloc)),
+    }
+}
+
+/// A variable with its value, by the element of a printed array that it is, or else by its name.
+pub(crate) fn told_value(
+    alloc: Global,
+    reading: &Reading<'_, '_, '_, '_>,
+    variable: usize,
+) -> Result<String, AllocError> {
+    let name = name_at(reading.model, variable);
+    let told = match element_text(alloc, reading.ast, name)? {
+        Some(element) => element,
+        None => shown_text(alloc, name)?,
+    };
+    match reading.filling.get(variable) {
+        Some(value) => {
+            let value = value_text(alloc, value)?;
+            format!(in alloc; "{told} = {value}")
+        }
+        None => Ok(told),
     }
 }
 

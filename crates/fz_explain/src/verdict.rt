@@ -5,12 +5,14 @@ ghost use Rattle.std.specs.Prelude.{◌<◌, length};
 ghost use Rattle.fz_judge.specs.of_model.Meaning.{points};
 
 use crate::case::Case;
+use crate::chain::note_chain;
 use crate::domain::declared_domain;
 use crate::failing::{Sought, first_point};
 use crate::help::note_help;
 use crate::message::{Message, Text, message_at};
 use crate::notes::{note_domain, note_fixed, note_variables};
 use crate::place::{constraint_of, point_place};
+use crate::reasons::reason_at;
 use crate::remarks::remarks_on;
 use crate::sentence::sentence;
 use crate::sums::too_large_at;
@@ -141,7 +143,9 @@ fn note_point(
     requires in_range { point < length (points reading.now.model.now) }
 {
     let model = reading.model;
+    message.reason = reason_at(alloc, model, reading.filling, point)?;
     note_variables(alloc, reading, message, &variables_of(alloc, model, point)?)?;
+    note_chain(alloc, reading, message, point)?;
     if let Some(domain) = declared_domain(model, point) {
         note_domain(alloc, reading, message, &model.point(point), domain)?;
     }

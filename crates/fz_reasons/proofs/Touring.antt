@@ -4,6 +4,7 @@ use Rattle.std.specs.Option.{option_map_or}
 use Rattle.fz_base.proofs.Covers.{and-false}
 use Rattle.fz_builtins.specs.of_meaning.Relations.{◌=ℤ◌, all_different, are_places, as_places, element_at, end_of_tour, is_circuit, is_one_tour, is_subcircuit, moved_from, tour}
 use Rattle.fz_builtins.proofs.of_meaning.Values.{same_int}
+use Rattle.fz_globals.proofs.Led.{different_places}
 use Rattle.fz_globals.proofs.Walked.{back_early, tour_from}
 use Rattle.fz_reasons.specs.Tours.{IsShortRing, LeavesOut}
 use Rattle.fz_reasons.specs.declared.arrangement.Ring.{Ring}
@@ -42,6 +43,16 @@ left_out f c says =
     let some = not (nat_eq (length f) 0) in
     let again : is_one_tour f moved ≡ false = tour_from f moved c.start says.first ∙ back_early f (length moved) c.steps c.start says.ring.some says.ring.fewer says.ring.back in
     ap (λ b. (both && b) && some) again ∙ ap (λ b. b && some) (and-false both)
+
+-- two positions with the same successor
+pub entered_twice : (o : ℤ) (xs : List ℤ) → all_different xs ≡ false
+    → is_subcircuit (as_places o xs) ≡ false
+entered_twice o xs e =
+    let f = as_places o xs in
+    let rest = is_one_tour f (moved_from (pos 1) f) in
+    let some = not (nat_eq (length f) 0) in
+    ap (λ b. ((are_places (length f) f && b) && rest) && some) (sym (different_places o xs) ∙ e)
+    ∙ ap (λ b. (b && rest) && some) (and-false (are_places (length f) f))
 
 -- ---- steps
 

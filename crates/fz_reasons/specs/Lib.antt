@@ -1,7 +1,9 @@
+pub mod Relating
+pub mod Compared
+pub mod Elements
 pub mod Tours
 pub mod Places
 pub mod Loads
-pub mod TableRows
-pub mod Words
-pub mod Orders
 pub mod Arranged
+pub mod Reasons
+pub mod Forms

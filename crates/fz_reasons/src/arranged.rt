@@ -1,27 +1,23 @@
-//! Why a row over tours, bins, knapsacks, runs, tables, words or orders fails.
+//! Why a row over tours, bins, knapsacks or runs fails.
 
 ghost use Rattle.std.specs.Prelude.{IfSome, IsTrue};
 ghost use Rattle.fz_builtins.specs.of_meaning.declared.builtin.Builtin.TheVariants as builtin;
 ghost use Rattle.fz_builtins.specs.of_kernel.Views.{arguments_of, assigned};
-ghost use Rattle.fz_reasons.specs.Arranged.{AddsUp, ArrangedRowsFail, SaysArranged};
+ghost use Rattle.fz_reasons.specs.Arranged.{AddsUp, SaysArranged};
 
 use crate::arrangement::Arrangement;
-use crate::inverses::one_way;
-use crate::lexical::{after, not_before};
 use crate::loads::{other_load, other_run, other_total};
 use crate::places::no_index;
 use crate::readings::number_count;
 use crate::rings::{ring_of_moved, short_ring};
-use crate::table_rows::near_row;
-use crate::words::stop;
 use fz_builtins::fz_kernel::ArgumentView;
 use fz_builtins::fz_meaning::Builtin;
 use fz_builtins::products_leave;
 
-/// Why a row over a tour, bins with given loads, a knapsack, runs of neighbours, a table, a word,
-/// an order or inverse lists fails. None of another row.
-pub fn by_arrangement(builtin: Builtin, view: &ArgumentView<'_, '_>) -> Option<Arrangement>
-    ensures says { IfSome result
+/// Why a row over a tour, bins with given loads, a knapsack or runs of neighbours fails. None of
+/// another row.
+pub(crate) fn by_arrangement(builtin: Builtin, view: &ArgumentView<'_, '_>) -> Option<Arrangement>
+    ensures { IfSome result
         (SaysArranged builtin (assigned view.now) (arguments_of view.now)) }
 {
     match builtin {
@@ -30,11 +26,6 @@ pub fn by_arrangement(builtin: Builtin, view: &ArgumentView<'_, '_>) -> Option<A
         Builtin::GecodeBinPackingLoad => bin_packing_load(view),
         Builtin::FznKnapsack => knapsack(view),
         Builtin::FznSlidingSum => sliding_sum(view),
-        Builtin::FznTableInt => table(view),
-        Builtin::FznRegular => regular(view),
-        Builtin::FznLexLessInt => lex_less(view),
-        Builtin::FznLexLesseqInt => lex_lesseq(view),
-        Builtin::InverseOffsets => inverse(view),
         _ => None,
     }
 }
@@ -99,55 +90,6 @@ fn knapsack(view: &ArgumentView<'_, '_>) -> Option<Arrangement>
     }
 }
 
-#[tactic(auto, unfolding(crate::specs::Arranged::SaysArranged))]
-fn table(view: &ArgumentView<'_, '_>) -> Option<Arrangement>
-    ensures { IfSome result
-        (SaysArranged builtin.FznTableInt (assigned view.now) (arguments_of view.now)) }
-{
-    let row = near_row(&view.elements(0), &view.elements(1))?;
-    Some(Arrangement::NearRow(row))
-}
-
-fn regular(view: &ArgumentView<'_, '_>) -> Option<Arrangement>
-    ensures { IfSome result
-        (SaysArranged builtin.FznRegular (assigned view.now) (arguments_of view.now)) }
-{
-    let (transitions, last) = (&view.elements(3), view.set(5));
-    let (states, symbols, first) = (view.int(1), view.int(2), view.int(4));
-    stop(&view.elements(0), states, symbols, transitions, first, last)
-}
-
-#[tactic(auto, unfolding(crate::specs::Arranged::SaysArranged))]
-fn lex_less(view: &ArgumentView<'_, '_>) -> Option<Arrangement>
-    ensures { IfSome result
-        (SaysArranged builtin.FznLexLessInt (assigned view.now) (arguments_of view.now)) }
-{
-    let found = not_before(&view.elements(0), &view.elements(1))?;
-    Some(Arrangement::Difference(found))
-}
-
-#[tactic(auto, unfolding(crate::specs::Arranged::SaysArranged))]
-fn lex_lesseq(view: &ArgumentView<'_, '_>) -> Option<Arrangement>
-    ensures { IfSome result
-        (SaysArranged builtin.FznLexLesseqInt (assigned view.now) (arguments_of view.now)) }
-{
-    let found = after(&view.elements(0), &view.elements(1))?;
-    Some(Arrangement::Difference(found))
-}
-
-#[tactic(auto, unfolding(crate::specs::Arranged::SaysArranged))]
-fn inverse(view: &ArgumentView<'_, '_>) -> Option<Arrangement>
-    ensures { IfSome result
-        (SaysArranged builtin.InverseOffsets (assigned view.now) (arguments_of view.now)) }
-{
-    let (one, one_first) = (&view.elements(0), view.int(1));
-    let (other, other_first) = (&view.elements(2), view.int(3));
-    match one_way(one, one_first, other, other_first) {
-        Some(found) => Some(Arrangement::NotBack(found)),
-        None => Some(Arrangement::NotForth(one_way(other, other_first, one, one_first)?)),
-    }
-}
-
 // Whether no sum of a knapsack leaves 128 bits.
 fn adds_up(view: &ArgumentView<'_, '_>) -> bool
     ensures { IsTrue result
@@ -158,8 +100,3 @@ fn adds_up(view: &ArgumentView<'_, '_>) -> bool
     }
     true
 }
-
-/// A row fails at all values of which one of these reasons is so.
-pub fn an_arranged_row_fails_by_its_reason()
-    ensures fails { ArrangedRowsFail }
-{}

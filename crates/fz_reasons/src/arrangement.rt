@@ -40,41 +40,7 @@ pub struct Run {
     pub sum: i128,
 }
 
-/// The row of a table that agrees with the list up to a place, at which it has another value.
-#[derive(Clone, Copy)]
-pub struct NearRow {
-    pub row: usize,
-    pub place: usize,
-    pub value: i64,
-    pub wanted: i64,
-}
-
-/// The place of a symbol that has no step from this state.
-#[derive(Clone, Copy)]
-pub struct NoStep {
-    pub place: usize,
-    pub state: i64,
-    pub symbol: i64,
-}
-
-/// The first place at which two lists differ, with what is there: nothing where a list has ended.
-#[derive(Clone, Copy)]
-pub struct Difference {
-    pub place: usize,
-    pub left: Option<i64>,
-    pub right: Option<i64>,
-}
-
-/// A place with an index at which the other list doesn't have the index of that place, but what is
-/// told, or nothing.
-#[derive(Clone, Copy)]
-pub struct OneWay {
-    pub place: usize,
-    pub value: i64,
-    pub back: Option<i64>,
-}
-
-/// Why a row over tours, bins, knapsacks, runs, tables, words or orders fails.
+/// Why a row over tours, bins, knapsacks or runs fails.
 #[derive(Clone, Copy)]
 pub enum Arrangement {
     NoIndex(NoIndex),
@@ -85,13 +51,4 @@ pub enum Arrangement {
     /// Of a knapsack, the profit.
     Profit(Total),
     Run(Run),
-    NearRow(NearRow),
-    NoStep(NoStep),
-    /// The automaton ends in this state, which isn't one of the last.
-    EndsIn(i64),
-    Difference(Difference),
-    /// Of two lists that have to be inverse, a place in the first.
-    NotBack(OneWay),
-    /// A place in the second.
-    NotForth(OneWay),
 }

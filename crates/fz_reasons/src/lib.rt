@@ -1,24 +1,35 @@
-//! Why a constraint fails, in values.
+//! Why a constraint fails, in values: what can be checked by hand, such as two elements that are
+//! equal where all have to differ. A `Reason` is data; `Says` of `specs/` tells what each kind of
+//! reason says of the values of the arguments, and that a row fails by each of its reasons is a law.
+//! Only some rows have reasons of their own. `fz_explain` puts them into words.
 #![tactic(auto)]
 
 mod arranged;
 mod arrangement;
-mod inverses;
-mod lexical;
+mod automata;
+mod covers;
+mod literals;
 mod loads;
+mod members;
+mod orders;
+mod pairs;
 mod places;
 mod readings;
+mod reason;
+mod results;
 mod rings;
-mod table_rows;
-mod words;
+mod rows;
+mod sides;
+mod tasks;
+mod tours;
 
-pub use arranged::{an_arranged_row_fails_by_its_reason, by_arrangement};
-pub use arrangement::{
-    Arrangement, BinLoad, Difference, NearRow, NoIndex, NoStep, OneWay, Ring, Run, Total,
+pub use arrangement::{Arrangement, BinLoad, NoIndex, Ring, Run, Total};
+pub use fz_builtins;
+pub use reason::{
+    Boxes, Clash, Count, Difference, Early, Element, Load, Member, NearRow, Neighbours, NoStep,
+    OneWay, OtherNumber, OtherTruth, Overlap, Reason, Relation, Sides, Stretch, Why,
 };
 pub use rings::follow;
-
-#[test]
-fn compiles() {
-    an_arranged_row_fails_by_its_reason();
-}
+pub use rows::{a_form_fails_by_its_reason, a_row_fails_by_its_reason, holds, reason_of, why};
+pub use sides::sides_of;
+pub use tasks::runs_at;

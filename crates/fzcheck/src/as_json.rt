@@ -177,6 +177,9 @@ impl Object {
             }
             Origin::Nothing => {}
         }
+        if !note.behind.is_empty() {
+            self.texts("behind", &note.behind)?;
+        }
         self.writer.end_object()
     }
 
@@ -343,6 +346,9 @@ pub fn explanation_line(
     object.place(message.line, message.column)?;
     object.text("message", &message.said)?;
     object.remarks(&message.remarks)?;
+    if let Some(reason) = &message.reason {
+        object.text("reason", reason)?;
+    }
     object.writer.key("variables")?;
     object.writer.begin_array()?;
     for note in &message.variables {
@@ -350,6 +356,9 @@ pub fn explanation_line(
     }
     object.writer.end_array()?;
     object.left_out(message.left_out)?;
+    if message.behind_left_out > 0 {
+        object.count("behind_left_out", message.behind_left_out)?;
+    }
     object.fixed(&message.fixed)?;
     object.texts("notes", &message.notes)?;
     object.line()

@@ -1,0 +1,125 @@
+-- Rows of orders, successors, automata and tables fail by their reasons.
+use Rattle.std.proofs.Common.{◌≡◌, ℕ, suc, zero, ◌+◌, ◌<◌, ℤ, pos, negsuc, ◌+ℤ◌, ◌-ℤ◌, Bool, true, false, not, ◌&&◌, ◌||◌, List, [], ◌∷◌, Option, None, Some, map, option_map, slice_get, int_le, int_lt, refl, sym, ap, ◌∙◌, true≢false, arith}
+use Rattle.std.specs.Option.{option_map_or}
+use Rattle.std.specs.FinSet as sets
+use Rattle.std.proofs.lemmas.Int.{ints}
+use Rattle.std.proofs.lemmas.Option.{same_Some, slice_get-map}
+use Rattle.fz_builtins.proofs.of_meaning.Values.{int_itself}
+use Rattle.fz_builtins.specs.of_meaning.declared.builtin.Builtin.{Builtin}
+use Rattle.fz_builtins.specs.of_meaning.declared.builtin.Builtin.TheVariants as builtin
+use Rattle.fz_builtins.specs.of_meaning.Builtins.{row_at}
+use Rattle.fz_builtins.specs.of_meaning.Meaning.{Argument, Partial}
+use Rattle.fz_builtins.specs.Outcomes.{row_outcome}
+use Rattle.fz_builtins.specs.declared.outcome.Outcome.TheVariants as outcomes
+use Rattle.fz_builtins.specs.of_meaning.Relations.{◌=ℤ◌, as_places, element_at, is_before, leads_back, lies_between, precedes}
+use Rattle.fz_builtins.specs.of_kernel.Given.{int_at, ints_at, set_at}
+use Rattle.fz_reasons.specs.Elements.{HasNoStep, IsDifference, IsEarly, IsOneWay, agree, comes_before}
+use Rattle.fz_reasons.specs.Reasons.{ComesEarly, Differs, Ends, IsNearRow, LeadsOneWay, Stops}
+use Rattle.fz_reasons.proofs.Lists.{and_false}
+use Rattle.fz_reasons.proofs.Numbers.{comes_too_early}
+use Rattle.fz_reasons.proofs.Turning.{decides, leads_off, stops}
+use Rattle.fz_reasons.specs.declared.reason.Difference.{Difference}
+use Rattle.fz_reasons.specs.declared.reason.Early.{Early}
+use Rattle.fz_reasons.specs.declared.reason.OneWay.{OneWay}
+use Rattle.fz_reasons.specs.declared.reason.NoStep.{NoStep}
+use Rattle.fz_reasons.specs.declared.reason.NearRow.{NearRow}
+
+never_below : (x : ℤ) → int_lt x x ≡ false
+never_below x = grind (arith, ints)
+
+told : (o p : Option ℤ) → (o ≡ p → o ≡ None) → (xs ys : List ℤ) (k : ℕ)
+    → ((j : ℕ) → j < k → slice_get xs j ≡ slice_get ys j) → slice_get xs k ≡ o → slice_get ys k ≡ p
+    → is_before int_lt ◌=ℤ◌ xs ys ≡ comes_before o p
+told None None apart xs ys k same left right = decides int_lt never_below xs ys k None None same left right apart
+told None (Some y) apart xs ys k same left right = decides int_lt never_below xs ys k None (Some y) same left right apart
+told (Some x) None apart xs ys k same left right = decides int_lt never_below xs ys k (Some x) None same left right apart
+told (Some x) (Some y) apart xs ys k same left right = decides int_lt never_below xs ys k (Some x) (Some y) same left right apart
+
+apart : (o p : Option ℤ) → agree o p ≡ false → o ≡ p → o ≡ None
+apart None p a e = refl
+apart (Some x) None a e = e
+apart (Some x) (Some y) a e = absurd (true≢false (sym (int_itself y) ∙ ap (λ z. z =ℤ y) (sym (same_Some x y e)) ∙ a))
+
+before_apart : (o p : Option ℤ) → comes_before o p ≡ true → o ≡ p → o ≡ None
+before_apart None p b e = refl
+before_apart (Some x) None b e = e
+before_apart (Some x) (Some y) b e = absurd (true≢false (sym b ∙ ap (λ z. int_lt z y) (same_Some x y e) ∙ never_below y))
+
+pub difference_fails : (b : Builtin) (K : Partial) (xs : List Argument) (d : Difference) → Differs b K xs d
+    → row_outcome (row_at b) K xs ≡ outcomes.Truth false
+unfolding row_outcome row_at
+difference_fails builtin.FznLexLessInt K xs d h =
+    ap outcomes.Truth (told d.left d.right (apart d.left d.right h.2) (ints_at K xs 0) (ints_at K xs 1) d.place h.0.same h.0.left h.0.right ∙ h.1)
+difference_fails builtin.FznLexLesseqInt K xs d h =
+    ap (λ s. outcomes.Truth (not s))
+    (told d.right d.left (before_apart d.right d.left h.1) (ints_at K xs 1) (ints_at K xs 0) d.place (λ j l. sym (h.0.same j l)) h.0.right h.0.left ∙ h.1)
+difference_fails b K xs d h = absurd h
+
+early : (s t : ℤ) (xs : List ℤ) (e : Early) → IsEarly s t xs e → precedes s t xs ≡ false
+early s t xs e h =
+    comes_too_early s t xs e.place (h.there ∙ ap Some h.value) (λ k l at. h.none k l (at ∙ ap Some (sym h.before)))
+
+pub early_fails : (b : Builtin) (K : Partial) (xs : List Argument) (e : Early) → ComesEarly b K xs e
+    → row_outcome (row_at b) K xs ≡ outcomes.Truth false
+unfolding row_outcome row_at
+early_fails builtin.FznValuePrecedeInt K xs e h =
+    ap outcomes.Truth (early (int_at K xs 0) (int_at K xs 1) (ints_at K xs 2) e h)
+early_fails builtin.GecodePrecede K xs e h =
+    ap outcomes.Truth (early (int_at K xs 1) (int_at K xs 2) (ints_at K xs 0) e h)
+early_fails b K xs e h = absurd h
+
+pub place_of : (go : ℤ) (g : List ℤ) (n : ℤ) → element_at (as_places go g) n ≡ option_map (λ y. (y -ℤ go) +ℤ pos 1) (element_at g n)
+place_of go [] n = refl
+place_of go (y ∷ g) (pos zero) = refl
+place_of go (y ∷ g) (pos (suc zero)) = refl
+place_of go (y ∷ g) (pos (suc (suc n))) = place_of go g (pos (suc n))
+place_of go (y ∷ g) (negsuc n) = refl
+
+mapped_or : (f : ℤ → ℤ) (p : ℤ → Bool) (o : Option ℤ) → option_map_or p (option_map f o) false ≡ option_map_or (λ y. p (f y)) o false
+mapped_or f p None = refl
+mapped_or f p (Some y) = refl
+
+one_way : (f : List ℤ) (fo : ℤ) (g : List ℤ) (go : ℤ) (w : OneWay) → IsOneWay f fo g go w
+    → leads_back (pos 1) (as_places fo f) (as_places go g) ≡ false
+one_way f fo g go w h =
+    let x = (w.value -ℤ fo) +ℤ pos 1 in
+    let here : (pos 1 +ℤ pos w.place) ≡ pos (suc w.place) = omega (arith, ints) in
+    leads_off (as_places fo f) (as_places go g) w.place (pos 1) x
+    (slice_get-map (λ y. (y -ℤ fo) +ℤ pos 1) f w.place ∙ ap (option_map (λ y. (y -ℤ fo) +ℤ pos 1)) h.there)
+    (ap (λ o. option_map_or (λ y. y =ℤ (pos 1 +ℤ pos w.place)) o false) (place_of go g x ∙ ap (option_map (λ y. (y -ℤ go) +ℤ pos 1)) h.back)
+    ∙ mapped_or (λ y. (y -ℤ go) +ℤ pos 1) (λ y. y =ℤ (pos 1 +ℤ pos w.place)) w.back
+    ∙ ap (λ n. option_map_or (λ y. ((y -ℤ go) +ℤ pos 1) =ℤ n) w.back false) here ∙ h.other)
+
+pub one_way_fails : (b : Builtin) (first : Bool) (K : Partial) (xs : List Argument) (w : OneWay)
+    → LeadsOneWay b first K xs w → row_outcome (row_at b) K xs ≡ outcomes.Truth false
+unfolding row_outcome row_at
+one_way_fails builtin.InverseOffsets true K xs w h =
+    ap (λ s. outcomes.Truth (s && leads_back (pos 1) (as_places (int_at K xs 3) (ints_at K xs 2)) (as_places (int_at K xs 1) (ints_at K xs 0))))
+    (one_way (ints_at K xs 0) (int_at K xs 1) (ints_at K xs 2) (int_at K xs 3) w h)
+one_way_fails builtin.InverseOffsets false K xs w h =
+    let front = leads_back (pos 1) (as_places (int_at K xs 1) (ints_at K xs 0)) (as_places (int_at K xs 3) (ints_at K xs 2)) in
+    ap (λ s. outcomes.Truth (front && s)) (one_way (ints_at K xs 2) (int_at K xs 3) (ints_at K xs 0) (int_at K xs 1) w h)
+    ∙ ap outcomes.Truth (and_false front)
+one_way_fails b first K xs w h = absurd h
+
+pub no_step_fails : (b : Builtin) (K : Partial) (xs : List Argument) (n : NoStep) → Stops b K xs n
+    → row_outcome (row_at b) K xs ≡ outcomes.Truth false
+unfolding row_outcome row_at
+no_step_fails builtin.FznRegular K xs n h =
+    ap (λ o. outcomes.Truth (option_map_or (λ q. lies_between (pos 1) (int_at K xs 1) q && sets.contains (set_at K xs 5) q) o false))
+    (stops (int_at K xs 1) (int_at K xs 2) (ints_at K xs 3) (ints_at K xs 0) n.place (int_at K xs 4) n.state n.symbol h.reached h.symbol h.none)
+no_step_fails b K xs n h = absurd h
+
+pub end_fails : (b : Builtin) (K : Partial) (xs : List Argument) (q : ℤ) → Ends b K xs q
+    → row_outcome (row_at b) K xs ≡ outcomes.Truth false
+unfolding row_outcome row_at
+end_fails builtin.FznRegular K xs q h =
+    ap (λ o. outcomes.Truth (option_map_or (λ q. lies_between (pos 1) (int_at K xs 1) q && sets.contains (set_at K xs 5) q) o false)) h.0
+    ∙ ap (λ s. outcomes.Truth (lies_between (pos 1) (int_at K xs 1) q && s)) h.1 ∙ ap outcomes.Truth (and_false (lies_between (pos 1) (int_at K xs 1) q))
+end_fails b K xs q h = absurd h
+
+pub near_row_fails : (b : Builtin) (K : Partial) (xs : List Argument) (n : NearRow) → IsNearRow b K xs n
+    → row_outcome (row_at b) K xs ≡ outcomes.Truth false
+unfolding row_outcome row_at
+near_row_fails builtin.FznTableInt K xs n h = ap outcomes.Truth h.0
+near_row_fails b K xs n h = absurd h

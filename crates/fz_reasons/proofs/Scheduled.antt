@@ -1,0 +1,120 @@
+-- Rows of tasks, boxes and bins fail by their reasons.
+use Rattle.std.proofs.Common.{◌≡◌, ℕ, ◌+◌, ◌<◌, ℤ, pos, Bool, false, ◌&&◌, ◌||◌, List, Some, slice_get, get_or, length, int_le, nat_eq, refl, sym, ap, subst, ◌∙◌}
+use Rattle.std.specs.List.{list_all, zip}
+use Rattle.fz_builtins.specs.of_meaning.declared.builtin.Builtin.{Builtin}
+use Rattle.fz_builtins.specs.of_meaning.declared.builtin.Builtin.TheVariants as builtin
+use Rattle.fz_builtins.specs.of_meaning.Builtins.{row_at}
+use Rattle.fz_builtins.specs.of_meaning.Meaning.{Argument, Partial}
+use Rattle.fz_builtins.specs.Outcomes.{row_outcome}
+use Rattle.fz_builtins.specs.declared.outcome.Outcome.TheVariants as outcomes
+use Rattle.fz_builtins.specs.of_meaning.Relations.{◌=ℤ◌, all_pairs, are_apart, boxes, has_no_area, is_cumulative, is_empty_span, is_natural, last_naturally, lie_apart, load_of, used_at}
+use Rattle.fz_builtins.specs.of_kernel.Given.{int_at, ints_at}
+use Rattle.std.proofs.lemmas.Option.{slice_get-get_or}
+use Rattle.fz_reasons.specs.Elements.{AreBoxes, BothLast, IsBelowZero, IsBin, IsLoad, IsMore, IsOverlap, IsStretch, is_empty, span}
+use Rattle.fz_reasons.specs.Reasons.{Bins, BoxesOverlap, IsNegative, Loads, Overlaps}
+use Rattle.fz_reasons.specs.Relating.{relates}
+use Rattle.fz_reasons.proofs.Lists.{and_false, one_fails, pair_fails, zipped}
+use Rattle.fz_reasons.specs.declared.reason.Element.{Element}
+use Rattle.fz_reasons.specs.declared.reason.Stretch.{Stretch}
+use Rattle.fz_reasons.specs.declared.reason.Overlap.{Overlap}
+use Rattle.fz_reasons.specs.declared.reason.Boxes.{Boxes}
+use Rattle.fz_reasons.specs.declared.reason.Load.{Load}
+use Rattle.fz_reasons.specs.declared.reason.Sides.{Sides}
+
+negative : (xs ys : List ℤ) (e : Element) → IsBelowZero xs ys e → last_naturally (zip xs ys) ≡ false
+negative xs ys e h =
+    let start = get_or xs e.place (pos 0) in
+    one_fails (λ k. is_natural k.1) (zip xs ys) e.place (start, e.value) (zipped xs ys e.place start e.value (slice_get-get_or xs e.place (pos 0) h.started) h.there) h.below
+
+pub negative_fails : (b : Builtin) (K : Partial) (xs : List Argument) (e : Element) → IsNegative b K xs e
+    → row_outcome (row_at b) K xs ≡ outcomes.Truth false
+unfolding row_outcome row_at
+negative_fails builtin.FznDisjunctive K xs e h =
+    let tasks = zip (ints_at K xs 0) (ints_at K xs 1) in
+    ap (λ s. outcomes.Truth (s && all_pairs (λ a b. is_empty_span a || is_empty_span b || are_apart a b) tasks)) (negative (ints_at K xs 0) (ints_at K xs 1) e h)
+negative_fails builtin.FznDisjunctiveStrict K xs e h =
+    ap (λ s. outcomes.Truth (s && all_pairs are_apart (zip (ints_at K xs 0) (ints_at K xs 1)))) (negative (ints_at K xs 0) (ints_at K xs 1) e h)
+negative_fails b K xs e h = absurd h
+
+pub stretched : (xs ys : List ℤ) (i : ℕ) (s : Stretch) → IsStretch xs ys i s
+    → slice_get (zip xs ys) i ≡ Some (span s)
+stretched xs ys i s h = zipped xs ys i s.start s.length h.start h.length
+
+pub overlap_fails : (b : Builtin) (K : Partial) (xs : List Argument) (o : Overlap) → Overlaps b K xs o
+    → row_outcome (row_at b) K xs ≡ outcomes.Truth false
+unfolding row_outcome row_at
+overlap_fails builtin.FznDisjunctive K xs o h =
+    let tasks = zip (ints_at K xs 0) (ints_at K xs 1) in
+    ap (λ s. outcomes.Truth (last_naturally tasks && s))
+    (pair_fails (λ a b. is_empty_span a || is_empty_span b || are_apart a b) tasks o.one o.other (span o.first) (span o.second) h.0.order
+    (stretched (ints_at K xs 0) (ints_at K xs 1) o.one o.first h.0.first) (stretched (ints_at K xs 0) (ints_at K xs 1) o.other o.second h.0.second)
+    (λ i. h.1.first i || h.1.second i || h.0.unlike i))
+    ∙ ap outcomes.Truth (and_false (last_naturally tasks))
+overlap_fails builtin.FznDisjunctiveStrict K xs o h =
+    let tasks = zip (ints_at K xs 0) (ints_at K xs 1) in
+    ap (λ s. outcomes.Truth (last_naturally tasks && s))
+    (pair_fails are_apart tasks o.one o.other (span o.first) (span o.second) h.order
+    (stretched (ints_at K xs 0) (ints_at K xs 1) o.one o.first h.first) (stretched (ints_at K xs 0) (ints_at K xs 1) o.other o.second h.second) h.unlike)
+    ∙ ap outcomes.Truth (and_false (last_naturally tasks))
+overlap_fails b K xs o h = absurd h
+
+module _ (x y width height : List ℤ) (t : Boxes) (h : AreBoxes x y width height t) where
+  one_box : slice_get (boxes x y width height) t.across.one ≡ Some (span t.across.first, span t.along.first)
+  one_box =
+      zipped (zip x width) (zip y height) t.across.one (span t.across.first) (span t.along.first) (stretched x width t.across.one t.across.first h.across.first)
+      (subst (λ k. slice_get (zip y height) k ≡ Some (span t.along.first)) (sym h.one) (stretched y height t.along.one t.along.first h.along.first))
+
+  other_box : slice_get (boxes x y width height) t.across.other ≡ Some (span t.across.second, span t.along.second)
+  other_box =
+      zipped (zip x width) (zip y height) t.across.other (span t.across.second) (span t.along.second) (stretched x width t.across.other t.across.second h.across.second)
+      (subst (λ k. slice_get (zip y height) k ≡ Some (span t.along.second)) (sym h.other) (stretched y height t.along.other t.along.second h.along.second))
+
+  apart : all_pairs lie_apart (boxes x y width height) ≡ false
+  apart =
+      pair_fails lie_apart (boxes x y width height) t.across.one t.across.other (span t.across.first, span t.along.first) (span t.across.second, span t.along.second)
+      h.across.order one_box other_box (λ i. h.across.unlike i || h.along.unlike i)
+
+  apart_with_area : BothLast t.across → BothLast t.along
+      → all_pairs (λ a b. has_no_area a || has_no_area b || lie_apart a b) (boxes x y width height) ≡ false
+  apart_with_area a b =
+      pair_fails (λ a b. has_no_area a || has_no_area b || lie_apart a b) (boxes x y width height) t.across.one t.across.other (span t.across.first, span t.along.first) (span t.across.second, span t.along.second)
+      h.across.order one_box other_box
+      (λ i. (a.first i || b.first i) || (a.second i || b.second i) || (h.across.unlike i || h.along.unlike i))
+
+pub boxes_fail : (b : Builtin) (K : Partial) (xs : List Argument) (t : Boxes) → BoxesOverlap b K xs t
+    → row_outcome (row_at b) K xs ≡ outcomes.Truth false
+unfolding row_outcome row_at
+boxes_fail builtin.FznDiffn K xs t h =
+    ap outcomes.Truth (apart (ints_at K xs 0) (ints_at K xs 1) (ints_at K xs 2) (ints_at K xs 3) t h)
+boxes_fail builtin.FznDiffnNonstrict K xs t h =
+    ap outcomes.Truth (apart_with_area (ints_at K xs 0) (ints_at K xs 1) (ints_at K xs 2) (ints_at K xs 3) t h.0 h.1 h.2)
+boxes_fail builtin.GecodeNooverlap K xs t h =
+    ap outcomes.Truth (apart (ints_at K xs 0) (ints_at K xs 2) (ints_at K xs 1) (ints_at K xs 3) t h)
+boxes_fail b K xs t h = absurd h
+
+too_much : (used most : ℤ) (s : Sides) → used ≡ s.left → s.right ≡ most → IsMore s → int_le used most ≡ false
+too_much used most s e f h =
+    (λ i. int_le (e i) (sym f i)) ∙ ap (λ r. relates r s.left s.right) (sym h.asked) ∙ h.unlike
+
+pub load_fails : (b : Builtin) (K : Partial) (xs : List Argument) (l : Load) → Loads b K xs l
+    → row_outcome (row_at b) K xs ≡ outcomes.Truth false
+unfolding row_outcome row_at
+load_fails builtin.FznCumulative K xs l h =
+    let tasks = zip (zip (ints_at K xs 0) (ints_at K xs 1)) (ints_at K xs 2) in
+    let most = int_at K xs 3 in
+    let front = list_all (λ k. is_natural k.0.1 && is_natural k.1) tasks && (nat_eq (length tasks) 0 || is_natural most) in
+    let used : used_at h.stretch.start tasks ≡ l.sides.left = ap (λ t. used_at t tasks) h.time ∙ h.together in
+    ap (λ s. outcomes.Truth (front && s))
+    (one_fails (λ k. (k.0.1 =ℤ pos 0) || (k.1 =ℤ pos 0) || int_le (used_at k.0.0 tasks) most) tasks l.task (span h.stretch, h.use')
+    (zipped (zip (ints_at K xs 0) (ints_at K xs 1)) (ints_at K xs 2) l.task (span h.stretch) h.use' (stretched (ints_at K xs 0) (ints_at K xs 1) l.task h.stretch h.task) h.need)
+    (λ i. h.lasts i || h.needs i || too_much (used_at h.stretch.start tasks) most l.sides used h.limit h.more i))
+    ∙ ap outcomes.Truth (and_false front)
+load_fails b K xs l h = absurd h
+
+pub bin_fails : (b : Builtin) (K : Partial) (xs : List Argument) (l : Load) → Bins b K xs l
+    → row_outcome (row_at b) K xs ≡ outcomes.Truth false
+unfolding row_outcome row_at
+bin_fails builtin.FznBinPacking K xs l h =
+    ap outcomes.Truth (one_fails (λ v. int_le (load_of (ints_at K xs 1) (ints_at K xs 2) v) (int_at K xs 0)) (ints_at K xs 1) l.task l.time h.bin
+    (too_much (load_of (ints_at K xs 1) (ints_at K xs 2) l.time) (int_at K xs 0) l.sides h.together h.limit h.more))
+bin_fails b K xs l h = absurd h

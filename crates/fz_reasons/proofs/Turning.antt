@@ -1,0 +1,79 @@
+-- Lists of successors that turn too early or lead one way, runs of automata that stop, and lists
+-- that differ.
+use Rattle.std.proofs.Common.{◌≡◌, ℕ, zero, suc, ◌+◌, ◌<◌, ℤ, pos, negsuc, ◌+ℤ◌, ◌-ℤ◌, Bool, true, false, not, ◌&&◌, ◌||◌, List, [], ◌∷◌, Option, None, Some, length, slice_get, take, option_and_then, int_lt, refl, sym, ap, subst, ◌∙◌, is_eq, arith}
+use Rattle.std.specs.Option.{option_map_or}
+use Rattle.std.proofs.lemmas.Option.{none-some, same_Some}
+use Rattle.std.proofs.lemmas.Int.{ints}
+use Rattle.std.proofs.lemmas.Bool.Decides.{Decides-int_eq}
+use Rattle.fz_builtins.specs.of_meaning.Relations.{◌=ℤ◌, all_different, are_places, element_at, end_of_tour, is_before, is_circuit, leads_back, run, step, tour}
+use Rattle.fz_reasons.proofs.Lists.{and_false}
+use Rattle.fz_reasons.proofs.Numbers.{clash, itself}
+
+pub leads_off : (f g : List ℤ) (i : ℕ) (p x : ℤ) → slice_get f i ≡ Some x
+    → option_map_or (λ y. y =ℤ (p +ℤ pos i)) (element_at g x) false ≡ false → leads_back p f g ≡ false
+leads_off [] g i p x at e = absurd (none-some x at)
+leads_off (y ∷ f) g zero p x at e =
+    let here : (p +ℤ pos 0) ≡ p = omega (arith, ints) in
+    ap (λ b. b && leads_back (p +ℤ pos 1) f g)
+    (ap (λ z. option_map_or (λ y. y =ℤ p) (element_at g z) false) (same_Some y x at) ∙ ap (λ q. option_map_or (λ y. y =ℤ q) (element_at g x) false) (sym here) ∙ e)
+leads_off (y ∷ f) g (suc i) p x at e =
+    let here : (p +ℤ pos (suc i)) ≡ ((p +ℤ pos 1) +ℤ pos i) = omega (arith, ints) in
+    ap (λ b. option_map_or (λ y. y =ℤ p) (element_at g y) false && b)
+    (leads_off f g i (p +ℤ pos 1) x at (ap (λ q. option_map_or (λ y. y =ℤ q) (element_at g x) false) (sym here) ∙ e))
+    ∙ and_false (option_map_or (λ y. y =ℤ p) (element_at g y) false)
+
+-- ---- automata
+
+pub stops : (states symbols : ℤ) (d : List ℤ) (xs : List ℤ) (i : ℕ) (first q x : ℤ)
+    → run states symbols d first (take i xs) ≡ Some q → slice_get xs i ≡ Some x
+    → step states symbols d q x ≡ None → run states symbols d first xs ≡ None
+stops states symbols d [] i first q x reached at none = absurd (none-some x at)
+stops states symbols d (y ∷ xs) zero first q x reached at none =
+    let is : first ≡ q = same_Some first q reached in
+    ap (λ p. option_and_then (λ r. run states symbols d r xs) (step states symbols d p y)) is
+    ∙ ap (λ z. option_and_then (λ r. run states symbols d r xs) (step states symbols d q z)) (same_Some y x at)
+    ∙ ap (option_and_then (λ r. run states symbols d r xs)) none
+stops states symbols d (y ∷ xs) (suc i) first q x reached at none =
+    elim (step states symbols d first y) as (λ o. option_and_then (λ r. run states symbols d r (take i xs)) o ≡ Some q → option_and_then (λ r. run states symbols d r xs) o ≡ None) [
+      | None ↦ λ e. refl
+      | Some p ↦ λ e. stops states symbols d xs i p q x e at none
+    ] reached
+
+-- ---- lexicographic order
+
+or_false : (a : Bool) → (a || false) ≡ a
+or_false true = refl
+or_false false = refl
+
+unlike : (x y : ℤ) → (x ≡ y → ⊥) → (x =ℤ y) ≡ false
+unlike x y apart = elim (x =ℤ y) as (λ b. (x =ℤ y) ≡ b → b ≡ false) [ true ↦ λ e. absurd (apart ((Decides-int_eq x y).0 e)) | false ↦ λ e. refl ] refl
+
+module _ (less : ℤ → ℤ → Bool) (never : (x : ℤ) → less x x ≡ false) where
+  -- lists whose first elements are the same compare as what is left of them
+  same_fronts : (x : ℤ) (xs ys : List ℤ) → is_before less ◌=ℤ◌ (x ∷ xs) (x ∷ ys) ≡ is_before less ◌=ℤ◌ xs ys
+  same_fronts x xs ys =
+      ap (λ b. b || ((x =ℤ x) && is_before less ◌=ℤ◌ xs ys)) (never x) ∙ ap (λ b. b && is_before less ◌=ℤ◌ xs ys) (itself x)
+
+  -- what comes where they first differ
+  abbrev front : Option ℤ → Option ℤ → Bool
+  front None (Some y) = true
+  front (Some x) (Some y) = less x y
+  front o None = false
+
+  -- the order is that of what comes where they first differ, if something does
+  pub decides : (xs ys : List ℤ) (k : ℕ) (o p : Option ℤ)
+      → ((j : ℕ) → j < k → slice_get xs j ≡ slice_get ys j) → slice_get xs k ≡ o
+      → slice_get ys k ≡ p → (o ≡ p → o ≡ None) → is_before less ◌=ℤ◌ xs ys ≡ front o p
+  decides [] [] zero o p same left right apart = λ i. front (left i) (right i)
+  decides [] (y ∷ ys) zero o p same left right apart = λ i. front (left i) (right i)
+  decides (x ∷ xs) [] zero o p same left right apart = λ i. front (left i) (right i)
+  decides (x ∷ xs) (y ∷ ys) zero o p same left right apart =
+      let other : (x =ℤ y) ≡ false = unlike x y (λ e. none-some x (sym (apart (sym left ∙ ap Some e ∙ right)) ∙ sym left)) in
+      ap (λ b. less x y || (b && is_before less ◌=ℤ◌ xs ys)) other ∙ or_false (less x y)
+      ∙ (λ i. front (left i) (right i))
+  decides [] [] (suc k) o p same left right apart = λ i. front (left i) (right i)
+  decides [] (y ∷ ys) (suc k) o p same left right apart = absurd (none-some y (same 0 (omega arith)))
+  decides (x ∷ xs) [] (suc k) o p same left right apart = absurd (none-some x (sym (same 0 (omega arith))))
+  decides (x ∷ xs) (y ∷ ys) (suc k) o p same left right apart =
+      ap (λ z. is_before less ◌=ℤ◌ (x ∷ xs) (z ∷ ys)) (sym (same_Some x y (same 0 (omega arith))))
+      ∙ same_fronts x xs ys ∙ decides xs ys k o p (λ j h. same (suc j) (omega arith)) left right apart

@@ -1,0 +1,17 @@
+use Rattle.std.proofs.Common.{ap, ◌∙◌, arith}
+use Rattle.fz_builtins.specs.of_meaning.Builtins.{row_at}
+use Rattle.fz_builtins.proofs.of_meaning.WithTruth.{last_place, one_more}
+use Rattle.fz_builtins.specs.of_kernel.Given.{bool_at}
+use Rattle.fz_builtins.specs.of_kernel.Views.{arguments_of, assigned}
+use Rattle.fz_model.proofs.FormOutcomes.{form_shapes}
+use Rattle.fz_reasons.proofs.rows.last_truth.Goals as goal
+
+pub overflow_sub-shapes : goal.overflow_sub-shapes
+overflow_sub-shapes c =
+    let r = row_at c.args.known.builtin in
+    omega (arith, one_more c.shapes.result.now r.shapes (c.shapes.ensures ∙ form_shapes c.args.known.form c.requires r))
+
+pub returns : goal.returns
+returns c =
+    let r = row_at c.args.known.builtin in
+    c.truth.ensures.read ∙ ap (bool_at (assigned c.args.view.now) (arguments_of c.args.view.now)) (last_place c.shapes.result.now r.shapes (c.shapes.ensures ∙ form_shapes c.args.known.form c.requires r))

@@ -1,0 +1,154 @@
+-- What reasons say of the elements of arrays (this project's profile). Indices count from 0.
+use Rattle.std.specs.Prelude.{◌≡◌, ◌<◌, ◌+◌, ◌*◌, ℕ, suc, ℤ, pos, ◌+ℤ◌, ◌-ℤ◌, Bool, true, false, ◌&&◌, ◌||◌, List, Option, None, Some, length, slice_get, take, int_lt}
+use Rattle.std.specs.List.{zip}
+use Rattle.std.specs.Option.{option_map_or}
+use Rattle.fz_builtins.specs.of_meaning.Relations.{◌=ℤ◌, Span, are_apart, as_places, count_of, element_at, end_of_tour, is_among, is_natural, load_of, run, step, used_at}
+use Rattle.fz_base.specs.Sets.{NumberSet}
+use Rattle.fz_reasons.specs.Relating.{relates}
+use Rattle.fz_reasons.specs.declared.reason.Relation.{Relation}
+use Rattle.fz_reasons.specs.declared.reason.Relation.TheVariants.{AtMost}
+use Rattle.fz_reasons.specs.declared.reason.Sides.{Sides}
+use Rattle.fz_reasons.specs.declared.reason.Clash.{Clash}
+use Rattle.fz_reasons.specs.declared.reason.Neighbours.{Neighbours}
+use Rattle.fz_reasons.specs.declared.reason.Count.{Count}
+use Rattle.fz_reasons.specs.declared.reason.Element.{Element}
+use Rattle.fz_reasons.specs.declared.reason.Stretch.{Stretch}
+use Rattle.fz_reasons.specs.declared.reason.Overlap.{Overlap}
+use Rattle.fz_reasons.specs.declared.reason.Boxes.{Boxes}
+use Rattle.fz_reasons.specs.declared.reason.Load.{Load}
+use Rattle.fz_reasons.specs.declared.reason.Difference.{Difference}
+use Rattle.fz_reasons.specs.declared.reason.Early.{Early}
+use Rattle.fz_reasons.specs.declared.reason.OneWay.{OneWay}
+use Rattle.fz_reasons.specs.declared.reason.NoStep.{NoStep}
+use Rattle.fz_reasons.specs.declared.reason.NearRow.{NearRow}
+
+-- two elements with the same value
+pub record IsClash (xs : List ℤ) (c : Clash) : Type 0 where
+  pub order : c.one < c.other
+  pub one : slice_get xs c.one ≡ Some c.value
+  pub other : slice_get xs c.other ≡ Some c.value
+
+-- an element and the next one, which don't compare so
+pub record AreUnlike (relation : Relation) (xs : List ℤ) (n : Neighbours) : Type 0 where
+  pub asked : n.sides.relation ≡ relation
+  pub here : slice_get xs n.place ≡ Some n.sides.left
+  pub next : slice_get xs (suc n.place) ≡ Some n.sides.right
+  pub unlike : relates n.sides.relation n.sides.left n.sides.right ≡ false
+
+-- a value of the cover, how often it is an element, and how often it has to be
+pub record IsCount (xs cover ns : List ℤ) (c : Count) : Type 0 where
+  pub value : slice_get cover c.place ≡ Some c.value
+  pub counted : count_of xs c.value ≡ c.sides.left
+  pub wanted : slice_get ns c.place ≡ Some c.sides.right
+  pub unlike : relates c.sides.relation c.sides.left c.sides.right ≡ false
+
+-- an element that isn't a value of the cover
+pub record IsOutside (xs cover : List ℤ) (e : Element) : Type 0 where
+  pub there : slice_get xs e.place ≡ Some e.value
+  pub none : is_among e.value cover ≡ false
+
+-- ---- tasks and boxes
+
+abbrev pub span : Stretch → Span
+span s = (s.start, s.length)
+
+pub record IsStretch (starts lengths : List ℤ) (i : ℕ) (s : Stretch) : Type 0 where
+  pub start : slice_get starts i ≡ Some s.start
+  pub length : slice_get lengths i ≡ Some s.length
+
+pub record IsOverlap (starts lengths : List ℤ) (o : Overlap) : Type 0 where
+  pub order : o.one < o.other
+  pub first : IsStretch starts lengths o.one o.first
+  pub second : IsStretch starts lengths o.other o.second
+  pub unlike : are_apart (span o.first) (span o.second) ≡ false
+
+abbrev pub is_empty : Stretch → Bool
+is_empty s = s.length =ℤ pos 0
+
+-- the length of one of them is below 0
+pub record IsBelowZero (starts lengths : List ℤ) (e : Element) : Type 0 where
+  pub started : e.place < length starts
+  pub there : slice_get lengths e.place ≡ Some e.value
+  pub below : is_natural e.value ≡ false
+
+-- both of them last
+pub record BothLast (o : Overlap) : Type 0 where
+  pub first : is_empty o.first ≡ false
+  pub second : is_empty o.second ≡ false
+
+-- two boxes overlap along both axes
+pub record AreBoxes (x y width height : List ℤ) (t : Boxes) : Type 0 where
+  pub across : IsOverlap x width t.across
+  pub along : IsOverlap y height t.along
+  pub one : t.across.one ≡ t.along.one
+  pub other : t.across.other ≡ t.along.other
+
+-- it is more than there is
+pub record IsMore (s : Sides) : Type 0 where
+  pub asked : s.relation ≡ AtMost
+  pub unlike : relates s.relation s.left s.right ≡ false
+
+-- at the start of a task that lasts and uses something more is used than there is
+pub record IsLoad (starts lengths uses : List ℤ) (most : ℤ) (l : Load) : Type 0 where
+  pub stretch : Stretch
+  pub use' : ℤ
+  pub task : IsStretch starts lengths l.task stretch
+  pub need : slice_get uses l.task ≡ Some use'
+  pub time : stretch.start ≡ l.time
+  pub lasts : is_empty stretch ≡ false
+  pub needs : (use' =ℤ pos 0) ≡ false
+  pub together : used_at l.time (zip (zip starts lengths) uses) ≡ l.sides.left
+  pub limit : l.sides.right ≡ most
+  pub more : IsMore l.sides
+
+-- in the bin of a thing lies more than there is room for
+pub record IsBin (bins weights : List ℤ) (most : ℤ) (l : Load) : Type 0 where
+  pub bin : slice_get bins l.task ≡ Some l.time
+  pub together : load_of bins weights l.time ≡ l.sides.left
+  pub limit : l.sides.right ≡ most
+  pub more : IsMore l.sides
+
+-- ---- orders
+
+-- up to the index they are the same
+pub record IsDifference (xs ys : List ℤ) (d : Difference) : Type 0 where
+  pub same : (j : ℕ) → j < d.place → slice_get xs j ≡ slice_get ys j
+  pub left : slice_get xs d.place ≡ d.left
+  pub right : slice_get ys d.place ≡ d.right
+
+-- both are the same number
+abbrev pub agree : Option ℤ → Option ℤ → Bool
+agree (Some x) (Some y) = x =ℤ y
+agree o p = false
+
+-- whether the first list comes before the second, by what is where they differ
+abbrev pub comes_before : Option ℤ → Option ℤ → Bool
+comes_before None (Some y) = true
+comes_before (Some x) (Some y) = int_lt x y
+comes_before o None = false
+
+pub record IsEarly (s t : ℤ) (xs : List ℤ) (e : Early) : Type 0 where
+  pub value : e.value ≡ t
+  pub before : e.before ≡ s
+  pub there : slice_get xs e.place ≡ Some e.value
+  pub none : (k : ℕ) → k < e.place → slice_get xs k ≡ Some e.before → ⊥
+
+-- ---- successors and automata
+
+-- the element of f at the index, as an index of g, and what g has there
+pub record IsOneWay (f : List ℤ) (fo : ℤ) (g : List ℤ) (go : ℤ) (w : OneWay) : Type 0 where
+  pub there : slice_get f w.place ≡ Some w.value
+  pub back : element_at g ((w.value -ℤ fo) +ℤ pos 1) ≡ w.back
+  pub other : option_map_or (λ y. ((y -ℤ go) +ℤ pos 1) =ℤ pos (suc w.place)) w.back false ≡ false
+
+pub record HasNoStep (xs : List ℤ) (states symbols : ℤ) (d : List ℤ) (first : ℤ) (n : NoStep)
+    : Type 0 where
+  pub reached : run states symbols d first (take n.place xs) ≡ Some n.state
+  pub symbol : slice_get xs n.place ≡ Some n.symbol
+  pub none : step states symbols d n.state n.symbol ≡ None
+
+-- a row of the table differs from the list at the index
+pub record IsDifferentRow (xs table : List ℤ) (n : NearRow) : Type 0 where
+  pub value : slice_get xs n.place ≡ Some n.value
+  pub wanted : slice_get table (n.row * length xs + n.place) ≡ Some n.wanted
+  pub other : (n.value =ℤ n.wanted) ≡ false

@@ -1,0 +1,123 @@
+//! The rows that count the values of a cover, and the one that looks for a number in a list.
+
+ghost use Rattle.std.specs.Prelude.{◌≡◌, IfSome, true, false};
+ghost use Rattle.fz_builtins.specs.of_meaning.Relations.{is_among};
+ghost use Rattle.fz_builtins.specs.of_kernel.Views.{arguments_of, assigned, ints};
+ghost use Rattle.fz_builtins.specs.of_meaning.declared.builtin.Builtin.TheVariants.{FznGlobalCardinalityLowUp};
+ghost use Rattle.fz_builtins.specs.Readings.{int, ints as ints_in};
+ghost use Rattle.fz_reasons.specs.Elements.{IsCount, IsOutside};
+ghost use Rattle.fz_reasons.specs.Reasons.{Counts, Says};
+ghost use Rattle.fz_reasons.specs.declared.reason.Relation.TheVariants.{Equal};
+
+use crate::reason::{Count, Element, Reason, Relation, Sides};
+use fz_builtins::fz_globals::counts::{count_of, is_listed};
+use fz_builtins::fz_kernel::{ArgumentView, Elements};
+use fz_builtins::fz_meaning::Builtin;
+
+/// A value that comes too often or too seldom, one that isn't in the cover, or one that isn't
+/// listed.
+#[tactic(auto, unfolding(crate::specs::Reasons::Says))]
+pub(crate) fn by_cover(builtin: Builtin, view: &ArgumentView<'_, '_>) -> Option<Reason>
+    ensures { IfSome result (Says builtin (assigned view.now) (arguments_of view.now)) }
+{
+    match builtin {
+        Builtin::FznGlobalCardinality => Some(Reason::Count(exactly(view)?)),
+        Builtin::FznGlobalCardinalityClosed => match exactly(view) {
+            Some(count) => Some(Reason::Count(count)),
+            None => Some(Reason::Outside(outside(view)?)),
+        },
+        Builtin::FznGlobalCardinalityLowUp => Some(Reason::Count(between(view)?)),
+        Builtin::FznGlobalCardinalityLowUpClosed => match between(view) {
+            Some(count) => Some(Reason::Count(count)),
+            None => Some(Reason::Outside(outside(view)?)),
+        },
+        Builtin::FznDistribute => Some(Reason::Count(distributed(view)?)),
+        Builtin::FznMemberInt if is_missing(view) => Some(Reason::NotListed(view.int(1))),
+        _ => None,
+    }
+}
+
+fn exactly(view: &ArgumentView<'_, '_>) -> Option<Count>
+    ensures counted { IfSome result
+        (IsCount (ints_in view.now 0) (ints_in view.now 1) (ints_in view.now 2)) }
+    ensures asked { IfSome result (λ c. c.sides.relation ≡ Equal) }
+{
+    let (elements, cover, numbers) = (view.elements(0), view.elements(1), view.elements(2));
+    miscounted(&elements, &cover, Relation::Equal, &numbers)
+}
+
+/// The same, where there are a least and a most number.
+fn between(view: &ArgumentView<'_, '_>) -> Option<Count>
+    ensures { IfSome result (λ c. Counts FznGlobalCardinalityLowUp c.sides.relation
+        (assigned view.now) (arguments_of view.now) c) }
+{
+    let (elements, cover) = (view.elements(0), view.elements(1));
+    match miscounted(&elements, &cover, Relation::AtLeast, &view.elements(2)) {
+        Some(count) => Some(count),
+        None => miscounted(&elements, &cover, Relation::AtMost, &view.elements(3)),
+    }
+}
+
+fn distributed(view: &ArgumentView<'_, '_>) -> Option<Count>
+    ensures counted { IfSome result
+        (IsCount (ints_in view.now 2) (ints_in view.now 1) (ints_in view.now 0)) }
+    ensures asked { IfSome result (λ c. c.sides.relation ≡ Equal) }
+{
+    let (numbers, cover, elements) = (view.elements(0), view.elements(1), view.elements(2));
+    miscounted(&elements, &cover, Relation::Equal, &numbers)
+}
+
+/// The first value of the cover of which the number of elements doesn't compare so with the number
+/// that is told for it.
+fn miscounted(
+    elements: &Elements,
+    cover: &Elements,
+    relation: Relation,
+    numbers: &Elements,
+) -> Option<Count>
+    ensures counted { IfSome result
+        (IsCount (ints elements.now) (ints cover.now) (ints numbers.now)) }
+    ensures asked { IfSome result (λ c. c.sides.relation ≡ relation) }
+{
+    for place in 0..cover.len().min(numbers.len()) {
+        let value = cover.int(place);
+        let sides = Sides {
+            left: count_of(elements, value),
+            relation,
+            right: i128::from(numbers.int(place)),
+        };
+        if !sides.hold() {
+            return Some(Count {
+                place,
+                value,
+                sides,
+            });
+        }
+    }
+    None
+}
+
+fn outside(view: &ArgumentView<'_, '_>) -> Option<Element>
+    ensures { IfSome result (IsOutside (ints_in view.now 0) (ints_in view.now 1)) }
+{
+    element_outside(&view.elements(0), &view.elements(1))
+}
+
+/// The first element that isn't in the cover.
+fn element_outside(elements: &Elements, cover: &Elements) -> Option<Element>
+    ensures { IfSome result (IsOutside (ints elements.now) (ints cover.now)) }
+{
+    for place in 0..elements.len() {
+        let value = elements.int(place);
+        if !is_listed(value, cover) {
+            return Some(Element { place, value });
+        }
+    }
+    None
+}
+
+fn is_missing(view: &ArgumentView<'_, '_>) -> bool
+    ensures { result ≡ true → is_among (int view.now 1) (ints_in view.now 0) ≡ false }
+{
+    !is_listed(view.int(1), &view.elements(0))
+}

@@ -1,0 +1,163 @@
+//! Why a row fails.
+
+ghost use Rattle.std.specs.Prelude.{◌≡◌, IfOk, IfSome, length, true};
+ghost use Rattle.fz_builtins.specs.of_meaning.Builtins.{row_at};
+ghost use Rattle.fz_builtins.specs.of_meaning.Known.{HasTruth, known_row};
+ghost use Rattle.fz_builtins.specs.of_kernel.Given.{are_read};
+ghost use Rattle.fz_builtins.specs.of_kernel.Views.{arguments_of, assigned};
+ghost use Rattle.fz_builtins.specs.Outcomes.{row_outcome};
+ghost use Rattle.fz_builtins.specs.Readings.{truth};
+ghost use Rattle.fz_builtins.specs.declared.outcome.Outcome.TheVariants.{Truth};
+ghost use Rattle.fz_reasons.specs.Forms.{FormsFail, SaysWhy};
+ghost use Rattle.fz_reasons.specs.Reasons.{RowsFail, Says};
+
+use crate::arranged::by_arrangement;
+use crate::automata::by_table;
+use crate::covers::by_cover;
+use crate::literals::by_literals;
+use crate::members::by_member;
+use crate::orders::by_order;
+use crate::pairs::by_pair;
+use crate::reason::{Reason, Why};
+use crate::results::by_result;
+use crate::sides::unlike;
+use crate::tasks::by_tasks;
+use crate::tours::by_tour;
+use fz_builtins::fz_kernel::{ArgumentView, Readiness};
+use fz_builtins::fz_meaning::{Builtin, Form, Known};
+use fz_builtins::{Outcome, of_builtin};
+use std::alloc::{AllocError, Global};
+
+/// Why the row of a builtin fails at the values that the argument view gives; none where it holds,
+/// and none of a row that has no reasons of its own.
+///
+/// # Errors
+///
+/// Out of memory.
+#[tactic(auto, unfolding(crate::specs::Reasons::Says))]
+pub fn reason_of(
+    alloc: Global,
+    builtin: Builtin,
+    view: &ArgumentView<'_, '_>,
+) -> Result<Option<Reason>, AllocError>
+    ensures says { IfOk result (λ o. IfSome o
+        (Says builtin (assigned view.now) (arguments_of view.now))) }
+{
+    if let Some(sides) = unlike(builtin, view) {
+        return Ok(Some(Reason::Sides(sides)));
+    }
+    if let Some(reason) = by_literals(builtin, view) {
+        return Ok(Some(reason));
+    }
+    if let Some(reason) = by_pair(builtin, view) {
+        return Ok(Some(reason));
+    }
+    if let Some(reason) = by_cover(builtin, view) {
+        return Ok(Some(reason));
+    }
+    if let Some(reason) = by_tasks(builtin, view) {
+        return Ok(Some(reason));
+    }
+    if let Some(reason) = by_order(builtin, view) {
+        return Ok(Some(reason));
+    }
+    if let Some(reason) = by_tour(builtin, view) {
+        return Ok(Some(reason));
+    }
+    if let Some(reason) = by_table(builtin, view) {
+        return Ok(Some(reason));
+    }
+    if let Some(found) = by_arrangement(builtin, view) {
+        return Ok(Some(Reason::Arranged(found)));
+    }
+    if let Some(member) = by_member(alloc, builtin, view)? {
+        return Ok(Some(Reason::Member(member)));
+    }
+    by_result(alloc, builtin, view)
+}
+
+/// Whether the row of a builtin holds at the values that the argument view gives.
+///
+/// # Errors
+///
+/// Out of memory.
+pub fn holds(
+    alloc: Global,
+    builtin: Builtin,
+    view: &ArgumentView<'_, '_>,
+) -> Result<bool, AllocError>
+    ensures exact { IfOk result (λ b. b ≡ true → row_outcome (row_at builtin) (assigned view.now)
+        (arguments_of view.now) ≡ Truth true) }
+{
+    match of_builtin(alloc, builtin, view)? {
+        Outcome::Truth(holds) => Ok(holds),
+        Outcome::TooLarge => Ok(false),
+    }
+}
+
+/// Why a row, or one of its reified forms, fails at the values that the argument view gives; none
+/// where it holds, where some value is missing or is of another kind, and where there is no reason
+/// to tell.
+///
+/// # Errors
+///
+/// Out of memory.
+pub fn why(
+    alloc: Global,
+    known: Known,
+    view: &ArgumentView<'_, '_>,
+) -> Result<Option<Why>, AllocError>
+    ensures says { IfOk result (λ o. IfSome o
+        (SaysWhy known (assigned view.now) (arguments_of view.now))) }
+    ensures ready { IfOk result (λ o. IfSome o (λ _. are_read (assigned view.now)
+        (known_row known).shapes (arguments_of view.now) ≡ true)) }
+{
+    match view.readiness(known.shapes()) {
+        Readiness::Ready => why_ready(alloc, known, view),
+        Readiness::WrongKind | Readiness::Missing => Ok(None),
+    }
+}
+
+fn why_ready(
+    alloc: Global,
+    known: Known,
+    view: &ArgumentView<'_, '_>,
+) -> Result<Option<Why>, AllocError>
+    ensures { IfOk result (λ o. IfSome o
+        (SaysWhy known (assigned view.now) (arguments_of view.now))) }
+{
+    match known.form {
+        Form::Base => Ok(reason_of(alloc, known.builtin, view)?.map(Why::Fails)),
+        Form::Reified if !last_truth(known, view) => {
+            if holds(alloc, known.builtin, view)? {
+                Ok(Some(Why::Holds))
+            } else {
+                Ok(None)
+            }
+        }
+        Form::Implied if !last_truth(known, view) => Ok(None),
+        Form::Reified | Form::Implied => {
+            Ok(reason_of(alloc, known.builtin, view)?.map(Why::Fails))
+        }
+    }
+}
+
+/// The Boolean after the arguments of the base row.
+fn last_truth(known: Known, view: &ArgumentView<'_, '_>) -> bool
+    requires { HasTruth known.form }
+    ensures { result ≡ truth view.now (length (row_at known.builtin).shapes) }
+{
+    view.truth(known.shapes().len() - 1)
+}
+
+/// A row fails at all values of which one of its reasons is so.
+#[tactic(auto, using(crate::proofs::Fails::fails))]
+pub fn a_row_fails_by_its_reason()
+    ensures fails { RowsFail }
+{}
+
+/// A row, or a reified form of it, fails at all values of which it is so why.
+#[tactic(auto, using(crate::proofs::Forms::forms_fail))]
+pub fn a_form_fails_by_its_reason()
+    ensures fails { FormsFail }
+{}
