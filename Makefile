@@ -55,6 +55,7 @@ corpus: build/fzcheck
 	tests/corpus/run.py build/fzcheck tests/corpus examples
 	tests/corpus/left_out.py build/fzcheck
 	tests/corpus/differ.py build/fzcheck - 300
+	tests/corpus/reasons.py build/fzcheck
 	tests/minizinc.py build/fzcheck
 	tests/inside.py build/fzcheck
 

@@ -102,7 +102,7 @@ def variable_lines(it):
         source = f"by {source}"
     if "line" in it:
         source += f", line {it['line']}"
-    behind = [f"  {line}" for line in model_lines(it)]
+    behind = [f"  {line}" for line in [*model_lines(it), *it.get("behind", [])]]
     return [f"{name} = {value_text(it)}, {source}", *behind]
 
 
@@ -111,7 +111,10 @@ def message_lines(it, model, stream):
     notes = [variable_lines(variable) for variable in it.get("variables", [])]
     if "left_out" in it:
         notes.insert(8, [f"... and {it['left_out']} more ..."])
-    notes = [*model_lines(it), *(line for lines in notes for line in lines)]
+    if "behind_left_out" in it:
+        notes.append([f"... and {it['behind_left_out']} more reasons ..."])
+    reason = [it["reason"]] if "reason" in it and "message" in it else []
+    notes = [*model_lines(it), *reason, *(line for lines in notes for line in lines)]
     notes += [f"{each['name']} = {each['value']}, fixed" for each in it.get("fixed", [])]
     name = stream if re.match("printed .* differs", it["message"]) else model
     if "refused" in it and it["refused"] != "model":

@@ -82,7 +82,7 @@ expect 'an open block, cut off' 3 $'cut: 0..7\nno blocks' '' "$program" check --
 cat "$folder/wrong.out" "$folder/open.out" >"$folder/killed.out"
 expect 'a killed solver' 1 $'block 1: violated: constraint 1 int_le\ncut: 18..25\nrejected: block 1' \
   "$(printf '%s\n' 'examples/first.fzn:2:12: constraint 1 int_le fails in block 1' '   2 | constraint int_le(2,x);' \
-    '     |            ^^^^^^' '     = x = 1, printed')" \
+    '     |            ^^^^^^' '     = 2, not ≤ 1' '     = x = 1, printed')" \
   "$program" check --complete --cut --explain=all examples/first.fzn "$folder/killed.out"
 expect 'a killed solver, as JSON' 1 '{"block":1,"verdict":"violated","point":"constraint","number":1,"name":"int_le","line":2,"column":12}
 {"cut":[18,25]}
@@ -127,6 +127,7 @@ deep | "$program" check --explain "$folder/deep.fzn" 2>"$folder/told" >/dev/null
 expect 'a verdict far on in a pipe' 0 "$folder/deep.fzn:3:12: constraint 1 int_le fails in block 9001
    3 | constraint int_le(x,5);
      |            ^^^^^^
+     = 9, not ≤ 5
      = x = 9, printed" '' cat "$folder/told"
 # Reads that end right behind the dashes: no block is counted twice.
 torn() { printf 'x = 3;\n----------'; sleep 0.3; printf '\nx = 4;\n----------'; sleep 0.3; printf '\nx = 9;\n----------\n'; sleep 0.3; printf 'x = 2;\n----------\n'; }
@@ -134,6 +135,7 @@ torn | "$program" check --explain "$folder/deep.fzn" 2>"$folder/told" >/dev/null
 expect 'a verdict in a stream that comes in torn pieces' 0 "$folder/deep.fzn:3:12: constraint 1 int_le fails in block 3
    3 | constraint int_le(x,5);
      |            ^^^^^^
+     = 9, not ≤ 5
      = x = 9, printed" '' cat "$folder/told"
 torn | "$program" check --explain=all "$folder/deep.fzn" 2>"$folder/told" >/dev/null
 expect 'each block that is not satisfied' 0 "$folder/deep.fzn:2:11: no value for y in block 1

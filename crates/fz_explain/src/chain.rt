@@ -6,10 +6,10 @@ ghost use Rattle.fz_judge.specs.of_model.Meaning.{points};
 
 use crate::message::Message;
 use crate::notes::told_value;
-use crate::reasons::giving_at;
 use crate::source::{Source, source_of};
 use crate::variables::variables_of;
 use crate::verdict::Reading;
+use fz_reasons::giving_at;
 use std::alloc::{AllocError, Global};
 
 /// The most reasons for values in a message.

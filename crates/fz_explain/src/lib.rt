@@ -6,7 +6,6 @@
 #![tactic(auto)]
 
 mod annotation;
-mod arrangements;
 mod case;
 mod chain;
 mod domain;
@@ -21,7 +20,6 @@ mod message;
 mod notes;
 mod path;
 mod place;
-mod reasons;
 mod remarks;
 mod scalars;
 mod sentence;

@@ -12,7 +12,6 @@ use crate::help::note_help;
 use crate::message::{Message, Text, message_at};
 use crate::notes::{note_domain, note_fixed, note_variables};
 use crate::place::{constraint_of, point_place};
-use crate::reasons::reason_at;
 use crate::remarks::remarks_on;
 use crate::sentence::sentence;
 use crate::sums::too_large_at;
@@ -21,6 +20,7 @@ use fz_base::Span;
 use fz_judge::fz_model::{Goal, Model, Partial, Point, Scalar, Term, What, scalar_at};
 use fz_judge::fz_syntax::{Ast, Basic, Goal as GoalItem};
 use fz_judge::{Fault, Giver, Reason, Verdict};
+use fz_reasons::reason_at;
 use std::alloc::{AllocError, Global};
 
 /// A case with the model's text and tree, and the block's filling with its steps.

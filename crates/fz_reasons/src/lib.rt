@@ -1,11 +1,13 @@
 //! Why a constraint fails, in values: what can be checked by hand, such as two elements that are
 //! equal where all have to differ. A `Reason` is data; `Says` of `specs/` tells what each kind of
 //! reason says of the values of the arguments, and that a row fails by each of its reasons is a law.
-//! Only some rows have reasons of their own. `fz_explain` puts them into words.
+//! Only some rows have reasons of their own. `reason_at` puts the reason of a point into words, of
+//! which no contract speaks.
 #![tactic(auto)]
 
 mod arranged;
 mod arrangement;
+mod arrangement_words;
 mod automata;
 mod covers;
 mod literals;
@@ -22,14 +24,14 @@ mod rows;
 mod sides;
 mod tasks;
 mod tours;
+mod words;
 
 pub use arrangement::{Arrangement, BinLoad, NoIndex, Ring, Run, Total};
-pub use fz_builtins;
 pub use reason::{
     Boxes, Clash, Count, Difference, Early, Element, Load, Member, NearRow, Neighbours, NoStep,
     OneWay, OtherNumber, OtherTruth, Overlap, Reason, Relation, Sides, Stretch, Why,
 };
-pub use rings::follow;
 pub use rows::{a_form_fails_by_its_reason, a_row_fails_by_its_reason, holds, reason_of, why};
 pub use sides::sides_of;
 pub use tasks::runs_at;
+pub use words::{giving_at, reason_at};

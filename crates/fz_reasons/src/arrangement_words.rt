@@ -1,8 +1,10 @@
 //! Why a row over tours, bins, knapsacks or runs fails, in words. Elements count from 1.
 
-use crate::reasons::from_one;
-use fz_reasons::fz_builtins::fz_kernel::{ArgumentView, Elements};
-use fz_reasons::{Arrangement, BinLoad, NoIndex, Ring, Run, Total, follow};
+use crate::arrangement::{Arrangement, BinLoad, NoIndex, Ring, Run, Total};
+use crate::rings::follow;
+use crate::words::from_one;
+use fz_builtins::fz_kernel::{ArgumentView, Elements};
+use fz_builtins::fz_meaning::Builtin;
 use std::alloc::{AllocError, Global};
 
 /// The most positions of a ring that are listed.
@@ -11,6 +13,7 @@ const MOST_LISTED: usize = 8;
 /// The reason in words.
 pub(crate) fn arrangement_text(
     alloc: Global,
+    builtin: Builtin,
     view: &ArgumentView<'_, '_>,
     found: &Arrangement,
 ) -> Result<String, AllocError> {
@@ -26,7 +29,7 @@ pub(crate) fn arrangement_text(
             let place = from_one(place);
             format!(in alloc; "element {place} is {value}, not from {low} to {high}")
         }
-        Arrangement::Ring(ring) => ring_text(alloc, view.int(0), &view.elements(1), ring),
+        Arrangement::Ring(ring) => ring_text(alloc, builtin, view.int(0), &view.elements(1), ring),
         Arrangement::BinLoad(
             BinLoad {
                 bin,
@@ -46,7 +49,13 @@ pub(crate) fn arrangement_text(
 }
 
 /// The positions of a ring in their order, by their indices in the list.
-fn ring_text(alloc: Global, first: i64, next: &Elements, ring: Ring) -> Result<String, AllocError> {
+fn ring_text(
+    alloc: Global,
+    builtin: Builtin,
+    first: i64,
+    next: &Elements,
+    ring: Ring,
+) -> Result<String, AllocError> {
     let mut text = String::new(alloc);
     let mut position = ring.start;
     for _step in 0..ring.steps.min(MOST_LISTED) {
@@ -59,8 +68,13 @@ fn ring_text(alloc: Global, first: i64, next: &Elements, ring: Ring) -> Result<S
     if ring.steps > MOST_LISTED {
         text.push_str("... → ")?;
     }
-    let (start, steps) = (index_of(first, ring.start), ring.steps);
-    format!(in alloc; "the circle {text}{start} has {steps}, and leaves out others")
+    let (start, steps, count) = (index_of(first, ring.start), ring.steps, next.len());
+    match builtin {
+        Builtin::FzcheckSubcircuit => {
+            format!(in alloc; "the circle {text}{start} leaves out others that are moved")
+        }
+        _ => format!(in alloc; "the circle {text}{start} has {steps} of {count}"),
+    }
 }
 
 /// The index of a position, which counts from 1.

@@ -1,25 +1,32 @@
 //! The reason why a constraint fails, or why it gave a value, in words. Indices count from 1.
 
 ghost use Rattle.std.specs.Prelude.{◌<◌, length};
-ghost use Rattle.fz_judge.specs.of_model.Meaning.{points};
+ghost use Rattle.fz_model.specs.Meaning.{points};
 
-use crate::arrangements::arrangement_text;
-use fz_base::SetError;
-use fz_judge::fz_model::{Builtin, Form, Model, Partial, PointParts};
-use fz_reasons::fz_builtins::fz_kernel::{ArgumentView, Elements};
-use fz_reasons::fz_builtins::{Said, said_of};
-use fz_reasons::{
+use crate::arrangement_words::arrangement_text;
+use crate::reason::{
     Difference, Load, Member, OtherNumber, OtherTruth, Overlap, Reason, Relation, Sides, Stretch,
-    Why, holds, reason_of, runs_at, sides_of, why,
+    Why,
 };
+use crate::rows::{holds, reason_of, why};
+use crate::sides::sides_of;
+use crate::tasks::runs_at;
+use fz_base::SetError;
+use fz_builtins::fz_kernel::{ArgumentView, Elements};
+use fz_builtins::{Said, said_of};
+use fz_model::{Builtin, Form, Model, Partial, PointParts};
 use std::alloc::{AllocError, Global};
 
 /// The most products, tasks or positions that are listed.
 const MOST_LISTED: usize = 8;
 
-/// Why the constraint at a point fails; none of another point, and none where there is no reason to
-/// tell.
-pub(crate) fn reason_at(
+/// Why the constraint at a point fails, in words; none of another point, and none where there is no
+/// reason to tell.
+///
+/// # Errors
+///
+/// Out of memory.
+pub fn reason_at(
     alloc: Global,
     model: &Model<'_>,
     filling: &Partial,
@@ -44,8 +51,12 @@ pub(crate) fn reason_at(
     }
 }
 
-/// Why the constraint at a point gave its value; none where there is nothing to tell.
-pub(crate) fn giving_at(
+/// Why the constraint at a point gave its value, in words; none where there is nothing to tell.
+///
+/// # Errors
+///
+/// Out of memory.
+pub fn giving_at(
     alloc: Global,
     model: &Model<'_>,
     filling: &Partial,
@@ -61,6 +72,7 @@ pub(crate) fn giving_at(
     };
     let view = ArgumentView::new(parts, filling);
     match known.form {
+        Form::Base if is_equality(known.builtin) => Ok(None),
         Form::Base => match result_text(alloc, known.builtin, &view)? {
             Some(result) => Ok(Some(result)),
             None if sides_of(known.builtin, &view).is_some() => {
@@ -76,6 +88,14 @@ pub(crate) fn giving_at(
             None => Ok(None),
         },
     }
+}
+
+/// Whether a row only says that two values are the same.
+fn is_equality(builtin: Builtin) -> bool {
+    matches!(
+        builtin,
+        Builtin::IntEq | Builtin::BoolEq | Builtin::Bool2Int
+    )
 }
 
 /// That a row holds, with both sides where it compares two.
@@ -373,7 +393,7 @@ fn of_places(
     reason: &Reason,
 ) -> Result<String, AllocError> {
     match *reason {
-        Reason::Arranged(found) => arrangement_text(alloc, view, &found),
+        Reason::Arranged(found) => arrangement_text(alloc, builtin, view, &found),
         Reason::OneWay(found) => {
             let (value, first) = (found.value, if found.of_first { "first" } else { "second" });
             let place = from_one(found.place);
