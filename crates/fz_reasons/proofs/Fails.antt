@@ -17,12 +17,14 @@ use Rattle.fz_builtins.specs.Said.{is_result}
 use Rattle.fz_builtins.proofs.Rows.{holds_at, same_int_either_way}
 use Rattle.fz_reasons.specs.Compared.{Compared, compared}
 use Rattle.fz_reasons.specs.Relating.{relates}
-use Rattle.fz_reasons.specs.Elements.{AreBoxes, AreUnlike, BothLast, IsBelowZero, IsBin, IsClash, IsCount, IsCycle, IsDifference, IsEarly, IsLoad, IsMore, IsOneWay, IsOutside, IsOverlap, IsStretch, span}
-use Rattle.fz_reasons.specs.Reasons.{Bins, BoxesOverlap, Clashes, ComesEarly, Counts, Differs, Ends, HasEven, HasNoLiteral, HasOtherNumber, HasOtherTruth, IsMisplaced, IsNearRow, IsNegative, LeadsOneWay, LiesOutside, Loads, NotListed, Overlaps, RowsFail, Says, Stops, Turns, Unlike, neighbours_of}
+use Rattle.fz_reasons.specs.Elements.{AreBoxes, AreUnlike, BothLast, IsBelowZero, IsBin, IsClash, IsCount, IsDifference, IsEarly, IsLoad, IsMore, IsOneWay, IsOutside, IsOverlap, IsStretch, span}
+use Rattle.fz_reasons.specs.Reasons.{Bins, BoxesOverlap, Clashes, ComesEarly, Counts, Differs, Ends, HasEven, HasNoLiteral, HasOtherNumber, HasOtherTruth, IsMisplaced, IsNearRow, IsNegative, LeadsOneWay, LiesOutside, Loads, NotListed, Overlaps, RowsFail, Says, Stops, Unlike, neighbours_of}
+use Rattle.fz_reasons.proofs.Arranging.{arranged_fails}
 use Rattle.fz_reasons.proofs.Lists.{and_false, both_fail, neighbours_fail, one_fails, pair_fails, zipped}
 use Rattle.fz_reasons.proofs.Numbers.{clash, clash_of_kept, comes_too_early}
+use Rattle.fz_reasons.proofs.Touring.{entered_twice}
 use Rattle.fz_reasons.proofs.Scheduled.{bin_fails, boxes_fail, load_fails, negative_fails, overlap_fails}
-use Rattle.fz_reasons.proofs.Ordered.{cycle_fails, difference_fails, early_fails, end_fails, near_row_fails, no_step_fails, one_way_fails}
+use Rattle.fz_reasons.proofs.Ordered.{difference_fails, early_fails, end_fails, near_row_fails, no_step_fails, one_way_fails}
 use Rattle.fz_reasons.proofs.SetRows.{member_fails}
 use Rattle.fz_reasons.specs.declared.reason.Relation.{Relation}
 use Rattle.fz_reasons.specs.declared.reason.Relation.TheVariants.{Equal, AtMost, Below, AtLeast}
@@ -35,7 +37,6 @@ use Rattle.fz_reasons.specs.declared.reason.Boxes.{Boxes}
 use Rattle.fz_reasons.specs.declared.reason.Load.{Load}
 use Rattle.fz_reasons.specs.declared.reason.Difference.{Difference}
 use Rattle.fz_reasons.specs.declared.reason.Early.{Early}
-use Rattle.fz_reasons.specs.declared.reason.Cycle.{Cycle}
 use Rattle.fz_reasons.specs.declared.reason.OneWay.{OneWay}
 use Rattle.fz_reasons.specs.declared.reason.NoStep.{NoStep}
 use Rattle.fz_reasons.specs.declared.reason.NearRow.{NearRow}
@@ -124,6 +125,8 @@ clash_fails builtin.FznAllDifferentInt K xs c h =
     ap outcomes.Truth (clash (ints_at K xs 0) c.one c.other c.value h.order h.one h.other)
 clash_fails builtin.FznAlldifferentExcept0 K xs c h =
     ap outcomes.Truth (clash_of_kept is_nonzero c.value h.1 (ints_at K xs 0) c.one c.other h.0.order h.0.one h.0.other)
+clash_fails builtin.FzcheckSubcircuit K xs c h =
+    ap outcomes.Truth (entered_twice (int_at K xs 0) (ints_at K xs 1) (clash (ints_at K xs 1) c.one c.other c.value h.order h.one h.other))
 clash_fails b K xs c h = absurd h
 
 neighbours_unlike : (xs : List ℤ) (n : Neighbours) (relation : Relation) → relation ≡ n.sides.relation
@@ -215,10 +218,10 @@ fails b K xs (reasons.Load l) h = load_fails b K xs l h
 fails b K xs (reasons.Bin l) h = bin_fails b K xs l h
 fails b K xs (reasons.Difference d) h = difference_fails b K xs d h
 fails b K xs (reasons.Early e) h = early_fails b K xs e h
-fails b K xs (reasons.Cycle c) h = cycle_fails b K xs c h
 fails b K xs (reasons.OneWay w) h = one_way_fails b w.of_first K xs w h
 fails b K xs (reasons.NoStep n) h = no_step_fails b K xs n h
 fails b K xs (reasons.EndsIn q) h = end_fails b K xs q h
 fails b K xs (reasons.NearRow n) h = near_row_fails b K xs n h
+fails b K xs (reasons.Arranged a) h = arranged_fails b K xs a h
 fails b K xs (reasons.Member m) h = member_fails b K xs m h
 fails b K xs (reasons.NotListed v) h = not_listed_fails b K xs v h

@@ -8,5 +8,8 @@ pub mod Stepping
 pub mod Scheduled
 pub mod Ordered
 pub mod SetRows
+pub mod Failing
+pub mod Touring
+pub mod Arranging
 pub mod Fails
 pub mod Forms

@@ -13,14 +13,13 @@ use Rattle.fz_builtins.specs.Outcomes.{row_outcome}
 use Rattle.fz_builtins.specs.declared.outcome.Outcome.TheVariants as outcomes
 use Rattle.fz_builtins.specs.of_meaning.Relations.{◌=ℤ◌, as_places, element_at, is_before, leads_back, lies_between, precedes}
 use Rattle.fz_builtins.specs.of_kernel.Given.{int_at, ints_at, set_at}
-use Rattle.fz_reasons.specs.Elements.{HasNoStep, IsCycle, IsDifference, IsEarly, IsOneWay, agree, comes_before}
-use Rattle.fz_reasons.specs.Reasons.{ComesEarly, Differs, Ends, IsNearRow, LeadsOneWay, Stops, Turns}
+use Rattle.fz_reasons.specs.Elements.{HasNoStep, IsDifference, IsEarly, IsOneWay, agree, comes_before}
+use Rattle.fz_reasons.specs.Reasons.{ComesEarly, Differs, Ends, IsNearRow, LeadsOneWay, Stops}
 use Rattle.fz_reasons.proofs.Lists.{and_false}
 use Rattle.fz_reasons.proofs.Numbers.{comes_too_early}
-use Rattle.fz_reasons.proofs.Turning.{decides, leads_off, stops, turns_early}
+use Rattle.fz_reasons.proofs.Turning.{decides, leads_off, stops}
 use Rattle.fz_reasons.specs.declared.reason.Difference.{Difference}
 use Rattle.fz_reasons.specs.declared.reason.Early.{Early}
-use Rattle.fz_reasons.specs.declared.reason.Cycle.{Cycle}
 use Rattle.fz_reasons.specs.declared.reason.OneWay.{OneWay}
 use Rattle.fz_reasons.specs.declared.reason.NoStep.{NoStep}
 use Rattle.fz_reasons.specs.declared.reason.NearRow.{NearRow}
@@ -68,13 +67,6 @@ early_fails builtin.FznValuePrecedeInt K xs e h =
 early_fails builtin.GecodePrecede K xs e h =
     ap outcomes.Truth (early (int_at K xs 1) (int_at K xs 2) (ints_at K xs 0) e h)
 early_fails b K xs e h = absurd h
-
-pub cycle_fails : (b : Builtin) (K : Partial) (xs : List Argument) (c : Cycle) → Turns b K xs c
-    → row_outcome (row_at b) K xs ≡ outcomes.Truth false
-unfolding row_outcome row_at
-cycle_fails builtin.GecodeCircuit K xs c h =
-    ap outcomes.Truth (turns_early (as_places (int_at K xs 0) (ints_at K xs 1)) c.steps (c.steps + c.length) h.place (omega (arith, h.some)) h.few h.comes h.comes_back)
-cycle_fails b K xs c h = absurd h
 
 pub place_of : (go : ℤ) (g : List ℤ) (n : ℤ) → element_at (as_places go g) n ≡ option_map (λ y. (y -ℤ go) +ℤ pos 1) (element_at g n)
 place_of go [] n = refl

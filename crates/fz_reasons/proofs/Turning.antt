@@ -9,45 +9,6 @@ use Rattle.fz_builtins.specs.of_meaning.Relations.{◌=ℤ◌, all_different, ar
 use Rattle.fz_reasons.proofs.Lists.{and_false}
 use Rattle.fz_reasons.proofs.Numbers.{clash, itself}
 
--- ---- successors
-
-pub tour_at : (next : List ℤ) (n k : ℕ) (p q : ℤ) → end_of_tour next k p ≡ Some q → k < n
-    → slice_get (tour next n p) k ≡ Some q
-tour_at next zero k p q e h = absurd (omega arith)
-tour_at next (suc n) zero p q e h = e
-tour_at next (suc n) (suc k) p q e h =
-    elim (element_at next p) as (λ o. option_and_then (end_of_tour next k) o ≡ Some q → slice_get (option_map_or (tour next n) o []) k ≡ Some q) [
-      | None ↦ λ e. absurd (none-some q e)
-      | Some r ↦ λ e. tour_at next n k r q e (omega arith)
-    ] e
-
--- a step at the end in the place of one at the front
-one_step_more : (next : List ℤ) (k : ℕ) (p q r : ℤ) → end_of_tour next k p ≡ Some q
-    → element_at next q ≡ Some r → end_of_tour next (suc k) p ≡ Some r
-one_step_more next zero p q r e at =
-    ap (λ x. option_and_then (λ y. Some y) (element_at next x)) (same_Some p q e) ∙ ap (option_and_then (λ y. Some y)) at
-one_step_more next (suc k) p q r e at =
-    elim (element_at next p) as (λ o. option_and_then (end_of_tour next k) o ≡ Some q → option_and_then (end_of_tour next (suc k)) o ≡ Some r) [
-      | None ↦ λ e. absurd (none-some q e)
-      | Some s ↦ λ e. one_step_more next k s q r e at
-    ] e
-
-pub one_more_step : (next : List ℤ) (k j : ℕ) (p q r : ℤ) → j ≡ suc k → end_of_tour next k p ≡ Some q
-    → element_at next q ≡ Some r → end_of_tour next j p ≡ Some r
-one_more_step next k j p q r is e at = ap (λ n. end_of_tour next n p) is ∙ one_step_more next k p q r e at
-
-middle_false : (a b : Bool) → b ≡ false → (c : Bool) → ((a && b) && c) ≡ false
-middle_false a b e c = ap (λ s. (a && s) && c) e ∙ ap (λ s. s && c) (and_false a)
-
--- the successors come back to a position before they have led to all
-pub turns_early : (next : List ℤ) (i j : ℕ) (q : ℤ) → i < j → j < length next
-    → end_of_tour next i (pos 1) ≡ Some q → end_of_tour next j (pos 1) ≡ Some q
-    → is_circuit next ≡ false
-turns_early next i j q before within comes back =
-    middle_false (are_places (length next) next) (all_different (tour next (length next) (pos 1)))
-    (clash (tour next (length next) (pos 1)) i j q before (tour_at next (length next) i (pos 1) q comes (omega arith)) (tour_at next (length next) j (pos 1) q back within))
-    (option_map_or (λ p. p =ℤ pos 1) (end_of_tour next (length next) (pos 1)) false)
-
 pub leads_off : (f g : List ℤ) (i : ℕ) (p x : ℤ) → slice_get f i ≡ Some x
     → option_map_or (λ y. y =ℤ (p +ℤ pos i)) (element_at g x) false ≡ false → leads_back p f g ≡ false
 leads_off [] g i p x at e = absurd (none-some x at)

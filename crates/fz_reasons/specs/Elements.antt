@@ -18,7 +18,6 @@ use Rattle.fz_reasons.specs.declared.reason.Boxes.{Boxes}
 use Rattle.fz_reasons.specs.declared.reason.Load.{Load}
 use Rattle.fz_reasons.specs.declared.reason.Difference.{Difference}
 use Rattle.fz_reasons.specs.declared.reason.Early.{Early}
-use Rattle.fz_reasons.specs.declared.reason.Cycle.{Cycle}
 use Rattle.fz_reasons.specs.declared.reason.OneWay.{OneWay}
 use Rattle.fz_reasons.specs.declared.reason.NoStep.{NoStep}
 use Rattle.fz_reasons.specs.declared.reason.NearRow.{NearRow}
@@ -135,14 +134,6 @@ pub record IsEarly (s t : ℤ) (xs : List ℤ) (e : Early) : Type 0 where
   pub none : (k : ℕ) → k < e.place → slice_get xs k ≡ Some e.before → ⊥
 
 -- ---- successors and automata
-
--- the position after so many steps from the first, and again after some more, fewer than there are
-pub record IsCycle (next : List ℤ) (c : Cycle) : Type 0 where
-  pub place : ℤ
-  pub some : 0 < c.length
-  pub few : c.steps + c.length < length next
-  pub comes : end_of_tour next c.steps (pos 1) ≡ Some place
-  pub comes_back : end_of_tour next (c.steps + c.length) (pos 1) ≡ Some place
 
 -- the element of f at the index, as an index of g, and what g has there
 pub record IsOneWay (f : List ℤ) (fo : ℤ) (g : List ℤ) (go : ℤ) (w : OneWay) : Type 0 where

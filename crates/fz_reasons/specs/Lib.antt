@@ -1,5 +1,9 @@
 pub mod Relating
 pub mod Compared
 pub mod Elements
+pub mod Tours
+pub mod Places
+pub mod Loads
+pub mod Arranged
 pub mod Reasons
 pub mod Forms

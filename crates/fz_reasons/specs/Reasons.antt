@@ -15,8 +15,9 @@ use Rattle.fz_builtins.specs.of_kernel.Given.{bool_at, bools_at, int_at, ints_at
 use Rattle.fz_builtins.specs.Outcomes.{row_outcome}
 use Rattle.fz_builtins.specs.declared.outcome.Outcome.TheVariants as outcomes
 use Rattle.fz_builtins.specs.Said.{HasResult, is_result, row_with}
+use Rattle.fz_reasons.specs.Arranged.{SaysArranged}
 use Rattle.fz_reasons.specs.Compared.{compared}
-use Rattle.fz_reasons.specs.Elements.{AreBoxes, AreUnlike, BothLast, HasNoStep, IsBelowZero, IsBin, IsClash, IsCount, IsCycle, IsDifference, IsDifferentRow, IsEarly, IsLoad, IsOneWay, IsOutside, IsOverlap, agree, comes_before}
+use Rattle.fz_reasons.specs.Elements.{AreBoxes, AreUnlike, BothLast, HasNoStep, IsBelowZero, IsBin, IsClash, IsCount, IsDifference, IsDifferentRow, IsEarly, IsLoad, IsOneWay, IsOutside, IsOverlap, agree, comes_before}
 use Rattle.fz_reasons.specs.Relating.{relates}
 use Rattle.fz_reasons.specs.declared.reason.Relation.{Relation}
 use Rattle.fz_reasons.specs.declared.reason.Relation.TheVariants.{Equal, AtMost, Below, AtLeast}
@@ -31,7 +32,6 @@ use Rattle.fz_reasons.specs.declared.reason.Boxes.{Boxes}
 use Rattle.fz_reasons.specs.declared.reason.Load.{Load}
 use Rattle.fz_reasons.specs.declared.reason.Difference.{Difference}
 use Rattle.fz_reasons.specs.declared.reason.Early.{Early}
-use Rattle.fz_reasons.specs.declared.reason.Cycle.{Cycle}
 use Rattle.fz_reasons.specs.declared.reason.OneWay.{OneWay}
 use Rattle.fz_reasons.specs.declared.reason.NoStep.{NoStep}
 use Rattle.fz_reasons.specs.declared.reason.NearRow.{NearRow}
@@ -85,6 +85,7 @@ abbrev pub Clashes : Builtin → Partial → List Argument → Clash → Type 0
 Clashes builtin.FznAllDifferentInt K xs c = IsClash (ints_at K xs 0) c
 Clashes builtin.FznAlldifferentExcept0 K xs c =
     IsClash (ints_at K xs 0) c × (is_nonzero c.value ≡ true)
+Clashes builtin.FzcheckSubcircuit K xs c = IsClash (ints_at K xs 1) c
 Clashes b K xs c = ⊥
 
 -- how each element of the first argument has to compare with the next one
@@ -177,10 +178,6 @@ ComesEarly b K xs e = ⊥
 
 -- ---- successors and automata
 
-abbrev pub Turns : Builtin → Partial → List Argument → Cycle → Type 0
-Turns builtin.GecodeCircuit K xs c = IsCycle (as_places (int_at K xs 0) (ints_at K xs 1)) c
-Turns b K xs c = ⊥
-
 -- a list that leads where the other doesn't lead back
 abbrev pub LeadsOneWay : Builtin → Bool → Partial → List Argument → OneWay → Type 0
 LeadsOneWay builtin.InverseOffsets true K xs w =
@@ -249,12 +246,12 @@ Says b K xs (reasons.Load l) = Loads b K xs l
 Says b K xs (reasons.Bin l) = Bins b K xs l
 Says b K xs (reasons.Difference d) = Differs b K xs d
 Says b K xs (reasons.Early e) = ComesEarly b K xs e
-Says b K xs (reasons.Cycle c) = Turns b K xs c
 Says b K xs (reasons.OneWay w) = LeadsOneWay b w.of_first K xs w
 Says b K xs (reasons.NoStep n) = Stops b K xs n
 Says b K xs (reasons.EndsIn q) = Ends b K xs q
 Says b K xs (reasons.NearRow n) = IsNearRow b K xs n
 Says b K xs (reasons.Member m) = IsMisplaced b K xs m
+Says b K xs (reasons.Arranged a) = SaysArranged b K xs a
 Says b K xs (reasons.NotListed v) = NotListed b K xs v
 
 -- the contract of `a_row_fails_by_its_reason`: where a reason is so, the row fails, whatever else

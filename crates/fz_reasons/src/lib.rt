@@ -5,26 +5,33 @@
 //! which no contract speaks.
 #![tactic(auto)]
 
+mod arranged;
+mod arrangement;
+mod arrangement_words;
 mod automata;
 mod covers;
 mod literals;
+mod loads;
 mod members;
 mod orders;
 mod pairs;
+mod places;
+mod readings;
 mod reason;
 mod results;
+mod rings;
 mod rows;
 mod sides;
 mod tasks;
 mod tours;
 mod words;
 
+pub use arrangement::{Arrangement, BinLoad, NoIndex, Ring, Run, Total};
 pub use reason::{
-    Boxes, Clash, Count, Cycle, Difference, Early, Element, Load, Member, NearRow, Neighbours,
-    NoStep, OneWay, OtherNumber, OtherTruth, Overlap, Reason, Relation, Sides, Stretch, Why,
+    Boxes, Clash, Count, Difference, Early, Element, Load, Member, NearRow, Neighbours, NoStep,
+    OneWay, OtherNumber, OtherTruth, Overlap, Reason, Relation, Sides, Stretch, Why,
 };
 pub use rows::{a_form_fails_by_its_reason, a_row_fails_by_its_reason, holds, reason_of, why};
 pub use sides::sides_of;
 pub use tasks::runs_at;
-pub use tours::place_after;
 pub use words::{giving_at, reason_at};

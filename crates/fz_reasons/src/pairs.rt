@@ -17,6 +17,7 @@ pub(crate) fn by_pair(builtin: Builtin, view: &ArgumentView<'_, '_>) -> Option<R
 {
     match builtin {
         Builtin::FznAllDifferentInt => Some(Reason::Clash(clash(&view.elements(0))?)),
+        Builtin::FzcheckSubcircuit => Some(Reason::Clash(clash(&view.elements(1))?)),
         Builtin::FznAlldifferentExcept0 => {
             Some(Reason::Clash(clash_but_zero(&view.elements(0))?))
         },

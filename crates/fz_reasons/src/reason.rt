@@ -3,6 +3,8 @@
 ghost use Rattle.std.specs.Prelude.{◌≡◌};
 ghost use Rattle.fz_reasons.specs.Relating.{relates};
 
+use crate::arrangement::Arrangement;
+
 /// How a row compares two numbers, the left one with the right one.
 #[derive(Clone, Copy)]
 pub enum Relation {
@@ -54,7 +56,7 @@ pub struct OtherTruth {
     pub wanted: Option<bool>,
 }
 
-/// Two elements of the first argument, at different indices, that have this value.
+/// Two elements at different indices that have this value.
 #[derive(Clone, Copy)]
 pub struct Clash {
     pub one: usize,
@@ -133,14 +135,6 @@ pub struct Early {
     pub before: i64,
 }
 
-/// From the first position so many steps lead to a position from which so many more lead back to
-/// it, which is short of all.
-#[derive(Clone, Copy)]
-pub struct Cycle {
-    pub steps: usize,
-    pub length: usize,
-}
-
 /// Of the index of an element of one list the other list doesn't have this element's index.
 #[derive(Clone, Copy)]
 pub struct OneWay {
@@ -199,13 +193,13 @@ pub enum Reason {
     Bin(Load),
     Difference(Difference),
     Early(Early),
-    Cycle(Cycle),
     OneWay(OneWay),
     NoStep(NoStep),
     /// The automaton ends in this state, which isn't one of the last.
     EndsIn(i64),
     NearRow(NearRow),
     Member(Member),
+    Arranged(Arrangement),
     /// The number isn't an element of the list.
     NotListed(i64),
 }

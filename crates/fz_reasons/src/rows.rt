@@ -11,6 +11,7 @@ ghost use Rattle.fz_builtins.specs.declared.outcome.Outcome.TheVariants.{Truth};
 ghost use Rattle.fz_reasons.specs.Forms.{FormsFail, SaysWhy};
 ghost use Rattle.fz_reasons.specs.Reasons.{RowsFail, Says};
 
+use crate::arranged::by_arrangement;
 use crate::automata::by_table;
 use crate::covers::by_cover;
 use crate::literals::by_literals;
@@ -65,6 +66,9 @@ pub fn reason_of(
     }
     if let Some(reason) = by_table(builtin, view) {
         return Ok(Some(reason));
+    }
+    if let Some(found) = by_arrangement(builtin, view) {
+        return Ok(Some(Reason::Arranged(found)));
     }
     if let Some(member) = by_member(alloc, builtin, view)? {
         return Ok(Some(Reason::Member(member)));

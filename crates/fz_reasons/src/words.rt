@@ -3,14 +3,14 @@
 ghost use Rattle.std.specs.Prelude.{◌<◌, length};
 ghost use Rattle.fz_model.specs.Meaning.{points};
 
+use crate::arrangement_words::arrangement_text;
 use crate::reason::{
-    Cycle, Difference, Load, Member, OtherNumber, OtherTruth, Overlap, Reason, Relation, Sides,
-    Stretch, Why,
+    Difference, Load, Member, OtherNumber, OtherTruth, Overlap, Reason, Relation, Sides, Stretch,
+    Why,
 };
 use crate::rows::{holds, reason_of, why};
 use crate::sides::sides_of;
 use crate::tasks::runs_at;
-use crate::tours::place_after;
 use fz_base::SetError;
 use fz_builtins::fz_kernel::{ArgumentView, Elements};
 use fz_builtins::{Said, said_of};
@@ -295,7 +295,7 @@ fn of_elements(
 }
 
 /// An index that is counted from 0, from 1.
-fn from_one(place: usize) -> usize {
+pub(crate) fn from_one(place: usize) -> usize {
     place.saturating_add(1)
 }
 
@@ -399,7 +399,7 @@ fn of_places(
     reason: &Reason,
 ) -> Result<String, AllocError> {
     match *reason {
-        Reason::Cycle(cycle) => cycle_text(alloc, view, cycle),
+        Reason::Arranged(found) => arrangement_text(alloc, builtin, view, &found),
         Reason::OneWay(found) => {
             let (value, first) = (found.value, if found.of_first { "first" } else { "second" });
             let place = from_one(found.place);
@@ -424,37 +424,6 @@ fn of_places(
         Reason::Member(member) => member_text(alloc, builtin, member),
         _ => String::from_str(alloc, "it fails"),
     }
-}
-
-/// The positions of a circle, in the indices of the list.
-fn cycle_text(
-    alloc: Global,
-    view: &ArgumentView<'_, '_>,
-    cycle: Cycle,
-) -> Result<String, AllocError> {
-    let (first, next) = (view.int(0), view.elements(1));
-    let mut text = String::new(alloc);
-    for step in 0..cycle.length.min(MOST_LISTED) {
-        if let Some(place) = place_after(first, &next, cycle.steps.saturating_add(step)) {
-            write!(
-                text,
-                "{} → ",
-                place.saturating_add(i128::from(first)).saturating_sub(1)
-            )?;
-        }
-    }
-    if cycle.length > MOST_LISTED {
-        text.push_str("... → ")?;
-    }
-    if let Some(place) = place_after(first, &next, cycle.steps) {
-        write!(
-            text,
-            "{}",
-            place.saturating_add(i128::from(first)).saturating_sub(1)
-        )?;
-    }
-    let (length, count) = (cycle.length, next.len());
-    format!(in alloc; "the circle {text} has {length} of {count}")
 }
 
 /// In which of the sets a number is, and in which it isn't.

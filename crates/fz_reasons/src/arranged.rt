@@ -1,0 +1,102 @@
+//! Why a row over tours, bins, knapsacks or runs fails.
+
+ghost use Rattle.std.specs.Prelude.{IfSome, IsTrue};
+ghost use Rattle.fz_builtins.specs.of_meaning.declared.builtin.Builtin.TheVariants as builtin;
+ghost use Rattle.fz_builtins.specs.of_kernel.Views.{arguments_of, assigned};
+ghost use Rattle.fz_reasons.specs.Arranged.{AddsUp, SaysArranged};
+
+use crate::arrangement::Arrangement;
+use crate::loads::{other_load, other_run, other_total};
+use crate::places::no_index;
+use crate::readings::number_count;
+use crate::rings::{ring_of_moved, short_ring};
+use fz_builtins::fz_kernel::ArgumentView;
+use fz_builtins::fz_meaning::Builtin;
+use fz_builtins::products_leave;
+
+/// Why a row over a tour, bins with given loads, a knapsack or runs of neighbours fails. None of
+/// another row.
+pub(crate) fn by_arrangement(builtin: Builtin, view: &ArgumentView<'_, '_>) -> Option<Arrangement>
+    ensures { IfSome result
+        (SaysArranged builtin (assigned view.now) (arguments_of view.now)) }
+{
+    match builtin {
+        Builtin::GecodeCircuit => circuit(view),
+        Builtin::FzcheckSubcircuit => subcircuit(view),
+        Builtin::GecodeBinPackingLoad => bin_packing_load(view),
+        Builtin::FznKnapsack => knapsack(view),
+        Builtin::FznSlidingSum => sliding_sum(view),
+        _ => None,
+    }
+}
+
+#[tactic(auto, unfolding(crate::specs::Arranged::SaysArranged))]
+fn circuit(view: &ArgumentView<'_, '_>) -> Option<Arrangement>
+    ensures { IfSome result
+        (SaysArranged builtin.GecodeCircuit (assigned view.now) (arguments_of view.now)) }
+{
+    let (first, next) = (view.int(0), &view.elements(1));
+    match no_index(next, first, number_count(next)) {
+        Some(found) => Some(Arrangement::NoIndex(found)),
+        None => Some(Arrangement::Ring(short_ring(first, next)?)),
+    }
+}
+
+#[tactic(auto, unfolding(crate::specs::Arranged::SaysArranged))]
+fn subcircuit(view: &ArgumentView<'_, '_>) -> Option<Arrangement>
+    ensures { IfSome result
+        (SaysArranged builtin.FzcheckSubcircuit (assigned view.now) (arguments_of view.now)) }
+{
+    let (first, next) = (view.int(0), &view.elements(1));
+    match no_index(next, first, number_count(next)) {
+        Some(found) => Some(Arrangement::NoIndex(found)),
+        None => Some(Arrangement::Ring(ring_of_moved(first, next)?)),
+    }
+}
+
+#[tactic(auto, unfolding(crate::specs::Arranged::SaysArranged))]
+fn bin_packing_load(view: &ArgumentView<'_, '_>) -> Option<Arrangement>
+    ensures { IfSome result
+        (SaysArranged builtin.GecodeBinPackingLoad (assigned view.now) (arguments_of view.now)) }
+{
+    let (loads, bins, first) = (&view.elements(0), &view.elements(1), view.int(3));
+    match no_index(bins, first, number_count(loads)) {
+        Some(found) => Some(Arrangement::NoIndex(found)),
+        None => Some(Arrangement::BinLoad(other_load(bins, &view.elements(2), loads, first)?)),
+    }
+}
+
+#[tactic(auto, unfolding(crate::specs::Arranged::SaysArranged))]
+fn sliding_sum(view: &ArgumentView<'_, '_>) -> Option<Arrangement>
+    ensures { IfSome result
+        (SaysArranged builtin.FznSlidingSum (assigned view.now) (arguments_of view.now)) }
+{
+    let run = other_run(view.int(0), view.int(1), view.int(2), &view.elements(3))?;
+    Some(Arrangement::Run(run))
+}
+
+#[tactic(auto, unfolding(crate::specs::Arranged::SaysArranged))]
+fn knapsack(view: &ArgumentView<'_, '_>) -> Option<Arrangement>
+    ensures { IfSome result
+        (SaysArranged builtin.FznKnapsack (assigned view.now) (arguments_of view.now)) }
+{
+    if !adds_up(view) {
+        return None;
+    }
+    let numbers = &view.elements(2);
+    match other_total(&view.elements(0), numbers, view.int(3)) {
+        Some(total) => Some(Arrangement::Weight(total)),
+        None => Some(Arrangement::Profit(other_total(&view.elements(1), numbers, view.int(4))?)),
+    }
+}
+
+// Whether no sum of a knapsack leaves 128 bits.
+fn adds_up(view: &ArgumentView<'_, '_>) -> bool
+    ensures { IsTrue result
+        → AddsUp builtin.FznKnapsack (assigned view.now) (arguments_of view.now) }
+{
+    if products_leave(view, 0, 2) || products_leave(view, 1, 2) {
+        return false;
+    }
+    true
+}

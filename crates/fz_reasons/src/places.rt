@@ -1,0 +1,36 @@
+//! Elements that have to be indices.
+
+ghost use Rattle.std.specs.Prelude.{◌≡◌, IfSome};
+ghost use Rattle.fz_builtins.specs.of_meaning.Relations.{lies_between};
+ghost use Rattle.fz_builtins.specs.of_kernel.Views.{ints};
+ghost use Rattle.fz_reasons.specs.Places.{IsNoIndex};
+
+use crate::arrangement::NoIndex;
+use fz_builtins::fz_kernel::Elements;
+
+/// The first element that isn't one of `count` numbers from `first` on.
+pub(crate) fn no_index(elements: &Elements, first: i64, count: usize) -> Option<NoIndex>
+    ensures { IfSome result (IsNoIndex (ints elements.now) first count) }
+{
+    let low = i128::from(first);
+    let high = i128::from(first) + count as i128 - 1;
+    for place in 0..elements.len() {
+        let value = elements.int(place);
+        if !lies_between(low, high, i128::from(value)) {
+            return Some(NoIndex {
+                place,
+                value,
+                low,
+                high,
+            });
+        }
+    }
+    None
+}
+
+/// Whether the number is from `low` to `high`.
+pub(crate) fn lies_between(low: i128, high: i128, number: i128) -> bool
+    ensures { result ≡ lies_between low high number }
+{
+    low <= number && number <= high
+}
