@@ -132,6 +132,19 @@ def circle(name, args, parts):
         and path[0] == path[-1]
 
 
+def leads_nowhere(place, value, one, first, other, other_first):
+    """Whether the element has the value, and the position that it names isn't back at its own."""
+    return at(one, place) == value and at(other, value - first + 1) != place - 1 + other_first
+
+
+def leaves_out(args, path):
+    first, following = args
+    path = path.split(" → ")
+    steps = [(int(a), int(b)) for a, b in zip(path, path[1:]) if "..." not in (a, b)]
+    moved = {k + first for k, v in enumerate(following) if v != k + first}
+    return all(following[a - first] == b for a, b in steps) and path[0] == path[-1] and not moved <= {a for a, _ in steps}
+
+
 def transitions(args):
     x, states, symbols, table, start, final = args
     state, states_before = start, []
@@ -149,7 +162,8 @@ def at(values, place):
 
 
 def clash(args, one, other, value):
-    return one != other and at(args[0], one) == at(args[0], other) == int(value)
+    elements = next(it for it in args if isinstance(it, list))
+    return one != other and at(elements, one) == at(elements, other) == int(value)
 
 
 def neighbours(args, place, value, relation, other):
@@ -174,7 +188,7 @@ def tasks_overlap(args, one, other, *ends):
 def load(args, time, tasks, used, limit):
     time = int(time)
     running = [k for k, (s, d) in enumerate(zip(args[0], args[1])) if s <= time < s + d]
-    told = [int(it) - 1 for it in tasks.split(", ")]
+    told = [int(it) - 1 for it in tasks.split(", ") if it]
     return told == running[: len(told)] and sum(args[2][k] for k in running) == int(used) > int(limit) == args[3]
 
 
@@ -210,19 +224,29 @@ FORMS = {
         isinstance(x, list) and at(x, k) == int(v) < 0 for x in a),
     f"tasks (\\d+) and (\\d+) overlap: {STRETCH}": lambda n, a, *p: tasks_overlap(a, *p),
     f"boxes (\\d+) and (\\d+) overlap: {STRETCH}, and {STRETCH}": lambda n, a, *p: boxes(n, a, *p),
-    f"at ({NUMBER}) the tasks ([0-9, ]+) run and use ({NUMBER}), not ≤ ({NUMBER})": lambda n, a, *p: load(a, *p),
+    f"at ({NUMBER}) the tasks ([0-9, ]*) run and use ({NUMBER}), not ≤ ({NUMBER})": lambda n, a, *p: load(a, *p),
     f"in bin ({NUMBER}) lies ({NUMBER}), not ≤ ({NUMBER})": lambda n, a, b, w, m: (
         constraints.load(a[1], a[2], int(b)) == int(w) > int(m) == a[0]),
     r"the circle (.*) has (\d+) of (\d+)": lambda n, a, *p: circle(n, a, p),
     f"element (\\d+) of the (first|second) list is ({NUMBER}), which doesn't lead back": lambda n, a, k, l, v: (
-        at(a[0 if l == "first" else 2], k) == int(v)
-        and (at(a[2 if l == "first" else 0], int(v) - a[3 if l == "first" else 1] + 1)
-             != int(k) - 1 + a[1 if l == "first" else 3])),
+        leads_nowhere(int(k), int(v), *(a if l == "first" else (a[2], a[3], a[0], a[1])))),
     f"element (\\d+): there is no step from state ({NUMBER}) by ({NUMBER})": lambda n, a, k, q, s: (
         transitions(a)[0][-1] == int(q) and len(transitions(a)[0]) == int(k) and at(a[0], k) == int(s)
         and not 1 <= transitions(a)[1] <= a[1]),
     f"it ends in state ({NUMBER}), which isn't one of the last": lambda n, a, q: (
         transitions(a)[1] == int(q) not in a[5]),
+    f"element (\\d+) is ({NUMBER}), not from ({NUMBER}) to ({NUMBER})": lambda n, a, k, v, l, h: (
+        any(isinstance(x, list) and at(x, k) == int(v) for x in a) and not int(l) <= int(v) <= int(h)),
+    r"the circle (.*) leaves out others that are moved": lambda n, a, path: leaves_out(a, path),
+    f"in bin ({NUMBER}) lies ({NUMBER}), not ({NUMBER})": lambda n, a, b, w, m: (
+        constraints.load(a[1], a[2], int(b)) == int(w) != int(m) == a[0][int(b) - a[3]]),
+    f"the weight is ({NUMBER}), not ({NUMBER})": lambda n, a, w, m: (
+        slow.total(a[0], a[2]) == int(w) != int(m) == a[3]),
+    f"the profit is ({NUMBER}), not ({NUMBER})": lambda n, a, w, m: (
+        slow.total(a[1], a[2]) == int(w) != int(m) == a[4]),
+    f"elements (\\d+) to (\\d+) add up to ({NUMBER}), not from ({NUMBER}) to ({NUMBER})": lambda n, a, i, j, s, l, h: (
+        int(j) - int(i) + 1 == a[2] and sum(a[3][int(i) - 1 : int(j)]) == int(s)
+        and [int(l), int(h)] == a[:2] and not int(l) <= int(s) <= int(h)),
     f"no row fits; row (\\d+) differs at element (\\d+): ({NUMBER}), not ({NUMBER})": lambda n, a, *p: near_row(a, *p),
     f"({NUMBER}) is (in|not in) the first, (in|not in) the second and (in|not in) the third": lambda n, a, *p: in_sets(a, *p),
     f"({NUMBER}) is (in|not in) the first and (in|not in) the second": lambda n, a, *p: in_sets(a, *p),
