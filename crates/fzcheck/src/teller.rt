@@ -94,18 +94,30 @@ impl<'r, 'n> Teller<'r, 'n> {
         self.counts.add(&judged.verdict);
         self.progress
             .note(matches!(judged.verdict, Verdict::Satisfied));
-        match self.options.explains {
-            Explaining::Nothing => {}
-            Explaining::Answer => {
-                if is_named {
-                    self.told = self.explanation(judged);
-                }
-            }
-            Explaining::All => {
-                self.told = self.explanation(judged);
-                self.tell();
-            }
+        let is_explained = match self.options.explains {
+            Explaining::Nothing => false,
+            Explaining::Answer => is_named,
+            Explaining::All => true,
+        };
+        if is_explained {
+            self.explain(judged);
         }
+    }
+
+    /// Makes the explanation of a block, and tells it where each block's is told. It isn't inlined:
+    /// a function sets room for all that it makes to 0, and a message is large.
+    #[inline(never)]
+    fn explain(&mut self, judged: &Judged<'_, '_>) {
+        self.told = self.explanation(judged);
+        if let Explaining::All = self.options.explains {
+            self.tell();
+        }
+    }
+
+    /// Drops the explanation that waits.
+    #[inline(never)]
+    fn forget(&mut self) {
+        self.told = None;
     }
 
     /// Why a block isn't satisfied; none where it is, or memory runs out.
@@ -179,7 +191,7 @@ impl Taker for Teller<'_, '_> {
     fn take(&mut self, event: &Event<'_, '_>, line: &mut Vec<u8>) -> Result<(), AllocError> {
         TextTaker.take(event, line)?;
         if let Event::Answer(Answer::ClaimRejected(_)) = event {
-            self.told = None;
+            self.forget();
         }
         if let Form::Json = self.options.form {
             self.add(event)?;
