@@ -34,6 +34,8 @@ PAGES = {
 PREPARED = """mkdir models streams
 minizinc -G std -c model.mzn data.dzn --fzn models/NAME.fzn --no-output-ozn
 fzn-gecode models/NAME.fzn > streams/NAME.out
+cp streams/NAME.out streams/NAME.one.out
+cp streams/NAME.out streams/NAME.other.out
 """
 FILES = {
     "data.dzn": "n = 6;\n",
