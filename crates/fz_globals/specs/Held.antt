@@ -1,5 +1,5 @@
--- Numbers that are indices of sets, and sets of the indices of those numbers (private functions
--- only).
+-- Numbers that are indices of sets, and sets of the indices of those numbers. All but `is_held`
+-- serves private functions only.
 use Rattle.std.specs.Prelude.{ℕ, ◌+◌, ℤ, pos, ◌+ℤ◌, ◌-ℤ◌, Bool, true, false, ◌&&◌, List, [], ◌∷◌}
 use Rattle.std.specs.Option.{option_map_or}
 use Rattle.std.specs.FinSet as set

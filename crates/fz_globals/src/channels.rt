@@ -30,9 +30,10 @@ fn are_held(numbers: &Elements, first: i64, parts: &Elements, first_part: i64) -
     true
 }
 
-// Whether the index is in the set whose index the number is.
-fn is_held(index: i128, number: i64, parts: &Elements, first_part: i64) -> bool
-    ensures { result ≡ is_held index number (sets parts.now) first_part }
+/// Whether an index is in the set whose index the number is, where the sets' indices begin with
+/// `first_part`.
+pub fn is_held(index: i128, number: i64, parts: &Elements, first_part: i64) -> bool
+    ensures exact { result ≡ is_held index number (sets parts.now) first_part }
 {
     match place_from(number, first_part, parts.len()) {
         Some(part) => has(parts.set(part), index),

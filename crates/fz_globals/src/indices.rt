@@ -15,8 +15,9 @@ pub(crate) fn place_in(index: i64, first: i64) -> i128
     i128::from(index) - i128::from(first)
 }
 
-/// The same, where it is the index of one of `count` elements.
-pub(crate) fn place_from(index: i64, first: i64, count: usize) -> Option<usize>
+/// The position, counted from 0, of an index that is counted from `first`, where it is the index of
+/// one of `count` elements.
+pub fn place_from(index: i64, first: i64, count: usize) -> Option<usize>
     ensures place { IfSome result (λ place. ((index -ℤ first) +ℤ pos 1) ≡ pos (place + 1)) }
     ensures in_range { IfSome result (λ place. place < count) }
     ensures none { IfNone result ((place : ℕ) → ((index -ℤ first) +ℤ pos 1) ≡ pos (place + 1)

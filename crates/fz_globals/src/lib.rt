@@ -26,3 +26,5 @@ pub mod tours;
 
 pub use fz_kernel;
 pub use fz_kernel::fz_data::fz_meaning;
+pub use indices::place_from;
+pub use ordered::numbers_in_order;

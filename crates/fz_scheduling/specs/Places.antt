@@ -1,4 +1,4 @@
--- What is at an index of an array (private functions only).
+-- What is at an index of an array. All but `number_at` and `span_at` serves private functions only.
 use Rattle.std.specs.Prelude.{ℕ, ℤ, pos, Bool, ◌&&◌, ◌||◌, List, get_or, int_le}
 use Rattle.fz_kernel.specs.of_meaning.Relations.{◌=ℤ◌, Span, Box, are_apart, is_empty_span, lie_apart, has_no_area, used_at}
 

@@ -89,9 +89,9 @@ fn has_load(first: i64, bins: &Elements, weights: &Elements, loads: &Elements, p
     i128::from(number_at(loads, place)) == load_of(bin, bins, weights)
 }
 
-// The sum of the weights of what lies in a bin. No array is long enough for it to leave 128 bits.
-fn load_of(bin: i128, bins: &Elements, weights: &Elements) -> i128
-    ensures { result ≡ load_of (ints bins.now) (ints weights.now) bin }
+/// The sum of the weights of what lies in a bin. No array is long enough for it to leave 128 bits.
+pub fn load_of(bin: i128, bins: &Elements, weights: &Elements) -> i128
+    ensures exact { result ≡ load_of (ints bins.now) (ints weights.now) bin }
 {
     let mut load: i128 = 0;
     for place in 0..common_places(bins, weights) {

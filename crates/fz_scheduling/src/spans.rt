@@ -13,7 +13,7 @@ use fz_kernel::numbers::sum;
 /// Whether the span at an index covers the number.
 #[inline(always)]
 pub fn runs_at(number: i64, starts: &Elements, lengths: &Elements, place: usize) -> bool
-    ensures { result ≡ runs_at number (span_at (ints starts.now) (ints lengths.now) place) }
+    ensures exact { result ≡ runs_at number (span_at (ints starts.now) (ints lengths.now) place) }
 {
     let start = number_at(starts, place);
     start <= number && i128::from(number) < sum(start, number_at(lengths, place))

@@ -93,9 +93,9 @@ fn keeps_within(
         || used_at(number_at(starts, task), starts, durations, uses) <= i128::from(most)
 }
 
-// The sum of what is used at a time. No array is long enough for it to leave 128 bits.
-fn used_at(time: i64, starts: &Elements, durations: &Elements, uses: &Elements) -> i128
-    ensures { result ≡ used_at time
+/// The sum of what is used at a time. No array is long enough for it to leave 128 bits.
+pub fn used_at(time: i64, starts: &Elements, durations: &Elements, uses: &Elements) -> i128
+    ensures exact { result ≡ used_at time
         (zip (zip (ints starts.now) (ints durations.now)) (ints uses.now)) }
 {
     let mut sum: i128 = 0;

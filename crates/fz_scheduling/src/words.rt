@@ -48,9 +48,9 @@ fn end_of_run(
     Some(state)
 }
 
-// The state to which a symbol leads; none where it leads nowhere.
+/// The state to which a symbol leads; none where it leads nowhere.
 #[inline]
-fn next_state(
+pub fn next_state(
     states: i64,
     symbols: i64,
     transitions: &Elements,

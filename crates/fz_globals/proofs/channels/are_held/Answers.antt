@@ -19,7 +19,7 @@ returns-then-not-is_held c =
     let fits_x : FitsSigned w64 x = search rules in
     let fits_i : FitsSigned w128 c.index_at-index.result = search rules in
     let at : c.index_at-index.result ≡ o +ℤ pos i = simp to_z-of_z at c.index_at-index.ensures in
-    let told : c.is_held.result ≡ is_held c.index_at-index.result x ss so = simp to_z-of_z at c.is_held.ensures in
+    let told : c.is_held.result ≡ is_held c.index_at-index.result x ss so = simp to_z-of_z at c.is_held.ensures.exact in
     let failed : c.is_held.result ≡ false = search rules in
     one_not_held o xs ss so i (are_held o xs ss so) (simp to_z-of_z at c.loop-place.invariant) x c.int.ensures.read (sym (told ∙ ap (λ j. is_held j x ss so) at) ∙ failed)
 
@@ -36,7 +36,7 @@ loop-place-preserved c =
     let fits_x : FitsSigned w64 x = search rules in
     let fits_i : FitsSigned w128 c.index_at-index.result = search rules in
     let at : c.index_at-index.result ≡ o +ℤ pos i = simp to_z-of_z at c.index_at-index.ensures in
-    let told : c.is_held.result ≡ is_held c.index_at-index.result x ss so = simp to_z-of_z at c.is_held.ensures in
+    let told : c.is_held.result ≡ is_held c.index_at-index.result x ss so = simp to_z-of_z at c.is_held.ensures.exact in
     let passed : c.is_held.result ≡ true = search rules in
     simp to_z-of_z
     (one_held o xs ss so i (are_held o xs ss so) (simp to_z-of_z at c.loop-place.invariant) x c.int.ensures.read (sym (told ∙ ap (λ j. is_held j x ss so) at) ∙ passed))

@@ -22,7 +22,7 @@ returns-in-Some c =
     let place : as_place so x ≡ pos (c.in-Some.part + 1) = simp to_z-of_z at c.in-Some.ensures.place in
     let found : element_at ss (as_place so x) ≡ Some c.set.result.now = element_found ss (as_place so x) c.in-Some.part c.set.result.now place c.set.ensures.read in
     let told : c.has.result ≡ contains c.set.result.now c.args.index = simp to_z-of_z at c.has.ensures in
-    told ∙ sym (ap (λ o. option_map_or (λ (s : NumberSet). contains s c.args.index) o false) found)
+    record { exact = told ∙ sym (ap (λ o. option_map_or (λ (s : NumberSet). contains s c.args.index) o false) found) }
 
 pub returns-in-None : goal.returns-in-None
 returns-in-None c =
@@ -33,4 +33,4 @@ returns-in-None c =
     let fits_x : FitsSigned w64 x = c.ranges.number in
     let counted : c.len.result ≡ length ss = sets_counted c.args.parts.now c.len.result c.len.ensures.counted in
     let none : element_at ss (as_place so x) ≡ None = none_found ss (as_place so x) c.len.result counted (simp to_z-of_z at c.in-None.ensures.none) in
-    sym (ap (λ o. option_map_or (λ (s : NumberSet). contains s c.args.index) o false) none)
+    record { exact = sym (ap (λ o. option_map_or (λ (s : NumberSet). contains s c.args.index) o false) none) }

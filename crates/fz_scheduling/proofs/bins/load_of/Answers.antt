@@ -38,5 +38,7 @@ pub returns : goal.returns
 returns c =
     let pairs = zip (ints c.args.bins.now) (ints c.args.weights.now) in
     let bin = to_z w128 (of_z w128 c.args.bin) in
-    all_chosen (λ (b : ℤ). b =ℤ bin) pairs c.loop-place.place (to_z w128 c.loop-place.load-bits) c.loop-place.invariant (omega arith)
-    ∙ ap (λ v. chosen (λ (b : ℤ). b =ℤ v) pairs) (to_z-of_z w128 c.args.bin c.ranges.bin)
+    record {
+      exact = all_chosen (λ (b : ℤ). b =ℤ bin) pairs c.loop-place.place (to_z w128 c.loop-place.load-bits) c.loop-place.invariant (omega arith)
+          ∙ ap (λ v. chosen (λ (b : ℤ). b =ℤ v) pairs) (to_z-of_z w128 c.args.bin c.ranges.bin);
+    }

@@ -28,15 +28,17 @@ loop-task-preserved c =
           let high : s ≤ℤ pos (9223372036854775808 * i) = c.loop-task.invariant.high in
           let is : t ≡ (s +ℤ w.number_at.result) = omega (arith, numerals) in
           one_chosen test tasks i s (span_at xs ys i) (number_at zs i) c.loop-task.invariant next
-          t (is ∙ ap (λ n. s +ℤ n) w.number_at.ensures) (sym c.runs_at.ensures ∙ w.if-runs_at.true) (subst (λ n. FitsSigned w64 n) w.number_at.ensures fits)
+          t (is ∙ ap (λ n. s +ℤ n) w.number_at.ensures) (sym c.runs_at.ensures.exact ∙ w.if-runs_at.true) (subst (λ n. FitsSigned w64 n) w.number_at.ensures fits)
       | else-runs_at w ↦
           one_left_out test tasks i s (span_at xs ys i) (number_at zs i) c.loop-task.invariant next
-          t w.sum-is (sym c.runs_at.ensures ∙ w.if-runs_at.false)
+          t w.sum-is (sym c.runs_at.ensures.exact ∙ w.if-runs_at.false)
     ]
 
 pub returns : goal.returns
 returns c =
     let tasks = zip (zip (ints c.args.starts.now) (ints c.args.durations.now)) (ints c.args.uses.now) in
     let time = to_z w64 (of_z w64 c.args.time) in
-    all_chosen (runs_at time) tasks c.loop-task.task (to_z w128 c.loop-task.sum-bits) c.loop-task.invariant (omega arith)
-    ∙ ap (λ t. chosen (runs_at t) tasks) (to_z-of_z w64 c.args.time c.ranges.time)
+    record {
+      exact = all_chosen (runs_at time) tasks c.loop-task.task (to_z w128 c.loop-task.sum-bits) c.loop-task.invariant (omega arith)
+          ∙ ap (λ t. chosen (runs_at t) tasks) (to_z-of_z w64 c.args.time c.ranges.time);
+    }
