@@ -3,7 +3,7 @@
 ghost use Rattle.std.specs.Prelude.{◌≡◌, ◌∷◌, [], List, flat_map, map};
 ghost use Rattle.std.specs.List.{AllByRecursion};
 ghost use Rattle.fz_base.specs.declared.value.Value.{Value};
-ghost use Rattle.fz_builtins.specs.of_meaning.Meaning.{row_of, terms_at};
+ghost use Rattle.fz_builtins.specs.of_meaning.Meaning.{row_of, terms_at, terms_in};
 ghost use Rattle.fz_builtins.specs.of_meaning.declared.term.Term.TheVariants.{Var};
 ghost use Rattle.fz_builtins.specs.of_data.Parts.{constraint_view, kept_row, place_view};
 ghost use Rattle.fz_builtins.specs.of_data.Slots.{slot_term};
@@ -138,7 +138,7 @@ fn opening_among(
     requires flat { AllByRecursion (IsFlat parts.now) arguments.now }
     ensures opening { IsOpening partial.now (posted_with parts.now arguments.now target) result }
     ensures none_open { result ≡ Opening.Never → open_terms partial.now
-        (flat_map (terms_of parts.now) arguments.now) ≡ [] }
+        (flat_map terms_in (posted_with parts.now arguments.now target).arguments) ≡ [] }
 {
     let mut found = None;
     for number in 0..arguments.len() {
