@@ -4,7 +4,8 @@
     differ.py PROGRAM OTHER COUNT [SEED]
 
 PROGRAM and OTHER are run as `PROGRAM check MODEL STREAM`; where OTHER is a dash, slow.py beside this file is
-what PROGRAM is compared with. The models are those of bench/generate.py, over the whole table of builtins,
+what PROGRAM is compared with, with --complete too: up to the first block that lacks a value under its second
+filling, and but for which fault is told. The models are those of bench/generate.py, over the whole table of builtins,
 and a stream of three blocks, each with a few places changed; in a part of them the model is changed too.
 Standard output, standard error and status must be the same. Prints each pair that differs and keeps its
 files, and ends with 'N passed, M failed'."""
@@ -84,22 +85,33 @@ def pair(rand):
     return model, "".join(blocks) + rand.choice(["", "==========\n"])
 
 
-def run(program, model, stream):
+def run(program, model, stream, *options):
     """Standard output and standard error, and the status."""
-    ran = subprocess.run([program, "check", model, stream], capture_output=True, timeout=60)
+    ran = subprocess.run([program, "check", *options, model, stream], capture_output=True, timeout=60)
     return (ran.stdout + ran.stderr).decode("latin-1"), ran.returncode
 
 
-def run_slowly(model, stream):
+def run_slowly(model, stream, completes=False):
     with open(model, "rb") as f, open(stream, "rb") as g:
         texts = f.read(), g.read()
     lines = []
     try:
-        for line in slow.report(*texts):
+        for line in slow.report(*texts, completes):
             lines.append(line)
     except slow.Refused as e:
         lines.append(str(e))
     return "".join(line + "\n" for line in lines), STATUSES[lines[-1].split(":")[0]]
+
+
+def agree_completed(got, want):
+    """Whether two reports agree where nothing is looked for, but for which fault is told."""
+    lines = [text.split("\n") for text, status in (got, want)]
+    for here, there in zip(*lines):
+        if "undecided: no value" in there:
+            return True
+        if here.split(" violated: ")[0] != there.split(" violated: ")[0]:
+            return False
+    return got[1] == want[1]
 
 
 def main():
@@ -117,7 +129,13 @@ def main():
             want = run_slowly(model, stream) if other == "-" else run(other, model, stream)
             last = (got[0].rstrip("\n").split("\n")[-1] + ":").split(":")[0]
             answers[last] = answers.get(last, 0) + 1
-            if got == want:
+            if got == want and other == "-":
+                got = run(program, model, stream, "--complete")
+                want = run_slowly(model, stream, True)
+                agree = agree_completed(got, want)
+            else:
+                agree = got == want
+            if agree:
                 passed += 1
                 continue
             failed += 1

@@ -1,6 +1,6 @@
 #!/usr/bin/env python3
-"""A second reader of the rules: slow.py MODEL STREAM prints the report that docs/REPORT.md asks
-for.
+"""A second reader of the rules: slow.py MODEL STREAM [--complete] prints the report that
+docs/REPORT.md asks for, with --complete by the second filling, and no search.
 
 It follows docs/LANGUAGE.md, BUILTINS.md, STREAM.md, FILLING.md and REPORT.md in the plainest way,
 shares nothing with the checker, and serves to work out reports. It leaves out the limits on the
@@ -628,14 +628,22 @@ def step_of_constraint(constraint, values):
     return target[1], value
 
 
-def filled(model, values):
+def step_by_result(constraint, values):
+    """The same, where the only scalar without a value may be any that `defines_var` might name."""
+    name, row, args, target = constraint
+    flat = [t for a in args for t in (a if isinstance(a, list) else [a])]
+    unset = [t for t in flat if values.of(t) is None]
+    return step_of_constraint((name, row, args, unset[0]), values) if unset else None
+
+
+def filled(model, values, step_of_row=step_of_constraint):
     """Passes over the points until one sets nothing."""
     kinds = [k for _, k in model.variables]
     again = True
     while again:
         again = False
         steps = [lambda p=p: step_of(p, values) for p in model.points]
-        steps += [lambda c=c: step_of_constraint(c, values) for c in model.constraints]
+        steps += [lambda c=c: step_of_row(c, values) for c in model.constraints]
         for step in steps:
             found = step()
             if found and not (kinds[found[0]] == "S" and not isinstance(found[1], frozenset)):
@@ -727,8 +735,9 @@ def parts_of(stream):
         raise Refused("stream", "Unfinished", opened, at)
 
 
-def report(model, stream):
-    """The lines of the report as they are known."""
+def report(model, stream, completes=False):
+    """The lines of the report as they are known. With the second filling nothing is looked for
+    that isn't forced."""
     model = Model(model)
     verdicts, before = [], None
     for where, items in parts_of(stream):
@@ -737,6 +746,8 @@ def report(model, stream):
             continue
         number = len(verdicts) + 1
         values = filled(model, start_of(model, items, number, where))
+        if completes:
+            values = filled(model, values, step_by_result)
         words, before = verdict_on(model, items, values, before)
         verdicts.append(words)
         yield f"block {number}: {words}"
@@ -752,7 +763,7 @@ def main():
     with open(sys.argv[1], "rb") as f, open(sys.argv[2], "rb") as g:
         model, stream = f.read(), g.read()
     try:
-        for line in report(model, stream):
+        for line in report(model, stream, "--complete" in sys.argv[3:]):
             print(line)
     except Refused as e:
         print(e)

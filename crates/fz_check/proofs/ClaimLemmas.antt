@@ -96,12 +96,13 @@ module _ (aim : Aim) (c : Claims) where
       ledger_block (suc n) (behind aim (suc n) l p) os ps o b (omega arith)
       ∙ ap (λ k. behind aim (suc k) (ledger aim c (suc n) (behind aim (suc n) l p) os ps) o) count
 
-pub outcomes_more : (m : Model) (bs : List Block) (os : List Outcome) (b : Block) (o : Outcome)
-    → AreOutcomes m bs os → IsOutcome m b o → AreOutcomes m (bs ++ b ∷ []) (os ++ o ∷ [])
-outcomes_more m [] [] b o are is = (is, tt)
-outcomes_more m (d ∷ bs) (p ∷ os) b o are is = (are.0, outcomes_more m bs os b o are.1 is)
-outcomes_more m [] (p ∷ os) b o are is = absurd are
-outcomes_more m (d ∷ bs) [] b o are is = absurd are
+pub outcomes_more : (c : Completion) (m : Model) (bs : List Block) (os : List Outcome) (b : Block)
+    (o : Outcome) → AreOutcomes c m bs os → IsOutcome c m b o
+    → AreOutcomes c m (bs ++ b ∷ []) (os ++ o ∷ [])
+outcomes_more c m [] [] b o are is = (is, tt)
+outcomes_more c m (d ∷ bs) (p ∷ os) b o are is = (are.0, outcomes_more c m bs os b o are.1 is)
+outcomes_more c m [] (p ∷ os) b o are is = absurd are
+outcomes_more c m (d ∷ bs) [] b o are is = absurd are
 
 -- ---- where claims aren't judged
 
@@ -150,7 +151,7 @@ compared_now Off filled own found is one = sym is ∙ sym (one refl)
 compared_now On filled own found is one = refl
 
 pub outcome_of : (j j' : JudgeState) (block : Block) (v : Verdict) → IsJudged j j' block v
-    → IsOutcome j.model block (record { verdict = v; filled = j'.before; found = j'.found })
+    → IsOutcome j.completion j.model block (record { verdict = v; filled = j'.before; found = j'.found })
 outcome_of j j' block v h = record {
   filling = h.filling;
   is_filled = h.is_filled;
@@ -268,22 +269,22 @@ module _ (m : Model) where
   late_true None number es h rest = rest
   late_true (Some s) number es h rest = (h, rest)
 
-  pub all_true : (c : Claims) (n : ℕ) (l : Ledger) (bs : List Block) (os : List Outcome)
-      (ps : List StreamPart) → KnowsOf m c → IsSound l → AreOutcomes m bs os
+  pub all_true : (by : Completion) (c : Claims) (n : ℕ) (l : Ledger) (bs : List Block) (os : List Outcome)
+      (ps : List StreamPart) → KnowsOf m c → IsSound l → AreOutcomes by m bs os
       → AllByRecursion (IsTrueOf m) (told m.aim c n l os ps)
-  all_true c n l bs os [] knows sound are = tt
-  all_true c n l bs os (ClaimPart kind ∷ ps) knows sound are = (
+  all_true by c n l bs os [] knows sound are = tt
+  all_true by c n l bs os (ClaimPart kind ∷ ps) knows sound are = (
     claim_true (statement n l kind) (refuter m.aim c l (saying kind l.objective)) (refuter_false c l (saying kind l.objective) knows sound),
-    all_true c n (behind_claim m.aim c n l kind) bs os ps knows
+    all_true by c n (behind_claim m.aim c n l kind) bs os ps knows
         (subst (λ x. IfSome x (λ n. (o : Option ℤ) × HasSolutionWith m o)) (sym (same_after_claim c (refuter m.aim c l (saying kind l.objective)) (statement n l kind) l)) sound) are,
   )
-  all_true c n l bs [] (BlockPart b ∷ ps) knows sound are = all_true c n l bs [] ps knows sound are
-  all_true c n l [] (o ∷ os) (BlockPart b ∷ ps) knows sound are = absurd are
-  all_true c n l (d ∷ bs) (o ∷ os) (BlockPart b ∷ ps) knows sound are = (
+  all_true by c n l bs [] (BlockPart b ∷ ps) knows sound are = all_true by c n l bs [] ps knows sound are
+  all_true by c n l [] (o ∷ os) (BlockPart b ∷ ps) knows sound are = absurd are
+  all_true by c n l (d ∷ bs) (o ∷ os) (BlockPart b ∷ ps) knows sound are = (
     tt,
     late_true (late_refuted m.aim l.waiting (is_satisfied o.verdict) o.found) (suc n) _
         (late_false l.waiting (is_satisfied o.verdict) o.found (λ e. are.0.solved (satisfied_is o.verdict e)))
-        (all_true c (suc n) (behind m.aim (suc n) l o) bs os ps knows (sound_behind (suc n) l o are.0.solved sound) are.1),
+        (all_true by c (suc n) (behind m.aim (suc n) l o) bs os ps knows (sound_behind (suc n) l o are.0.solved sound) are.1),
   )
 
   -- ---- what is known of other streams

@@ -44,7 +44,7 @@ tallies_more old new vs v blocks violated undecided t =
 -- the verdict of a judge that judges in this way against this model
 record IsJudgedAs (c : Completion) (m : Model) (j j' : JudgeState) (block : Block) (v : Verdict) : Type 0 where
   filling : Partial
-  is_filled : IsFilled m block filling
+  is_filled : IsFilled c m block filling
   told : IsToldBy c m block j.found filling (verdict m filling block j.before) v j'.found
   kept_is : j'.before ≡ objective m filling
 
@@ -119,7 +119,7 @@ same_judged c m j j' bs vs judge tally h = record {
 -- a block is judged, and then heard of
 pub record HearsBlock (j mid j' : Jury) (block : Block) (o : Outcome) : Type 0 where
   pub judges : JudgesOneMore j mid block o.verdict
-  pub outcome : IsOutcome j.judge.model block o
+  pub outcome : IsOutcome j.judge.completion j.judge.model block o
   pub filled_is : o.filled ≡ mid.judge.before
   pub found_is : o.found ≡ mid.judge.found
   pub same_model : mid.judge.model ≡ j.judge.model
@@ -201,8 +201,8 @@ module _ (claims : Claims) (c : Completion) (m : Model) (j : Jury) (parts : List
           judged = subst₂ (λ bs vs. HasJudged c m j' bs vs) (sym places_of) (sym all)
               (same_judged c m mid j' (map located_block h.blocks ++ located_block block ∷ []) (verdicts_of os ++ o.verdict ∷ []) hears.same.0 hears.same.1
               (hears.judges c m (map located_block h.blocks) (verdicts_of os) h.judged));
-          are_outcomes = subst (λ bs. AreOutcomes m bs (os ++ o ∷ [])) (sym places_of)
-              (outcomes_more m (map located_block h.blocks) os (located_block block) o h.are_outcomes (subst (λ n. IsOutcome n (located_block block) o) h.judged.same_model hears.outcome));
+          are_outcomes = subst (λ bs. AreOutcomes c m bs (os ++ o ∷ [])) (sym places_of)
+              (outcomes_more c m (map located_block h.blocks) os (located_block block) o h.are_outcomes (subst₂ (λ d n. IsOutcome d n (located_block block) o) h.judged.same_completion h.judged.same_model hears.outcome));
           claims_are = hears.same.2 ∙ hears.same_claims ∙ h.claims_are;
           ledger_is = after ∙ sym (ledger_block m.aim claims 0 no_ledger os parts o (block_of block) outcome_each);
         };

@@ -88,7 +88,7 @@ module _ (claims : Claims) (c : Completion) (model : List ℕ) (m : Model) (stre
     holds = (
       r,
       are_borne_out c model m stream _ _ loaded plain,
-      λ knows. subst (AllByRecursion (IsTrueOf m)) (sym r.events_are) (all_true m claims 0 no_ledger (map located_block r.have_outcomes.have_verdicts.blocks) r.outcomes r.parts knows tt r.have_outcomes.are_outcomes),
+      λ knows. subst (AllByRecursion (IsTrueOf m)) (sym r.events_are) (all_true m c claims 0 no_ledger (map located_block r.have_outcomes.have_verdicts.blocks) r.outcomes r.parts knows tt r.have_outcomes.are_outcomes),
     );
   }
 

@@ -68,16 +68,16 @@ pub record Outcome : Type 0 where
 abbrev pub HasSolutionWith : Model → Option ℤ → Type 0
 HasSolutionWith m o = (A : Assignment) × IsSolution m A × (objective m (whole A) ≡ o)
 
-pub record IsOutcome (m : Model) (block : Block) (o : Outcome) : Type 0 where
+pub record IsOutcome (c : Completion) (m : Model) (block : Block) (o : Outcome) : Type 0 where
   pub filling : Partial
-  pub is_filled : IsFilled m block filling
+  pub is_filled : IsFilled c m block filling
   pub filled_is : o.filled ≡ objective m filling
   pub solved : o.verdict ≡ Satisfied → HasSolutionWith m o.found
 
-abbrev pub AreOutcomes : Model → List Block → List Outcome → Type 0
-AreOutcomes m [] [] = ⊤
-AreOutcomes m (b ∷ bs) (o ∷ os) = IsOutcome m b o × AreOutcomes m bs os
-AreOutcomes m _ _ = ⊥
+abbrev pub AreOutcomes : Completion → Model → List Block → List Outcome → Type 0
+AreOutcomes c m [] [] = ⊤
+AreOutcomes c m (b ∷ bs) (o ∷ os) = IsOutcome c m b o × AreOutcomes c m bs os
+AreOutcomes c m _ _ = ⊥
 
 abbrev pub verdicts_of : List Outcome → List Verdict
 verdicts_of os = map (λ o. o.verdict) os
@@ -86,7 +86,7 @@ verdicts_of os = map (λ o. o.verdict) os
 pub record HaveOutcomes (c : Completion) (m : Model) (parts : List StreamPart)
     (outcomes : List Outcome) : Type 0 where
   pub have_verdicts : HaveVerdicts c m parts (verdicts_of outcomes)
-  pub are_outcomes : AreOutcomes m (map located_block have_verdicts.blocks) outcomes
+  pub are_outcomes : AreOutcomes c m (map located_block have_verdicts.blocks) outcomes
 
 -- what is known of other streams is so: there are solutions, one with the best objective
 pub record Knows (m : Model) (k : Known) : Type 0 where

@@ -105,7 +105,7 @@ pub record HasTold (claims : Claims) (c : Completion) (m : Model) (j : Jury)
   pub blocks_are : map block_of blocks ≡ blocks_in parts
   pub places : AllByRecursion HasPlaces blocks
   pub judged : HasJudged c m j (map located_block blocks) (verdicts_of outcomes)
-  pub are_outcomes : AreOutcomes m (map located_block blocks) outcomes
+  pub are_outcomes : AreOutcomes c m (map located_block blocks) outcomes
   pub claims_are : j.claims ≡ claims
   pub ledger_is : j.ledger ≡ ledger m.aim claims 0 no_ledger outcomes parts
 

@@ -60,7 +60,8 @@ impl<'m, 'a, 'k> Jury<'m, 'a, 'k> {
         requires { self.old.tally.blocks < usize.MAX }
         ensures judged { IfOk result (λ v. JudgesOneMore self.old self.new
             (located_block block.now) (verdict_view v)) }
-        ensures outcome { IfOk result (λ v. IsOutcome self.old.judge.model
+        ensures outcome { IfOk result (λ v. IsOutcome self.old.judge.completion
+            self.old.judge.model
             (located_block block.now) (record {
               verdict = verdict_view v;
               filled = self.new.judge.before;

@@ -87,10 +87,10 @@ fn tell_parts<R: Read, W: Write, T: Taker>(
 /// with at most `reads` reads of 4,096 bytes. What is to be written for all that was read so far is
 /// written before the next read, and before any answer. One block at a time is in memory.
 ///
-/// Where completion is on, values are searched for that the solver left out, and what is found is
-/// judged as the filling is: it makes no block violated. It can make an undecided block satisfied,
-/// and a satisfied one undecided, where its objective isn't better than one that was found for the
-/// block before.
+/// Where completion is on, a block is judged by its second filling, and values are searched for that
+/// the solver left out. What is found is judged as the filling is: it makes no block violated. It can
+/// make an undecided block satisfied, and a satisfied one undecided, where its objective isn't better
+/// than one that was found for the block before.
 ///
 /// Where cutting is on, a stream that ends inside a block is no fault: the block is cut off, which
 /// is told before the answer, and the bytes before it are judged. A claim's line without LF in that

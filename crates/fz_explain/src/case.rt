@@ -5,7 +5,7 @@ use crate::verdict::{Reading, verdict_message, verdict_place};
 use fz_judge::fz_model::Model;
 use fz_judge::fz_stream::Block;
 use fz_judge::fz_syntax::{Ast, parse};
-use fz_judge::{Verdict, fill_with_steps};
+use fz_judge::{Completion, Verdict, fill_with_steps};
 use fz_places::NameTable;
 use std::alloc::{AllocError, Global};
 
@@ -24,18 +24,18 @@ pub struct Explainer<'a, 'n> {
     text: Text<'a>,
     ast: Option<Ast<'a>>,
     names: NameTable<'n>,
-    completes: bool,
+    completion: Completion,
 }
 
 impl<'a, 'n> Explainer<'a, 'n> {
     /// Takes the text of the model, the table of its names, and whether values that the solver left
     /// out are looked for.
-    pub fn new(text: Text<'a>, names: NameTable<'n>, completes: bool) -> Explainer<'a, 'n> {
+    pub fn new(text: Text<'a>, names: NameTable<'n>, completion: Completion) -> Explainer<'a, 'n> {
         Explainer {
             text,
             ast: None,
             names,
-            completes,
+            completion,
         }
     }
 
@@ -96,7 +96,7 @@ impl<'a, 'n> Explainer<'a, 'n> {
         case: &Case<'_, 'm>,
         ast: &Ast<'a>,
     ) -> Result<Option<Message>, AllocError> {
-        let Ok((filling, steps)) = fill_with_steps(alloc, model, case.block) else {
+        let Ok((filling, steps)) = fill_with_steps(alloc, model, self.completion, case.block) else {
             return Ok(None);
         };
         let reading = Reading {
@@ -105,7 +105,7 @@ impl<'a, 'n> Explainer<'a, 'n> {
             text: self.text,
             ast,
             names: &self.names,
-            completes: self.completes,
+            completion: self.completion,
             filling: &filling,
             steps: &steps,
         };

@@ -4,7 +4,7 @@ use crate::excerpt::shown_text;
 use crate::message::Message;
 use crate::verdict::Reading;
 use fz_judge::fz_model::Model;
-use fz_judge::{Reason, Verdict};
+use fz_judge::{Completion, Reason, Verdict};
 use std::alloc::{AllocError, Global};
 
 /// A variable has no value, and none was looked for.
@@ -55,10 +55,9 @@ fn note_help_on_value(
         message.note(told)?;
         note(alloc, message, USE_LIBRARY)?;
     }
-    let told = if reading.completes {
-        PRINT_ALL
-    } else {
-        LOOK_FOR_IT
+    let told = match reading.completion {
+        Completion::On => PRINT_ALL,
+        Completion::Off => LOOK_FOR_IT,
     };
     note(alloc, message, told)
 }

@@ -20,7 +20,7 @@ use crate::variables::variables_of;
 use fz_base::Span;
 use fz_judge::fz_model::{Goal, Model, Partial, Point, Term};
 use fz_judge::fz_syntax::{Ast, Basic, Goal as GoalItem};
-use fz_judge::{Fault, Giver, Reason, Verdict};
+use fz_judge::{Completion, Fault, Giver, Reason, Verdict};
 use fz_places::NameTable;
 use fz_reasons::reason_at;
 use std::alloc::{AllocError, Global};
@@ -33,7 +33,7 @@ pub(crate) struct Reading<'s, 'e, 'a, 't, 'n> {
     pub text: Text<'t>,
     pub ast: &'s Ast<'t>,
     pub names: &'s NameTable<'n>,
-    pub completes: bool,
+    pub completion: Completion,
     pub filling: &'s Partial,
     pub steps: &'s [Giver],
 }

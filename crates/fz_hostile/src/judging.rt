@@ -67,7 +67,7 @@ fn is_memory(rt: &HostRuntime, error: BlockError) -> bool {
 /// Fills a block, and prints its values and the steps that gave them, or the refusal. Whether
 /// memory ran out.
 fn steps_lack_memory(rt: &HostRuntime, model: &Model<'_>, block: &Block<'_>) -> bool {
-    match fill_with_steps(rt.alloc(), model, block) {
+    match fill_with_steps(rt.alloc(), model, Completion::Off, block) {
         Ok((partial, steps)) => {
             tell(rt, &partial.values());
             tell(rt, &steps);

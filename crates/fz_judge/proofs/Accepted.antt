@@ -23,13 +23,13 @@ use Rattle.fz_search.proofs.of_model.Scope.{kind_of_term, HasNumberKind, AimsAtN
 use Rattle.fz_search.proofs.of_model.States.{intro, judged_holds, point_holds}
 use Rattle.fz_search.proofs.of_model.Steps.{as_number_of}
 use Rattle.fz_search.proofs.of_model.Values.{no, no', same_value_is, same_values_is}
-use Rattle.fz_judge.specs.Solutions.{Printed, PrintedValue, Block, ExtendsItems, Extends, HasPrinted, printed_values, IsBetter, SolveInTurn}
+use Rattle.fz_judge.specs.Solutions.{Printed, PrintedValue, Block, Extends, HasPrinted, printed_values, IsBetter, SolveInTurn}
 use Rattle.fz_judge.specs.Verdict.{Verdict, Fault, Reason, verdict, verdict_by, has_printed, printed_fails, fault_at, reason_at, point_fails, point_undecided, objective_fails, not_better_if, AreJudged, answer_of, answer_by, first_number, is_violated, is_undecided}
 use Rattle.fz_judge.specs.Verdict.Verdict.{Satisfied, Violated, Undecided}
 use Rattle.fz_judge.specs.Verdict.Fault.{PrintedFault}
 use Rattle.fz_judge.specs.Verdict.AreJudged.{NoneLeft, OneMore}
 use Rattle.fz_judge.specs.Verdict.Answer.{Accepted}
-use Rattle.fz_judge.proofs.Chains.{assigned}
+use Rattle.fz_judge.proofs.Chains.{Prints, assigned}
 
 -- ---- nothing fails and nothing is undecided
 
@@ -133,12 +133,12 @@ passes_printed : (b : Bool) (f : Fault) → cond b None (Some f) ≡ None → b 
 passes_printed true f e = refl
 passes_printed false f e = cc
 
-extends_all : (m : Model) (A : Assignment) (items : List Printed)
-    → AllByRecursion (λ i. printed_fails m (whole A) i ≡ None) items → ExtendsItems m A items
-extends_all m A [] h = tt
-extends_all m A (i ∷ block) h =
-    let (p, found, has) = by_some (λ p. has_printed (whole A) p i.value) (find_name m i.name.text) (passes_printed _ (PrintedFault i.name.text) h.0) in
-    (intro (λ p. HasPrinted (whole A) p i.value) (find_name m i.name.text) p found (place_printed (whole A) p i.value has), extends_all m A block h.1)
+pub prints_all : (m : Model) (K : Partial) (items : List Printed)
+    → AllByRecursion (λ i. printed_fails m K i ≡ None) items → Prints m K items
+prints_all m K [] h = tt
+prints_all m K (i ∷ block) h =
+    let (p, found, has) = by_some (λ p. has_printed K p i.value) (find_name m i.name.text) (passes_printed _ (PrintedFault i.name.text) h.0) in
+    (intro (λ p. HasPrinted K p i.value) (find_name m i.name.text) p found (place_printed K p i.value has), prints_all m K block h.1)
 
 -- ---- a satisfied block
 
@@ -163,7 +163,7 @@ satisfied_solves m K block before partial e =
     record {
       assignment = A;
       is = is;
-      extends = extends_all m A block.items (subst (λ L. AllByRecursion (λ i. printed_fails m L i ≡ None) block.items) (sym is) (first_none (printed_fails m K) block.items none_printed));
+      extends = prints_all m (whole A) block.items (subst (λ L. AllByRecursion (λ i. printed_fails m L i ≡ None) block.items) (sym is) (first_none (printed_fails m K) block.items none_printed));
       solution = record {
         assignment = subst (IsPartial m) (sym is) partial;
         each_holds = all_map (λ p. state (whole A) p ≡ Holds) (HoldsUnder (whole A)) (point_holds (whole A)) (points m) (subst (λ L. AllByRecursion (λ p. state L p ≡ Holds) (points m)) (sym is) hold);

@@ -3,8 +3,9 @@ use Rattle.std.proofs.Common.{◌≡◌, ◌||◌, ℕ, suc, zero, pos, negsuc, 
 use Rattle.std.specs.List.{AllByRecursion, list_any}
 use Rattle.fz_base.specs.declared.value.Value.{Value}
 use Rattle.fz_base.specs.declared.value.Value.TheVariants.{Int}
-use Rattle.fz_search.specs.of_model.Builtins.{Row}
-use Rattle.fz_search.specs.of_model.States.{leaves_128, product_before, known_products, products_leave, sums_leave, terms_at_argument}
+use Rattle.fz_search.specs.of_model.declared.State.TheVariants.{TooLarge}
+use Rattle.fz_search.specs.of_model.Builtins.{ArgValue, Row}
+use Rattle.fz_search.specs.of_model.States.{judged, state_of_row, state_of_values, leaves_128, product_before, known_products, products_leave, sums_leave, terms_at_argument}
 use Rattle.fz_search.specs.of_model.Results.{Result, result_of}
 use Rattle.fz_search.specs.of_model.Builtins.ArgValue.{OneValue, ManyValues}
 use Rattle.fz_search.specs.of_model.Results.Result.{NoResult, Places, UnitTerm}
@@ -74,6 +75,16 @@ module _ (K L : Partial) where
   sums_agree xs ((i, j) ∷ ps) h =
       let products = products_agree (terms_at_argument xs i) (terms_at_argument xs j) (argument_at_agrees xs i h) (argument_at_agrees xs j h) in
       λ k. leaves_128 (products k) || sums_agree xs ps h k
+
+  -- a constraint has the same state
+  pub row_state_agrees : (xs : List Argument) (o : Option Row) → Agree K L (flat_map terms_in xs)
+      → state_of_row K xs o ≡ state_of_row L xs o
+  row_state_agrees xs None h = refl
+  row_state_agrees xs (Some r) h = ap (state_of_values K xs r) (arguments_agree xs h) ∙ by_values (argument_values L xs)
+    where
+      by_values : (o : Option (List ArgValue)) → state_of_values K xs r o ≡ state_of_values L xs r o
+      by_values None = refl
+      by_values (Some vs) = ap (λ b. cond b TooLarge (judged (row_holds r vs))) (sums_agree xs r.sums h)
 
   -- ---- the parts of a step
 

@@ -8,6 +8,8 @@ use Rattle.fz_search.specs.of_model.Relations.{kind_of}
 use Rattle.fz_search.specs.of_model.Builtins.{ArgValue}
 use Rattle.fz_search.specs.of_model.Builtins.ArgValue.{OneValue, ManyValues}
 use Rattle.fz_search.specs.of_model.Meaning.{Place, Argument, Variable, Model, Point, Partial, Assignment, value, values, value_at, give, whole, option_cons, terms_in, argument_value, argument_values, row_of, row_holds, points, inside, find_name, HoldsUnder, IsAssignment, FitVariables, variables_of}
+use Rattle.fz_search.specs.of_model.Aimed.{aimed}
+use Rattle.fz_search.specs.of_model.Openings.{HasEach}
 use Rattle.fz_search.specs.of_model.States.{HoldsIfKnown, IsKnownSolution}
 use Rattle.fz_search.specs.of_model.declared.Term.{Term}
 use Rattle.fz_search.specs.of_model.declared.Term.TheVariants.{Var, Fixed}
@@ -15,13 +17,16 @@ use Rattle.fz_search.specs.of_model.Meaning.Place.{Scalar, Array}
 use Rattle.fz_search.specs.of_model.Meaning.Argument.{One, ListOf}
 use Rattle.fz_search.specs.of_model.Meaning.Point.{DomainPoint, DefinitionPoint, ArrayPoint, ConstraintPoint}
 use Rattle.fz_search.specs.of_model.Steps.{Gives, IsTarget}
-use Rattle.fz_search.proofs.of_model.Lists.{all_append, all_right, all_drop, all_take, all_enumerated, all_both}
+use Rattle.fz_search.proofs.of_model.Lists.{all_append, all_right, all_drop, all_take, all_enumerated, all_both, at_place}
 use Rattle.fz_search.proofs.of_model.Points.{points_fit}
 use Rattle.fz_search.proofs.of_model.States.{intro}
 use Rattle.fz_search.proofs.of_model.Steps.{some_of, PointFits, only_value, option_cons_parts, map_some}
-use Rattle.fz_judge.specs.Solutions.{Block, Printed, PrintedValue, ExtendsItems, Extends, HasPrinted, printed_values}
-use Rattle.fz_judge.specs.Filling.{IsFirstStep, Chain, counted_from, IsFilling, HasAllOf, pairs, pairs_at, printed_scalars, first_printed, start_from, start}
+use Rattle.fz_judge.specs.Solutions.{Block, Printed, PrintedValue, Extends, HasPrinted, printed_values}
+use Rattle.fz_judge.specs.Filling.{IsFirstStep, Chain, counted_from, Further, IsFilling, pairs, pairs_at, printed_scalars, first_printed, start_from, start}
 use Rattle.fz_judge.specs.Filling.Chain.{Ends, Step}
+use Rattle.fz_judge.specs.Filling.Further.{Stays, Goes}
+use Rattle.fz_judge.specs.declared.completion.Completion.{Completion}
+use Rattle.fz_judge.specs.declared.completion.Completion.TheVariants.{Off, On}
 
 -- what holds of each point holds of the one of a first step
 pub at_first_step : (P : Point → Type 0) (m : Model) (K : Partial) (from k n : ℕ) (v : Value)
@@ -34,7 +39,7 @@ at_first_step P m K from k n v h s =
 
 -- ---- one partial assignment under another
 
-module _ (K L : Partial) (under : HasAllOf K L) where
+module _ (K L : Partial) (under : HasEach K L) where
   pub value_under : (t : Term) (v : Value) → value K t ≡ Some v → value L t ≡ Some v
   value_under (Var n) v e = under n v e
   value_under (Fixed w) v e = e
@@ -110,8 +115,8 @@ given_or_before (o ∷ K) zero (suc k) v u e = inr e
 given_or_before (o ∷ K) (suc n) zero v u e = inr e
 given_or_before (o ∷ K) (suc n) (suc k) v u e = elim (given_or_before K n k v u e) [ inl h ↦ inl (ap suc h.0, h.1) | inr h ↦ inr h ]
 
-under_give : (K L : Partial) (n : ℕ) (v : Value) → HasAllOf K L → value_at L n ≡ Some v
-    → HasAllOf (give K n v) L
+under_give : (K L : Partial) (n : ℕ) (v : Value) → HasEach K L → value_at L n ≡ Some v
+    → HasEach (give K n v) L
 under_give K L n v under at k u e = elim (given_or_before K n k v u e) [ inl h ↦ ap (value_at L) h.0 ∙ at ∙ ap Some (sym h.1) | inr h ↦ under k u h ]
 
 -- ---- a step
@@ -132,7 +137,7 @@ assigned (x ∷ xs) (a ∷ A) (suc n) k h e = assigned xs A n k h.1 e
 -- where the point holds with one value of the variable, it holds with the one that a known-solution
 -- has
 holds_too : (A : Assignment) (K : Partial) (p : Point) (n : ℕ) (v w : Value) → IsTarget K p n
-    → HasAllOf (give K n w) (whole A) → HoldsIfKnown (whole A) p → HoldsUnder (give K n v) p
+    → HasEach (give K n w) (whole A) → HoldsIfKnown (whole A) p → HoldsUnder (give K n v) p
     → HoldsUnder (give K n w) p
 holds_too A K (DomainPoint x k) n v w target under h s =
     let (u, at, in') = some_of (λ z. IsTrue (inside x.domain z)) (value_at (give K n v) k) s in
@@ -162,7 +167,7 @@ holds_too A K (ConstraintPoint k p) n v w target under h s =
 
 -- a known-solution has the value of a forced step
 step_agrees : (m : Model) (A : Assignment) (K : Partial) (p : Point) (n : ℕ) (v : Value)
-    → IsAssignment m A → HoldsIfKnown (whole A) p → PointFits m p → HasAllOf K (whole A)
+    → IsAssignment m A → HoldsIfKnown (whole A) p → PointFits m p → HasEach K (whole A)
     → Gives m K p n v → value_at (whole A) n ≡ Some v
 step_agrees m A K p n v assignment h fits under g =
     let (w, at, kind) = assigned (variables_of m) A n (kind_of v) assignment g.of_kind in
@@ -171,12 +176,34 @@ step_agrees m A K p n v assignment h fits under g =
 
 -- along the chain a known-solution that agrees with the start agrees with the end
 pub chain_agrees : (m : Model) (A : Assignment) {K : Partial} {from : ℕ} {F : Partial}
-    → IsKnownSolution m A → HasAllOf K (whole A) → Chain m K from F → HasAllOf F (whole A)
+    → IsKnownSolution m A → HasEach K (whole A) → Chain m K from F → HasEach F (whole A)
 chain_agrees m A solution under (Ends h) = under
 chain_agrees m A solution under (Step {K = K} {from = from} {k = k} {n = n} {v = v} s rest) =
     let both : HoldsIfKnown (whole A) s.point × PointFits m s.point =
     at_first_step (λ p. HoldsIfKnown (whole A) p × PointFits m p) m K from k n v (all_both (HoldsIfKnown (whole A)) (PointFits m) (points m) solution.each_holds (points_fit m)) s in
     chain_agrees m A solution (under_give K (whole A) n v under (step_agrees m A K s.point n v solution.assignment both.0 both.1 under s.gives)) rest
+
+-- what is asked of a point doesn't depend on which variable it may give its value
+aimed_holds : (K : Partial) (n : ℕ) (p : Point) → HoldsIfKnown K p → HoldsIfKnown K (aimed n p)
+aimed_holds K n (DomainPoint x k) h = h
+aimed_holds K n (DefinitionPoint x k e) h = h
+aimed_holds K n (ArrayPoint name d ts) h = h
+aimed_holds K n (ConstraintPoint k p) h = h
+
+pub aimed_fits : (m : Model) (n : ℕ) (p : Point) → PointFits m p → PointFits m (aimed n p)
+aimed_fits m n (DomainPoint x k) h = h
+aimed_fits m n (DefinitionPoint x k e) h = h
+aimed_fits m n (ArrayPoint name d ts) h = h
+aimed_fits m n (ConstraintPoint k p) h = h
+
+-- the same along the steps of a second filling
+further_agrees : (m : Model) (A : Assignment) {K G : Partial} → IsKnownSolution m A
+    → HasEach K (whole A) → Further m K G → HasEach G (whole A)
+further_agrees m A solution under Stays = under
+further_agrees m A solution under (Goes {K = K} {n = n} {v = v} k p at gives rest) =
+    let holds : HoldsIfKnown (whole A) (aimed n p) = aimed_holds (whole A) n p (at_place (HoldsIfKnown (whole A)) (points m) k p solution.each_holds at) in
+    let fits : PointFits m (aimed n p) = aimed_fits m n p (at_place (PointFits m) (points m) k p (points_fit m) at) in
+    further_agrees m A solution (under_give K (whole A) n v under (step_agrees m A K (aimed n p) n v solution.assignment holds fits under gives)) rest
 
 -- ---- the start
 
@@ -201,17 +228,21 @@ place_agrees K (Scalar k t) (PrintedValue.ArrayOf is ls) h = absurd h
 place_agrees K (Array name k ts) (PrintedValue.OneValue l) h = absurd h
 place_agrees K (Array name k ts) (PrintedValue.ArrayOf is ls) h = pairs_agree K ts (printed_values ls) h
 
-item_agrees : (A : Assignment) (o : Option Place) (printed : PrintedValue)
-    → IsSomeAnd o (λ p. HasPrinted (whole A) p printed)
-    → AllByRecursion (Agrees (whole A)) (option_map_or (λ p. pairs_at p printed) o [])
-item_agrees A None printed h = absurd h
-item_agrees A (Some p) printed h = place_agrees (whole A) p printed h
+item_agrees : (K : Partial) (o : Option Place) (printed : PrintedValue)
+    → IsSomeAnd o (λ p. HasPrinted K p printed)
+    → AllByRecursion (Agrees K) (option_map_or (λ p. pairs_at p printed) o [])
+item_agrees K None printed h = absurd h
+item_agrees K (Some p) printed h = place_agrees K p printed h
 
-pub printed_agree : (m : Model) (A : Assignment) (items : List Printed) → ExtendsItems m A items
-    → AllByRecursion (Agrees (whole A)) (printed_scalars m items)
-printed_agree m A [] h = tt
-printed_agree m A (i ∷ block) h =
-    all_append (Agrees (whole A)) (option_map_or (λ p. pairs_at p i.value) (find_name m i.name.text) []) (printed_scalars m block) (item_agrees A (find_name m i.name.text) i.value h.0) (printed_agree m A block h.1)
+-- each printed name has the printed value, as where an assignment extends the block
+abbrev pub Prints : Model → Partial → List Printed → Type 0
+Prints m K items = AllByRecursion (λ i. IsSomeAnd (find_name m i.name.text) (λ p. HasPrinted K p i.value)) items
+
+pub printed_agree : (m : Model) (K : Partial) (items : List Printed) → Prints m K items
+    → AllByRecursion (Agrees K) (printed_scalars m items)
+printed_agree m K [] h = tt
+printed_agree m K (i ∷ block) h =
+    all_append (Agrees K) (option_map_or (λ p. pairs_at p i.value) (find_name m i.name.text) []) (printed_scalars m block) (item_agrees K (find_name m i.name.text) i.value h.0) (printed_agree m K block h.1)
 
 -- the value where a variable is printed first is one of those printed
 first_agrees : (K : Partial) (qs : List (Term × Value)) (n : ℕ) (v : Value)
@@ -234,10 +265,12 @@ start_is qs n (x ∷ xs) zero v e = ap (first_printed qs) (add-zero n) ∙ e
 start_is qs n (x ∷ xs) (suc k) v e = let count : n + suc k ≡ suc n + k = omega arith in ap (first_printed qs) count ∙ start_is qs (suc n) xs k v e
 
 start_agrees : (m : Model) (A : Assignment) (block : Block) → Extends m A block
-    → HasAllOf (start m block) (whole A)
-start_agrees m A block h n v e = first_agrees (whole A) (printed_scalars m block.items) n v (printed_agree m A block.items h) (ap (first_printed (printed_scalars m block.items)) (sym (zero-add n)) ∙ start_is (printed_scalars m block.items) 0 (variables_of m) n v e)
+    → HasEach (start m block) (whole A)
+start_agrees m A block h n v e = first_agrees (whole A) (printed_scalars m block.items) n v (printed_agree m (whole A) block.items h) (ap (first_printed (printed_scalars m block.items)) (sym (zero-add n)) ∙ start_is (printed_scalars m block.items) 0 (variables_of m) n v e)
 
 -- a known-solution that extends a block agrees with its filling
-pub filling_agrees : (m : Model) (A : Assignment) (block : Block) (F : Partial)
-    → IsKnownSolution m A → Extends m A block → IsFilling m block F → HasAllOf F (whole A)
-filling_agrees m A block F solution extends filling = chain_agrees m A solution (start_agrees m A block extends) filling
+pub filling_agrees : (c : Completion) (m : Model) (A : Assignment) (block : Block) (F : Partial)
+    → IsKnownSolution m A → Extends m A block → IsFilling c m block F → HasEach F (whole A)
+filling_agrees Off m A block F solution extends filling = chain_agrees m A solution (start_agrees m A block extends) filling
+filling_agrees On m A block G solution extends (F, chain, furthered) =
+    further_agrees m A solution (filling_agrees Off m A block F solution extends chain) furthered.reached

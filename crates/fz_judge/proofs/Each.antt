@@ -63,8 +63,12 @@ pub each_violated : (c : Completion) (m : Model) (blocks : List Block) (vs : Lis
     → ((now earlier : ℤ) → f ≡ NotBetter now earlier → ⊥) → (A : Assignment) → IsKnownSolution m A → Extends m A block → ⊥
 each_violated c m blocks vs i block f are at is other =
     let w : FilledVerdicts c m None blocks vs = filled_verdicts c m are in
-    let j : JudgedAt m (IsFilled m) None blocks i block (Violated f) = judged_at m (IsFilled m) w.judged i block (Violated f) at (w.violated i f is) in
-    violated_has_none m block j.proposed j.kept f j.is_proposed.filling j.is (λ h. let (now, earlier, e) = is_not_better f h in other now earlier e)
+    elim (w.violated i block f at is) [
+      | inl here ↦
+          let j : JudgedAt m (IsFilled c m) None blocks i block (Violated f) = judged_at m (IsFilled c m) w.judged i block (Violated f) at here in
+          violated_has_none c m block j.proposed j.kept f j.is_proposed.filling j.is (λ h. let (now, earlier, e) = is_not_better f h in other now earlier e)
+      | inr none ↦ none.1
+    ]
 
 -- Where it is violated by its objective, there is a block before it, and no two known-solutions
 -- that extend the two improve.
@@ -75,16 +79,20 @@ pub each_not_better : (c : Completion) (m : Model) (blocks : List Block) (vs : L
     × ((A B : Assignment) → IsKnownSolution m A → Extends m A earlier → IsKnownSolution m B → Extends m B block → Improves m (Some A) B → ⊥)
 each_not_better c m blocks vs i block now before are at is =
     let w : FilledVerdicts c m None blocks vs = filled_verdicts c m are in
-    let j : JudgedAt m (IsFilled m) None blocks i block (Violated (NotBetter now before)) = judged_at m (IsFilled m) w.judged i block (Violated (NotBetter now before)) at (w.violated i (NotBetter now before) is) in
-    elim j.kept_from [
-      | inl first ↦ absurd (never_first m j.proposed block (NotBetter now before) tt (subst (λ k. verdict m j.proposed block k ≡ Violated (NotBetter now before)) first.1 j.is))
-      | inr b ↦ (
-        b.place,
-        b.block,
-        b.follows,
-        b.at,
-        not_better_has_none m b.block block b.proposed j.proposed (NotBetter now before) b.is_proposed.filling j.is_proposed.filling (subst (λ k. verdict m j.proposed block k ≡ Violated (NotBetter now before)) b.kept_is j.is),
-      )
+    elim (w.violated i block (NotBetter now before) at is) [
+      | inl here ↦
+          let j : JudgedAt m (IsFilled c m) None blocks i block (Violated (NotBetter now before)) = judged_at m (IsFilled c m) w.judged i block (Violated (NotBetter now before)) at here in
+          elim j.kept_from [
+            | inl first ↦ absurd (never_first m j.proposed block (NotBetter now before) tt (subst (λ k. verdict m j.proposed block k ≡ Violated (NotBetter now before)) first.1 j.is))
+            | inr b ↦ (
+              b.place,
+              b.block,
+              b.follows,
+              b.at,
+              not_better_has_none c m b.block block b.proposed j.proposed (NotBetter now before) b.is_proposed.filling j.is_proposed.filling (subst (λ k. verdict m j.proposed block k ≡ Violated (NotBetter now before)) b.kept_is j.is),
+            )
+          ]
+      | inr point ↦ absurd (point.0 now before refl)
     ]
 
 -- Block number i that is satisfied has a solution that extends it.

@@ -21,6 +21,8 @@ pub mod Posting
 pub mod Reordering
 pub mod Runs
 pub mod Noting
+pub mod Furthering
+pub mod Lasting
 pub use Rattle.fz_search.proofs.of_model
 pub use Rattle.fz_stream.proofs as of_stream
 pub use Rattle.fz_stream.proofs.of_syntax

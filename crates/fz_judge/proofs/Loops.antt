@@ -27,7 +27,7 @@ GoesOn c m blocks vs filled found = (more : List Block) (ws : List Verdict) → 
 
 pub goes_on_after : (c : Completion) (m : Model) (blocks : List Block) (vs : List Verdict)
     (filled found kept : Option ℤ) (block : Block) (v : Verdict) (F : Partial)
-    → GoesOn c m blocks vs filled found → IsFilled m block F → IsToldBy c m block found F (verdict m F block filled) v kept → GoesOn c m (blocks ++ block ∷ []) (vs ++ v ∷ []) (objective m F) kept
+    → GoesOn c m blocks vs filled found → IsFilled c m block F → IsToldBy c m block found F (verdict m F block filled) v kept → GoesOn c m (blocks ++ block ∷ []) (vs ++ v ∷ []) (objective m F) kept
 goes_on_after c m blocks vs filled found kept block v F goes is_filled told = λ more ws rest.
     subst₂ (λ bs us. AreVerdicts c m bs us) (sym (append_assoc blocks (block ∷ []) more)) (sym (append_assoc vs (v ∷ []) ws))
     (goes (block ∷ more) (v ∷ ws) (OneMore F is_filled told rest))

@@ -8,7 +8,7 @@ use Rattle.fz_search.specs.of_model.Relations.{kind_of}
 use Rattle.fz_search.specs.of_model.Meaning.{Model, Point, Partial, value, value_at, give}
 use Rattle.fz_search.specs.of_model.Steps.{Gives, open_terms, terms_of}
 use Rattle.fz_search.proofs.of_model.Steps.{PointFits, only_value, only_open_none, value_at_other, filter-none, is_open}
-use Rattle.fz_judge.specs.Filling.{HasAllOf}
+use Rattle.fz_search.specs.of_model.Openings.{HasEach}
 use Rattle.fz_judge.proofs.Chains.{value_under}
 use Rattle.fz_judge.specs.Outlooks.{Agree, IsLater, IsOpen}
 use Rattle.fz_judge.proofs.Agreeing.{agree_back, gives_agree}
@@ -41,7 +41,7 @@ swapped (o ∷ K) (suc j) (suc k) u v other = ap (λ L. o ∷ L) (swapped K j k 
 
 -- ---- scalars with the same values, or none, under both
 
-module _ (K L : Partial) (under : HasAllOf K L) where
+module _ (K L : Partial) (under : HasEach K L) where
   same_value : (t : Term) (o : Option Value) → value K t ≡ o → is_none o ≡ false
       → value K t ≡ value L t
   same_value t None e closed = cc

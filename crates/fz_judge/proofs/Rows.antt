@@ -18,6 +18,7 @@ use Rattle.fz_search.proofs.of_model.Writing.{name_at, span_at, named, literal, 
 use Rattle.fz_judge.specs.Solutions.{Printed, Block}
 use Rattle.fz_judge.specs.BlockFaults.{block_fault, BlockFaultKind}
 use Rattle.fz_judge.specs.Solutions.PrintedValue.{OneValue, ArrayOf}
+use Rattle.fz_judge.specs.declared.completion.Completion.TheVariants.{Off}
 use Rattle.fz_judge.specs.Filling.{start, IsFilling}
 use Rattle.fz_judge.specs.Filling.Chain.{Ends, Step}
 use Rattle.fz_judge.specs.Verdict.{Verdict, verdict, answer_of, Answer}
@@ -174,7 +175,7 @@ one_number a k = ((λ e. int_le_antisymmetric k (pos a) (and_second (int_le (pos
     itself : (a : ℕ) → int_le (pos a) (pos a) ≡ true
     itself a = le-leb a a (le_refl a)
 
-yx_filled : IsFilling yx (block_of []) (Some (Int (pos 2)) ∷ Some (Int (pos 1)) ∷ [])
+yx_filled : IsFilling Off yx (block_of []) (Some (Int (pos 2)) ∷ Some (Int (pos 1)) ∷ [])
 yx_filled =
     Step {k = 0} {n = 0} {v = Int (pos 2)} (record {
       point = DomainPoint (record { name = y; kind = IntKind; domain = Within (pos 2) (pos 2) }) 0;

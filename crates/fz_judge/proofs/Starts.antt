@@ -21,11 +21,14 @@ use Rattle.fz_judge.specs.Solutions.{Printed, PrintedValue, Block, printed_value
 use Rattle.fz_judge.specs.BlockFaults.{BlockFault, fault_if, literal_fault, value_fault, printed_fault, items_fault, block_fault, moved}
 use Rattle.fz_judge.specs.Solutions.PrintedValue.{OneValue, ArrayOf}
 use Rattle.fz_judge.specs.BlockFaults.BlockFaultKind.{UnknownName, WrongKind, WrongLength}
-use Rattle.fz_judge.specs.Filling.{Chain, pairs, pairs_at, printed_scalars, first_printed, start_from, start}
+use Rattle.fz_judge.specs.Filling.{Chain, Further, IsFilling, pairs, pairs_at, printed_scalars, first_printed, start_from, start}
 use Rattle.fz_judge.specs.Filling.Chain.{Ends, Step}
+use Rattle.fz_judge.specs.Filling.Further.{Stays, Goes}
+use Rattle.fz_judge.specs.declared.completion.Completion.{Completion}
+use Rattle.fz_judge.specs.declared.completion.Completion.TheVariants.{Off, On}
 use Rattle.fz_judge.specs.Verdict.{IsFilled, IsProposed}
 use Rattle.fz_judge.proofs.Accepted.{or_none, first_none}
-use Rattle.fz_judge.proofs.Violated.{chain_grows}
+use Rattle.fz_judge.proofs.Violated.{filling_grows}
 
 -- ---- what is printed has the kind
 
@@ -124,11 +127,21 @@ pub chain_is_partial : (m : Model) {K : Partial} {from : ℕ} {F : Partial} → 
 chain_is_partial m h (Ends k) = h
 chain_is_partial m h (Step {K = K} {n = n} {v = v} s rest) = chain_is_partial m (give_fits (variables_of m) K n v h s.gives.of_kind) rest
 
+pub further_is_partial : (m : Model) {K G : Partial} → IsPartial m K → Further m K G
+    → IsPartial m G
+further_is_partial m h Stays = h
+further_is_partial m h (Goes {K = K} {n = n} {v = v} k p at gives rest) = further_is_partial m (give_fits (variables_of m) K n v h gives.of_kind) rest
+
+filling_is_partial : (c : Completion) (m : Model) (block : Block) (F : Partial)
+    → IsPartial m (start m block) → IsFilling c m block F → IsPartial m F
+filling_is_partial Off m block F h filled = chain_is_partial m h filled
+filling_is_partial On m block G h (F, chain, furthered) = further_is_partial m (chain_is_partial m h chain) furthered.reached
+
 -- The filling of a block without fault is a partial assignment that has every value of the start.
-pub filling_proposed : (t : LocatedTree) (block : Block) (F : Partial) → HasNoFault t
-    → IsFilled (model_of t) block F → IsProposed (model_of t) block F
-filling_proposed t block F sound filled = record {
+pub filling_proposed : (c : Completion) (t : LocatedTree) (block : Block) (F : Partial)
+    → HasNoFault t → IsFilled c (model_of t) block F → IsProposed (model_of t) block F
+filling_proposed c t block F sound filled = record {
   no_fault = filled.no_fault;
-  partial = chain_is_partial (model_of t) (start_is_partial t sound block filled.no_fault) filled.filling;
-  has_start = chain_grows (model_of t) filled.filling;
+  partial = filling_is_partial c (model_of t) block F (start_is_partial t sound block filled.no_fault) filled.filling;
+  has_start = filling_grows c (model_of t) block F filled.filling;
 }

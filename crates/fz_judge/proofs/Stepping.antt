@@ -7,7 +7,8 @@ use Rattle.std.proofs.lemmas.Option.{slice_get_within}
 use Rattle.fz_base.specs.declared.value.Value.{Value}
 use Rattle.fz_search.specs.of_model.Meaning.{Model, Point, Partial, give, value_at, variables_of, points, IsPartial}
 use Rattle.fz_search.specs.of_model.Partial.{unset_count}
-use Rattle.fz_search.specs.of_model.Steps.{Gives, GivesNothing, terms_of}
+use Rattle.fz_search.specs.of_model.Aimed.{GivesNone, aimed}
+use Rattle.fz_search.specs.of_model.Steps.{GivesNothing, terms_of}
 use Rattle.fz_search.specs.of_model.Relations.{kind_of}
 use Rattle.fz_search.proofs.of_model.Lists.{there_is}
 use Rattle.fz_search.proofs.of_model.Partials.{give_fits, has_place}
@@ -73,16 +74,23 @@ all_set (Some u ∷ K) zero h e none = cc
 all_set (Some u ∷ K) (suc n) h e none = all_set K n (omega arith) e none
 
 -- where each variable has a value, no point gives a step
+gives_nothing : (m : Model) (K : Partial) → IsPartial m K → unset_count K ≡ 0 → (p : Point)
+    → GivesNothing m K p
+gives_nothing m K fits none p n v g = all_set K n (has_place m K n (kind_of v) fits g.of_kind) (only_open_none K n (terms_of p) g.only_open) none
+
+pub at_each : (P : Point → Type 0) (ps : List Point)
+    → ((k : ℕ) (p : Point) → slice_get ps k ≡ Some p → P p) → AllByRecursion P ps
+at_each P [] h = tt
+at_each P (p ∷ ps) h = (h 0 p refl, at_each P ps (λ k q at. h (suc k) q at))
+
 pub nothing_left : (m : Model) (K : Partial) → IsPartial m K → unset_count K ≡ 0
     → AllByRecursion (GivesNothing m K) (points m)
-nothing_left m K fits none = each (points m)
-  where
-    gives_nothing : (p : Point) → GivesNothing m K p
-    gives_nothing p n v g = all_set K n (has_place m K n (kind_of v) fits g.of_kind) (only_open_none K n (terms_of p) g.only_open) none
+nothing_left m K fits none = at_each (GivesNothing m K) (points m) (λ k p at. gives_nothing m K fits none p)
 
-    each : (ps : List Point) → AllByRecursion (GivesNothing m K) ps
-    each [] = tt
-    each (p ∷ ps) = (gives_nothing p, each ps)
+-- nor by whichever result
+pub none_left : (m : Model) (K : Partial) → IsPartial m K → unset_count K ≡ 0
+    → AllByRecursion (GivesNone m K) (points m)
+none_left m K fits none = at_each (GivesNone m K) (points m) (λ k p at n v. gives_nothing m K fits none (aimed n p) n v)
 
 pub at_some : {A : Type 0} (P : A → Type 0) (o : Option A) (x : A) → o ≡ Some x → IfSome o P → P x
 at_some P o x e h = subst (λ p. IfSome p P) e h
@@ -133,7 +141,7 @@ pub no_steps : (m : Model) (S : Partial) → ReachesBy m S S 0 []
 no_steps m S = λ F c. (c, refl)
 
 -- the point of a number, and what it gives
-pub point_gives : (m : Model) (K : Partial) (k n : ℕ) (v : Value) (o : Option (ℕ × Value))
-    (all : ℕ) → o ≡ Some (n, v) → all ≡ length (points m) → k < all
-    → IfSome o (λ r. (p : Point) → slice_get (points m) k ≡ Some p → Gives m K p r.0 r.1) → (p : Point) × (slice_get (points m) k ≡ Some p) × Gives m K p n v
-point_gives m K k n v o all is counted below gives = let (p, at) = there_is (points m) k (omega arith) in (p, at, at_some _ o (n, v) is gives p at)
+pub point_gives : (m : Model) (P : Point → ℕ → Value → Type 0) (k n : ℕ) (v : Value)
+    (o : Option (ℕ × Value)) (all : ℕ) → o ≡ Some (n, v) → all ≡ length (points m) → k < all
+    → IfSome o (λ r. (p : Point) → slice_get (points m) k ≡ Some p → P p r.0 r.1) → (p : Point) × (slice_get (points m) k ≡ Some p) × P p n v
+point_gives m P k n v o all is counted below gives = let (p, at) = there_is (points m) k (omega arith) in (p, at, at_some _ o (n, v) is gives p at)

@@ -1,7 +1,7 @@
 -- A block that is violated by anything but its objective is extended by no known-solution; and
 -- where it is violated by its objective, no two known-solutions that extend the block before and
 -- this one improve.
-use Rattle.std.proofs.Common.{◌≡◌, ℕ, suc, zero, ◌+◌, ℤ, T, Bool, true, false, not, cond, ◌||◌, List, [], ◌∷◌, Option, Some, None, refl, sym, ap, subst, subst₂, ◌∙◌, slice_get, IsTrue, ◌⊎◌, inl, inr, IsSomeAnd, arith, add-zero, zero-add, int_lt, eq-eqb}
+use Rattle.std.proofs.Common.{◌≡◌, ℕ, suc, zero, ◌+◌, ℤ, T, Bool, true, false, not, cond, ◌||◌, List, [], ◌∷◌, length, Option, Some, None, refl, sym, ap, subst, subst₂, ◌∙◌, slice_get, IsTrue, ◌⊎◌, inl, inr, IsSomeAnd, arith, add-zero, zero-add, int_lt, eq-eqb}
 use Rattle.std.specs.Prelude.{⊤, ◌<ℤ◌}
 use Rattle.std.specs.List.{AllByRecursion, list_any}
 use Rattle.std.specs.Option.{option_map_or, option_or, option_and_then}
@@ -10,7 +10,9 @@ use Rattle.fz_search.specs.of_model.declared.State.{State}
 use Rattle.fz_search.specs.of_model.declared.State.TheVariants.{Holds, Fails, NoValue, Unknown, TooLarge}
 use Rattle.fz_search.specs.of_model.Relations.{same_value, same_values}
 use Rattle.fz_search.specs.of_model.Names.{literal_value}
-use Rattle.fz_search.specs.of_model.Meaning.{Place, Variable, Aim, Model, Point, Partial, Assignment, value, values, value_at, whole, option_cons, argument_values, row_of, row_holds, points, inside, find_name, first_some, IsAssignment, FitVariables, variables_of, objective, objective_of, as_int}
+use Rattle.fz_search.specs.of_model.Meaning.{Place, Variable, Aim, Model, Point, Partial, Assignment, value, values, value_at, give, whole, option_cons, argument_values, row_of, row_holds, points, inside, find_name, first_some, variables_of, objective, objective_of, as_int}
+use Rattle.fz_search.specs.of_model.Aimed.{aimed}
+use Rattle.fz_search.specs.of_model.Openings.{HasEach}
 use Rattle.fz_search.specs.of_model.States.{PointName, shown_point, state, judged_by, both, state_of_row, is_outside, HoldsIfKnown, IsKnownSolution}
 use Rattle.fz_search.specs.of_model.declared.Term.{Term}
 use Rattle.fz_search.specs.of_model.declared.Domain.{Domain}
@@ -24,21 +26,25 @@ use Rattle.fz_search.proofs.of_model.Lists.{all_left, all_right, all_map, all_bo
 use Rattle.fz_search.proofs.of_model.States.{judged_fails, both_some, row_state_fails}
 use Rattle.fz_search.proofs.of_model.Steps.{value_at_other, option_cons_parts, only_open_none}
 use Rattle.fz_search.proofs.of_model.Values.{no, no', value_itself, values_itself}
-use Rattle.fz_judge.specs.Solutions.{Printed, PrintedValue, Block, ExtendsItems, Extends, HasPrinted, printed_values, IsBetter, Improves}
-use Rattle.fz_judge.specs.Filling.{Chain, IsFilling, HasAllOf, pairs, pairs_at, printed_scalars, if_var, first_printed, start_from, start}
+use Rattle.fz_judge.specs.Solutions.{Printed, PrintedValue, Block, Extends, HasPrinted, printed_values, IsBetter, Improves}
+use Rattle.fz_judge.specs.Filling.{Chain, Further, IsFilling, pairs, pairs_at, printed_scalars, if_var, first_printed, start_from, start}
 use Rattle.fz_judge.specs.Filling.Chain.{Ends, Step}
+use Rattle.fz_judge.specs.Filling.Further.{Stays, Goes}
+use Rattle.fz_judge.specs.declared.completion.Completion.{Completion}
+use Rattle.fz_judge.specs.declared.completion.Completion.TheVariants.{Off, On}
 use Rattle.fz_judge.specs.Verdict.{Fault, Reason, verdict, verdict_by, has_printed, printed_fails, fault_at, fault_named, point_fails, point_undecided, objective_fails, not_better_if}
 use Rattle.fz_judge.specs.Verdict.Verdict.{Violated}
 use Rattle.fz_judge.specs.Verdict.Fault.{PrintedFault, DomainFault, DefinitionFault, ConstraintFault, NotBetter}
-use Rattle.fz_judge.proofs.Chains.{value_under, arguments_under, filling_agrees, printed_agree, Agrees, some_and}
+use Rattle.fz_judge.proofs.Starting.{has_room}
+use Rattle.fz_judge.proofs.Chains.{Prints, value_under, arguments_under, filling_agrees, printed_agree, Agrees, some_and}
 
 -- ---- no point fails
 
-some_same : {A : Type 0} (o : Option A) (a b : A) → o ≡ Some a → o ≡ Some b → a ≡ b
+pub some_same : {A : Type 0} (o : Option A) (a b : A) → o ≡ Some a → o ≡ Some b → a ≡ b
 some_same o a b d e = cc
 
 -- an element with a value that lies outside
-outside_not : (F L : Partial) → HasAllOf F L → (d : Domain) (ts : List Term) (vs : List Value)
+outside_not : (F L : Partial) → HasEach F L → (d : Domain) (ts : List Term) (vs : List Value)
     → values L ts ≡ Some vs → AllByRecursion (λ v. IsTrue (inside d v)) vs
     → list_any (is_outside F d) ts ≡ true → ⊥
 outside_not F L under d [] vs e h any = no any
@@ -53,7 +59,7 @@ outside_not F L under d (t ∷ ts) vs e h any =
           outside_not F L under d ts ws are All.1 (subst (λ b. (not b || list_any (is_outside F d) ts) ≡ true) Within any)
     ]) refl any
 
-array_not_fails : (b : Bool) (o : Option (List Value))
+pub array_not_fails : (b : Bool) (o : Option (List Value))
     → cond b Fails (judged_by (λ vs. true) o) ≡ Fails → b ≡ true
 array_not_fails true o e = refl
 array_not_fails false None e = cc
@@ -64,7 +70,7 @@ values_some : (P : List Value → Type 0) (o : Option (List Value)) → IsSomeAn
 values_some P None h = absurd h
 values_some P (Some vs) h = (vs, refl, h)
 
-never_fails : (A : Assignment) (F : Partial) (p : Point) → HasAllOf F (whole A)
+never_fails : (A : Assignment) (F : Partial) (p : Point) → HasEach F (whole A)
     → HoldsIfKnown (whole A) p → state F p ≡ Fails → ⊥
 never_fails A F (DomainPoint x k) under h s =
     let (u, at, out) = judged_fails (inside x.domain) (value_at F k) s in
@@ -90,33 +96,46 @@ never_fails A F (ConstraintPoint k p) under h s =
       ]
     ]) h s
 
-no_fault : (p : Point) (s : State) → (s ≡ Fails → ⊥) → fault_at p s ≡ None
+pub no_fault : (p : Point) (s : State) → (s ≡ Fails → ⊥) → fault_at p s ≡ None
 no_fault p Holds h = refl
 no_fault p Fails h = absurd (h refl)
 no_fault p NoValue h = refl
 no_fault p Unknown h = refl
 no_fault p TooLarge h = refl
 
-none_first : {A B : Type 0} (f : A → Option B) (xs : List A) → AllByRecursion (λ x. f x ≡ None) xs
+pub none_first : {A B : Type 0} (f : A → Option B) (xs : List A) → AllByRecursion (λ x. f x ≡ None) xs
     → first_some f xs ≡ None
 none_first f [] h = refl
 none_first f (x ∷ xs) h = (λ i. option_or (h.0 i) (first_some f xs)) ∙ none_first f xs h.1
 
-points_hold : (A : Assignment) (F : Partial) (ps : List Point) → HasAllOf F (whole A)
+points_hold : (A : Assignment) (F : Partial) (ps : List Point) → HasEach F (whole A)
     → AllByRecursion (HoldsIfKnown (whole A)) ps → first_some (point_fails F) ps ≡ None
 points_hold A F ps under h = none_first (point_fails F) ps (all_map (HoldsIfKnown (whole A)) (λ p. point_fails F p ≡ None) (λ p k. no_fault p (state F p) (never_fails A F p under k)) ps h)
 
 -- ---- what is printed has its value in the filling
 
--- the chain takes no value away
-pub chain_grows : (m : Model) {K : Partial} {from : ℕ} {F : Partial} → Chain m K from F
-    → HasAllOf K F
+-- a step takes no value away
+pub given_grows : (K : Partial) (n : ℕ) (v : Value) → value_at K n ≡ None → HasEach K (give K n v)
+given_grows K n v none = λ k u e. value_at_other K n k v (λ same. none_some k u same e) ∙ e
+  where
+    none_some : (k : ℕ) (u : Value) → k ≡ n → value_at K k ≡ Some u → ⊥
+    none_some k u same e = let at : value_at K n ≡ Some u = ap (value_at K) (sym same) ∙ e in cc
+
+-- nor does a chain, or a second filling
+chain_grows : (m : Model) {K : Partial} {from : ℕ} {F : Partial} → Chain m K from F → HasEach K F
 chain_grows m (Ends h) = λ n v e. e
 chain_grows m (Step {K = K} {n = n} {v = v} s rest) = λ k u e.
-    chain_grows m rest k u (value_at_other K n k v (λ same. none_some k n u same e (only_open_none K n (terms_of s.point) s.gives.only_open)) ∙ e)
-  where
-    none_some : (k n : ℕ) (u : Value) → k ≡ n → value_at K k ≡ Some u → value_at K n ≡ None → ⊥
-    none_some k n u same e none = let at : value_at K n ≡ Some u = ap (value_at K) (sym same) ∙ e in cc
+    chain_grows m rest k u (given_grows K n v (only_open_none K n (terms_of s.point) s.gives.only_open) k u e)
+
+pub further_grows : (m : Model) {K G : Partial} → Further m K G → HasEach K G
+further_grows m Stays = λ n v e. e
+further_grows m (Goes {K = K} {n = n} {v = v} k p at gives rest) = λ j u e.
+    further_grows m rest j u (given_grows K n v (only_open_none K n (terms_of (aimed n p)) gives.only_open) j u e)
+
+pub filling_grows : (c : Completion) (m : Model) (block : Block) (F : Partial)
+    → IsFilling c m block F → HasEach (start m block) F
+filling_grows Off m block F filled = chain_grows m filled
+filling_grows On m block G (F, chain, furthered) = λ n v e. further_grows m furthered.reached n v (chain_grows m chain n v e)
 
 abbrev HasFirst : List (Term × Value) → (Term × Value) → Type 0
 HasFirst qs (Var n, v) = (u : Value) × (first_printed qs n ≡ Some u)
@@ -140,14 +159,14 @@ have_first : (qs : List (Term × Value)) → AllByRecursion (HasFirst qs) qs
 have_first [] = tt
 have_first (q ∷ qs) = (here_first q qs, all_map (HasFirst qs) (HasFirst (q ∷ qs)) (still_first q qs) qs (have_first qs))
 
--- a number that has a value in an assignment is that of a variable
-is_numbered : (xs : List Variable) (A : Assignment) (n : ℕ) (v : Value) → FitVariables xs (whole A)
-    → value_at (whole A) n ≡ Some v → (x : Variable) × (slice_get xs n ≡ Some x)
-is_numbered [] [] n v h e = cc
-is_numbered [] (a ∷ A) n v h e = absurd h
-is_numbered (x ∷ xs) [] n v h e = absurd h
-is_numbered (x ∷ xs) (a ∷ A) zero v h e = (x, refl)
-is_numbered (x ∷ xs) (a ∷ A) (suc n) v h e = is_numbered xs A n v h.1 e
+-- a number that has a value is that of a variable
+is_numbered : (xs : List Variable) (K : Partial) (n : ℕ) (v : Value) → length K ≡ length xs
+    → value_at K n ≡ Some v → (x : Variable) × (slice_get xs n ≡ Some x)
+is_numbered [] [] n v as_many e = cc
+is_numbered [] (o ∷ K) n v as_many e = absurd (omega (arith, as_many))
+is_numbered (x ∷ xs) [] n v as_many e = cc
+is_numbered (x ∷ xs) (o ∷ K) zero v as_many e = (x, refl)
+is_numbered (x ∷ xs) (o ∷ K) (suc n) v as_many e = is_numbered xs K n v (omega (arith, as_many)) e
 
 -- at the start a variable has the value with which it is printed first
 start_at : (qs : List (Term × Value)) (n : ℕ) (xs : List Variable) (k : ℕ) (x : Variable)
@@ -156,15 +175,15 @@ start_at qs n [] k x e = cc
 start_at qs n (y ∷ xs) zero x e = ap (first_printed qs) (sym (add-zero n))
 start_at qs n (y ∷ xs) (suc k) x e = let count : suc n + k ≡ n + suc k = omega arith in start_at qs (suc n) xs k x e ∙ ap (first_printed qs) count
 
-module _ (m : Model) (A : Assignment) (block : Block) (F : Partial) (assignment : IsAssignment m A) (under : HasAllOf F (whole A)) (grows : HasAllOf (start m block) F) where
-  agrees_too : (q : Term × Value) → HasFirst (printed_scalars m block.items) q × Agrees (whole A) q
+module _ (m : Model) (L : Partial) (block : Block) (F : Partial) (as_many : length L ≡ length (variables_of m)) (under : HasEach F L) (grows : HasEach (start m block) F) where
+  agrees_too : (q : Term × Value) → HasFirst (printed_scalars m block.items) q × Agrees L q
       → Agrees F q
   agrees_too (Fixed w, v) h = h.1
   agrees_too (Var n, v) h =
-      let (x, numbered) = is_numbered (variables_of m) A n v assignment h.1 in
+      let (x, numbered) = is_numbered (variables_of m) L n v as_many h.1 in
       let at_start : value_at (start m block) n ≡ Some h.0.0 = start_at (printed_scalars m block.items) 0 (variables_of m) n x numbered ∙ ap (first_printed (printed_scalars m block.items)) (zero-add n) ∙ h.0.1 in
       let in_filling : value_at F n ≡ Some h.0.0 = grows n h.0.0 at_start in
-      let same : h.0.0 ≡ v = some_same (value_at (whole A) n) h.0.0 v (under n h.0.0 in_filling) h.1 in
+      let same : h.0.0 ≡ v = some_same (value_at L n) h.0.0 v (under n h.0.0 in_filling) h.1 in
       in_filling ∙ ap Some same
 
 pairs_values : (F L : Partial) (ts : List Term) (vs : List Value) → values L ts ≡ Some vs
@@ -191,13 +210,21 @@ item_has : (F L : Partial) (name : List ℕ) (o : Option Place) (value : Printed
 item_has F L name None value h agree = absurd h
 item_has F L name (Some p) value h agree = ap (λ b. cond b None (Some (PrintedFault name))) (place_has F L p value h agree)
 
-items_have : (m : Model) (A : Assignment) (F : Partial) (items : List Printed)
-    → ExtendsItems m A items → AllByRecursion (Agrees F) (printed_scalars m items)
-    → first_some (printed_fails m F) items ≡ None
-items_have m A F [] h agree = refl
-items_have m A F (i ∷ block) h agree =
-    (λ j. option_or (item_has F (whole A) i.name.text (find_name m i.name.text) i.value h.0 (all_left (Agrees F) (option_map_or (λ p. pairs_at p i.value) (find_name m i.name.text) []) (printed_scalars m block) agree) j) (first_some (printed_fails m F) block))
-    ∙ items_have m A F block h.1 (all_right (Agrees F) (option_map_or (λ p. pairs_at p i.value) (find_name m i.name.text) []) (printed_scalars m block) agree)
+items_have : (m : Model) (F L : Partial) (items : List Printed) → Prints m L items
+    → AllByRecursion (Agrees F) (printed_scalars m items) → first_some (printed_fails m F) items ≡ None
+items_have m F L [] h agree = refl
+items_have m F L (i ∷ block) h agree =
+    (λ j. option_or (item_has F L i.name.text (find_name m i.name.text) i.value h.0 (all_left (Agrees F) (option_map_or (λ p. pairs_at p i.value) (find_name m i.name.text) []) (printed_scalars m block) agree) j) (first_some (printed_fails m F) block))
+    ∙ items_have m F L block h.1 (all_right (Agrees F) (option_map_or (λ p. pairs_at p i.value) (find_name m i.name.text) []) (printed_scalars m block) agree)
+
+-- what is printed for each name is its value in a filling, where it is so under more values
+pub none_printed : (m : Model) (L : Partial) (block : Block) (F : Partial)
+    → length L ≡ length (variables_of m) → HasEach F L → HasEach (start m block) F
+    → Prints m L block.items → first_some (printed_fails m F) block.items ≡ None
+none_printed m L block F as_many under grows prints =
+    items_have m F L block.items prints
+    (all_map (λ q. HasFirst (printed_scalars m block.items) q × Agrees L q) (Agrees F) (agrees_too m L block F as_many under grows) (printed_scalars m block.items)
+    (all_both (HasFirst (printed_scalars m block.items)) (Agrees L) (printed_scalars m block.items) (have_first (printed_scalars m block.items)) (printed_agree m L block.items prints)))
 
 -- ---- a violated block
 
@@ -215,18 +242,18 @@ not_better_of true now before f e = cc
 not_better_of false now before f e = (refl, cc)
 
 -- what the objective's fault says of an aim
-record WasNotBetter (aim : Aim) (before now : Option ℤ) (f : Fault) : Type 0 where
-  earlier : ℤ
-  later : ℤ
-  before_is : before ≡ Some earlier
-  now_is : now ≡ Some later
+pub record WasNotBetter (aim : Aim) (before now : Option ℤ) (f : Fault) : Type 0 where
+  pub earlier : ℤ
+  pub later : ℤ
+  pub before_is : before ≡ Some earlier
+  pub now_is : now ≡ Some later
   fault : f ≡ NotBetter later earlier
   fails_so : IsBetter aim (Some earlier) (Some later) → ⊥
 
 not_less : (a b : ℤ) → int_lt a b ≡ false → a <ℤ b → ⊥
 not_less a b e h = subst T e h.lt
 
-objective_fault : (aim : Aim) (before now : Option ℤ) (f : Fault)
+pub objective_fault : (aim : Aim) (before now : Option ℤ) (f : Fault)
     → objective_fails aim before now ≡ Some f → WasNotBetter aim before now f
 objective_fault Satisfy before now f e = cc
 objective_fault (Minimize t) None now f e = cc
@@ -240,22 +267,19 @@ objective_fault (Maximize t) (Some b) (Some n) f e =
     let (is_false, is) = not_better_of (int_lt b n) n b f e in
     record { earlier = b; later = n; before_is = refl; now_is = refl; fault = is; fails_so = not_less b n is_false }
 
-is_violated_by : (o : Option Fault) (r : Option Reason) (f : Fault) → verdict_by o r ≡ Violated f
+pub is_violated_by : (o : Option Fault) (r : Option Reason) (f : Fault) → verdict_by o r ≡ Violated f
     → o ≡ Some f
 is_violated_by None None f e = cc
 is_violated_by None (Some r) f e = cc
 is_violated_by (Some g) r f e = cc
 
-module _ (m : Model) (block : Block) (F : Partial) (filled : IsFilling m block F) (A : Assignment) (solution : IsKnownSolution m A) (extends : Extends m A block) where
-  agrees : HasAllOf F (whole A)
-  agrees = filling_agrees m A block F solution extends filled
+module _ (c : Completion) (m : Model) (block : Block) (F : Partial) (filled : IsFilling c m block F) (A : Assignment) (solution : IsKnownSolution m A) (extends : Extends m A block) where
+  agrees : HasEach F (whole A)
+  agrees = filling_agrees c m A block F solution extends filled
 
   nothing_printed_fails : first_some (printed_fails m F) block.items ≡ None
   unfolding agrees
-  nothing_printed_fails =
-      items_have m A F block.items extends
-      (all_map (λ q. HasFirst (printed_scalars m block.items) q × Agrees (whole A) q) (Agrees F) (agrees_too m A block F solution.assignment agrees (chain_grows m filled)) (printed_scalars m block.items)
-      (all_both (HasFirst (printed_scalars m block.items)) (Agrees (whole A)) (printed_scalars m block.items) (have_first (printed_scalars m block.items)) (printed_agree m A block.items extends)))
+  nothing_printed_fails = none_printed m (whole A) block F (has_room m (whole A) solution.assignment) agrees (filling_grows c m block F filled) extends
 
   -- the verdict can only be violated by the objective
   only_objective : (before : Option ℤ) (f : Fault) → verdict m F block before ≡ Violated f
@@ -270,14 +294,14 @@ module _ (m : Model) (block : Block) (F : Partial) (filled : IsFilling m block F
       objective_fault m.aim before (objective m F) f not_point
 
 -- Where a block is violated by anything but its objective, no known-solution extends it.
-pub violated_has_none : (m : Model) (block : Block) (F : Partial) (before : Option ℤ) (f : Fault)
-    → IsFilling m block F → verdict m F block before ≡ Violated f → (IsNotBetter f → ⊥)
+pub violated_has_none : (c : Completion) (m : Model) (block : Block) (F : Partial)
+    (before : Option ℤ) (f : Fault) → IsFilling c m block F → verdict m F block before ≡ Violated f → (IsNotBetter f → ⊥)
     → (A : Assignment) → IsKnownSolution m A → Extends m A block → ⊥
-violated_has_none m block F before f filled e other A solution extends =
-    let w : WasNotBetter m.aim before (objective m F) f = only_objective m block F filled A solution extends before f e in
+violated_has_none c m block F before f filled e other A solution extends =
+    let w : WasNotBetter m.aim before (objective m F) f = only_objective c m block F filled A solution extends before f e in
     other (subst IsNotBetter (sym w.fault) tt)
 
-int_under : (F L : Partial) (t : Term) (n : ℤ) → HasAllOf F L
+int_under : (F L : Partial) (t : Term) (n : ℤ) → HasEach F L
     → option_and_then as_int (value F t) ≡ Some n → option_and_then as_int (value L t) ≡ Some n
 int_under F L t n under e =
     (elim (value F t) as (λ o. value F t ≡ o → option_and_then as_int o ≡ Some n → option_and_then as_int (value L t) ≡ Some n) [
@@ -285,7 +309,7 @@ int_under F L t n under e =
       | Some u ↦ λ is e. ap (option_and_then as_int) (value_under F L under t u is) ∙ e
     ]) refl e
 
-objective_under : (aim : Aim) (F L : Partial) (n : ℤ) → HasAllOf F L → objective_of aim F ≡ Some n
+pub objective_under : (aim : Aim) (F L : Partial) (n : ℤ) → HasEach F L → objective_of aim F ≡ Some n
     → objective_of aim L ≡ Some n
 objective_under Satisfy F L n under e = cc
 objective_under (Minimize t) F L n under e = int_under F L t n under e
@@ -293,13 +317,13 @@ objective_under (Maximize t) F L n under e = int_under F L t n under e
 
 -- Where a block is violated by its objective, no two known-solutions, one that extends the block
 -- before and one that extends this one, improve.
-pub not_better_has_none : (m : Model) (earlier block : Block) (E F : Partial) (f : Fault)
-    → IsFilling m earlier E → IsFilling m block F → verdict m F block (objective m E) ≡ Violated f
+pub not_better_has_none : (c : Completion) (m : Model) (earlier block : Block) (E F : Partial)
+    (f : Fault) → IsFilling c m earlier E → IsFilling c m block F → verdict m F block (objective m E) ≡ Violated f
     → (A B : Assignment) → IsKnownSolution m A → Extends m A earlier → IsKnownSolution m B → Extends m B block → Improves m (Some A) B → ⊥
-not_better_has_none m earlier block E F f filled_E filled_F e A B solution_A extends_A solution_B extends_B improves =
-    let w : WasNotBetter m.aim (objective m E) (objective m F) f = only_objective m block F filled_F B solution_B extends_B (objective m E) f e in
-    let a_is : objective m (whole A) ≡ Some w.earlier = objective_under m.aim E (whole A) w.earlier (filling_agrees m A earlier E solution_A extends_A filled_E) w.before_is in
-    let b_is : objective m (whole B) ≡ Some w.later = objective_under m.aim F (whole B) w.later (filling_agrees m B block F solution_B extends_B filled_F) w.now_is in
+not_better_has_none c m earlier block E F f filled_E filled_F e A B solution_A extends_A solution_B extends_B improves =
+    let w : WasNotBetter m.aim (objective m E) (objective m F) f = only_objective c m block F filled_F B solution_B extends_B (objective m E) f e in
+    let a_is : objective m (whole A) ≡ Some w.earlier = objective_under m.aim E (whole A) w.earlier (filling_agrees c m A earlier E solution_A extends_A filled_E) w.before_is in
+    let b_is : objective m (whole B) ≡ Some w.later = objective_under m.aim F (whole B) w.later (filling_agrees c m B block F solution_B extends_B filled_F) w.now_is in
     w.fails_so (subst₂ (λ p q. IsBetter m.aim p q) a_is b_is improves)
 
 -- the two objectives of the fault
@@ -333,7 +357,7 @@ not_at p NoValue f e h = cc
 not_at p Unknown f e h = cc
 not_at p TooLarge f e h = cc
 
-either : {A : Type 0} (o p : Option A) (x : A) → option_or o p ≡ Some x
+pub either : {A : Type 0} (o p : Option A) (x : A) → option_or o p ≡ Some x
     → (o ≡ Some x) ⊎ (p ≡ Some x)
 either None p x e = inr e
 either (Some y) p x e = inl e

@@ -8,7 +8,7 @@ use Rattle.fz_search.specs.of_model.Meaning.{Model, Point, Partial, value, value
 use Rattle.fz_search.specs.of_model.Steps.{open_terms, terms_of}
 use Rattle.fz_search.proofs.of_model.Lists.{all_map}
 use Rattle.fz_search.proofs.of_model.Steps.{only_open_none}
-use Rattle.fz_judge.specs.Filling.{HasAllOf}
+use Rattle.fz_search.specs.of_model.Openings.{HasEach}
 use Rattle.fz_judge.specs.Outlooks.{IsOpen, IsOutlook, open_variable}
 use Rattle.fz_judge.specs.declared.outlook.Outlook.TheVariants.{Asks}
 use Rattle.fz_judge.proofs.Agreeing.{agree_back, gives_agree}
@@ -25,7 +25,7 @@ all_this K n (t ∷ ts) h =
       | Some v ↦ λ e h. ((λ none. cc), all_this K n ts h)
     ]) refl h
 
-agrees_later : (K L : Partial) (n : ℕ) → HasAllOf K L → IsOpen L n → (t : Term)
+agrees_later : (K L : Partial) (n : ℕ) → HasEach K L → IsOpen L n → (t : Term)
     → (value K t ≡ None → t ≡ Var n) → value K t ≡ value L t
 agrees_later K L n later still (Fixed v) this = refl
 agrees_later K L n later still (Var k) this =

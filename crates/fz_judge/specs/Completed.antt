@@ -1,14 +1,15 @@
 -- The verdicts of a report, where values that a solver left out are looked for, and where they
 -- aren't (this project's profile).
-use Rattle.std.specs.Prelude.{◌≡◌, ℤ, List, [], ◌∷◌, Option, Some, None, ⊤}
-use Rattle.fz_search.specs.of_model.Meaning.{Model, Partial, objective, IsPartial}
+use Rattle.std.specs.Prelude.{◌≡◌, ℕ, ℤ, slice_get, List, [], ◌∷◌, Option, Some, None, ⊤}
+use Rattle.fz_search.specs.of_model.Meaning.{Assignment, Model, Partial, Point, objective, points, IsPartial}
+use Rattle.fz_search.specs.of_model.States.{IsKnownSolution, shown_point}
 use Rattle.fz_judge.specs.declared.completion.Completion.{Completion}
 use Rattle.fz_judge.specs.declared.completion.Completion.TheVariants.{Off, On}
-use Rattle.fz_judge.specs.Solutions.{Block}
-use Rattle.fz_judge.specs.Verdict.{Verdict, verdict, objective_fails, IsFilled}
+use Rattle.fz_judge.specs.Solutions.{Block, Extends}
+use Rattle.fz_judge.specs.Verdict.{Verdict, verdict, fault_named, objective_fails, IsFilled}
 use Rattle.fz_judge.specs.Verdict.Fault.{NotBetter}
 use Rattle.fz_judge.specs.Verdict.Reason.{NoValueFor, NotShownBetter}
-use Rattle.fz_judge.specs.Verdict.Verdict.{Satisfied, Undecided}
+use Rattle.fz_judge.specs.Verdict.Verdict.{Satisfied, Violated, Undecided}
 
 -- the verdict is one for which values may be looked for: the block is satisfied under its filling,
 -- or undecided because a variable has no value
@@ -26,6 +27,11 @@ pub data IsCompleted (m : Model) (block : Block) (before : Option ℤ) (F : Part
   Found : {v : Verdict} (K : Partial) → LacksValuesAtMost v → IsPartial m K
       → verdict m K block before ≡ Satisfied
       → IsCompleted m block before F v Satisfied (objective m K)
+  -- a value is missing, and no known-solution extends the block; which point is told is left free
+  Refuted : {name : List ℕ} (k : ℕ) (p : Point) → slice_get (points m) k ≡ Some p
+      → ((A : Assignment) → IsKnownSolution m A → Extends m A block → ⊥)
+      → IsCompleted m block before F (Undecided (NoValueFor name))
+      (Violated (fault_named (shown_point p))) (objective m F)
   -- the verdict under the filling is reported, where that isn't satisfied
   AsFilled : {v : Verdict} → (v ≡ Satisfied → ⊥) → IsCompleted m block before F v v (objective m F)
   -- the block is satisfied under its filling, but its objective isn't better than `before`; since
@@ -50,7 +56,7 @@ pub data AreTold (c : Completion) (m : Model) : Option ℤ → Option ℤ → Li
     → Type 0 where
   NoneLeft : {filled found : Option ℤ} → AreTold c m filled found [] []
   OneMore : {filled found kept : Option ℤ} {block : Block} {blocks : List Block} {v : Verdict} {vs :
-      List Verdict} (F : Partial) → IsFilled m block F
+      List Verdict} (F : Partial) → IsFilled c m block F
       → IsToldBy c m block found F (verdict m F block filled) v kept
       → AreTold c m (objective m F) kept blocks vs
       → AreTold c m filled found (block ∷ blocks) (v ∷ vs)

@@ -1,15 +1,18 @@
 -- The filling of a block: the values that follow from the printed ones by forced steps (this
 -- project's profile).
-use Rattle.std.specs.Prelude.{◌≡◌, ℕ, suc, cond, List, [], ◌∷◌, ◌++◌, ◌==◌, Option, Some, None, flat_map, take, drop}
+use Rattle.std.specs.Prelude.{◌≡◌, ℕ, suc, cond, List, [], ◌∷◌, ◌++◌, ◌==◌, Option, Some, None, flat_map, slice_get, take, drop}
 use Rattle.std.specs.List.{AllByRecursion, enumerate_from}
 use Rattle.std.specs.Option.{option_map_or}
 use Rattle.fz_base.specs.declared.value.Value.{Value}
 use Rattle.fz_search.specs.of_model.Names.{literal_value}
-use Rattle.fz_search.specs.of_model.Meaning.{Place, Variable, Model, Point, Partial, variables_of, value_at, give, points, find_name, first_some}
+use Rattle.fz_search.specs.of_model.Meaning.{Place, Variable, Model, Point, Partial, variables_of, give, points, find_name, first_some}
 use Rattle.fz_search.specs.of_model.declared.Term.{Term}
 use Rattle.fz_search.specs.of_model.declared.Term.TheVariants.{Var, Fixed}
 use Rattle.fz_search.specs.of_model.Meaning.Place.{Scalar, Array}
 use Rattle.fz_search.specs.of_model.Steps.{Gives, GivesNothing}
+use Rattle.fz_search.specs.of_model.Aimed.{GivesAny, GivesNone}
+use Rattle.fz_judge.specs.declared.completion.Completion.{Completion}
+use Rattle.fz_judge.specs.declared.completion.Completion.TheVariants.{Off, On}
 use Rattle.fz_judge.specs.Solutions.{Printed, PrintedValue, Block, printed_values}
 use Rattle.fz_judge.specs.Solutions.PrintedValue.{OneValue, ArrayOf}
 
@@ -45,10 +48,6 @@ start_from ps n (x ∷ xs) = first_printed ps n ∷ start_from ps (suc n) xs
 abbrev pub start : Model → Block → Partial
 start m block = start_from (printed_scalars m block.items) 0 (variables_of m)
 
--- the second has every value of the first
-abbrev pub HasAllOf : Partial → Partial → Type 0
-HasAllOf K L = (n : ℕ) (v : Value) → value_at K n ≡ Some v → value_at L n ≡ Some v
-
 -- ---- the chain of the filling
 
 -- the points in order from the one with this number on; after the last one come those from the
@@ -79,6 +78,35 @@ abbrev pub givers : {m : Model} {K F : Partial} {from : ℕ} → Chain m K from 
 givers (Ends none) = []
 givers (Step {k = k} {n = n} first rest) = (n, k) ∷ givers rest
 
--- the partial assignment is the filling of the block
-abbrev pub IsFilling : Model → Block → Partial → Type 0
-IsFilling m block F = Chain m (start m block) 0 F
+-- ---- the second filling, which goes on where the first ended
+
+-- The second is reached from the first by steps of points, in whatever order: by whichever result
+-- a row has, also where `defines_var` doesn't name it.
+pub data Further (m : Model) : Partial → Partial → Type 0 where
+  Stays : {K : Partial} → Further m K K
+  Goes : {K F : Partial} {n : ℕ} {v : Value} (k : ℕ) (p : Point) → slice_get (points m) k ≡ Some p
+      → GivesAny m K p n v → Further m (give K n v) F → Further m K F
+
+-- the steps in order, each with its variable and the number of its point
+abbrev pub further_givers : {m : Model} {K F : Partial} → Further m K F → List (ℕ × ℕ)
+further_givers Stays = []
+further_givers (Goes {n = n} k p at gives rest) = (n, k) ∷ further_givers rest
+
+-- it is reached, and no point gives anything any more
+pub record IsFurthered (m : Model) (F G : Partial) : Type 0 where
+  pub reached : Further m F G
+  pub none_left : AllByRecursion (GivesNone m G) (points m)
+
+-- ---- the filling of a block
+
+-- The partial assignment is the filling of the block: the end of its chain, or the second filling
+-- from there on where values that the solver left out are looked for.
+abbrev pub IsFilling : Completion → Model → Block → Partial → Type 0
+IsFilling Off m block F = Chain m (start m block) 0 F
+IsFilling On m block G = (F : Partial) × Chain m (start m block) 0 F × IsFurthered m F G
+
+-- the steps from the start to a filling: those of the chain, and those of the second filling behind
+abbrev pub AreSteps : Completion → Model → Partial → Partial → List (ℕ × ℕ) → Type 0
+AreSteps Off m K F steps = (c : Chain m K 0 F) × (steps ≡ givers c)
+AreSteps On m K G steps = (F : Partial) × (c : Chain m K 0 F) × (r : Further m F G)
+    × (steps ≡ givers c ++ further_givers r)

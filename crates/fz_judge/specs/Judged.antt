@@ -24,7 +24,7 @@ pub record JudgeState : Type 0 where
 -- objective under that filling is stored, as the only one where no values are looked for.
 pub record IsJudged (old new : JudgeState) (block : Block) (v : Verdict) : Type 0 where
   pub filling : Partial
-  pub is_filled : IsFilled old.model block filling
+  pub is_filled : IsFilled old.completion old.model block filling
   pub partial : IsPartial old.model filling
   pub told : IsToldBy old.completion old.model block old.found filling
       (verdict old.model filling block old.before) v new.found

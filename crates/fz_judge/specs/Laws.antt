@@ -5,13 +5,14 @@ use Rattle.std.specs.List.{slice_get}
 use Rattle.fz_search.specs.of_model.Located.{LocatedTree}
 use Rattle.fz_search.specs.of_model.Names.{HasNoFault, model_of}
 use Rattle.fz_search.specs.of_model.Meaning.{Model, Partial, Assignment, objective, IsPartial, IsSolution, whole}
+use Rattle.fz_search.specs.of_model.Openings.{HasEach}
 use Rattle.fz_search.specs.of_model.States.{IsKnownSolution}
 use Rattle.fz_judge.specs.Solutions.{Block, Extends, bare_of_block, Improves, HaveSolutions}
 use Rattle.fz_judge.specs.BlockView.{located_block}
-use Rattle.fz_judge.specs.Filling.{HasAllOf, IsFilling}
+use Rattle.fz_judge.specs.Filling.{IsFilling}
 use Rattle.fz_judge.specs.declared.completion.Completion.{Completion}
 use Rattle.fz_judge.specs.declared.completion.Completion.TheVariants.{Off, On}
-use Rattle.fz_judge.specs.Completed.{AreVerdicts, LacksValuesAtMost}
+use Rattle.fz_judge.specs.Completed.{AreVerdicts}
 use Rattle.fz_judge.specs.Verdict.{Verdict, Fault, verdict, AreJudged, IsProposed, IsFilled, answer_of}
 use Rattle.fz_judge.specs.Verdict.Verdict.{Satisfied, Violated}
 use Rattle.fz_judge.specs.Verdict.Fault.{NotBetter}
@@ -45,24 +46,21 @@ AcceptedAreJudged =
     → answer_of verdicts ≡ Accepted n
     → AreJudged (model_of t) (λ b K. IsPartial (model_of t) K) None blocks verdicts
 
--- Where values are looked for, a report has the verdicts of the one where they aren't, but for
--- blocks that are satisfied there or lack a value. Each block that it calls violated is violated
--- there too, by the same fault.
+-- Where values are looked for, each block is violated that is violated where they aren't. The fault
+-- may be another one, since more values are known.
 abbrev pub CompletedKeepVerdicts : Type 0
 CompletedKeepVerdicts =
     (m : Model) (blocks : List Block) (verdicts : List Verdict) → AreVerdicts On m blocks verdicts
     → (filled : List Verdict) × AreVerdicts Off m blocks filled × (length filled ≡ length verdicts)
-    × ((i : ℕ) (v w : Verdict) → slice_get verdicts i ≡ Some v → slice_get filled i ≡ Some w
-    → (LacksValuesAtMost w → ⊥) → v ≡ w)
-    × ((i : ℕ) (f : Fault) → slice_get verdicts i ≡ Some (Violated f)
-    → slice_get filled i ≡ Some (Violated f))
+    × ((i : ℕ) (f : Fault) → slice_get filled i ≡ Some (Violated f)
+    → (g : Fault) × (slice_get verdicts i ≡ Some (Violated g)))
 
 -- Where a block is violated under its filling by anything but the objective, no known-solution
 -- extends it.
 abbrev pub ViolatedHaveNone : Type 0
 ViolatedHaveNone =
-    (m : Model) (block : Block) (F : Partial) (before : Option ℤ) (f : Fault) → IsFilling m block F
-    → verdict m F block before ≡ Violated f
+    (c : Completion) (m : Model) (block : Block) (F : Partial) (before : Option ℤ) (f : Fault)
+    → IsFilling c m block F → verdict m F block before ≡ Violated f
     → ((now earlier : ℤ) → f ≡ NotBetter now earlier → ⊥) → (A : Assignment) → IsKnownSolution m A
     → Extends m A block → ⊥
 
@@ -70,8 +68,9 @@ ViolatedHaveNone =
 -- that extends the block before.
 abbrev pub NotBetterHaveNone : Type 0
 NotBetterHaveNone =
-    (m : Model) (earlier block : Block) (E F : Partial) (f : Fault) → IsFilling m earlier E
-    → IsFilling m block F → verdict m F block (objective m E) ≡ Violated f
+    (c : Completion) (m : Model) (earlier block : Block) (E F : Partial) (f : Fault)
+    → IsFilling c m earlier E → IsFilling c m block F
+    → verdict m F block (objective m E) ≡ Violated f
     → (A B : Assignment) → IsKnownSolution m A → Extends m A earlier → IsKnownSolution m B
     → Extends m B block → Improves m (Some A) B → ⊥
 
@@ -107,22 +106,22 @@ EachSatisfiedHasOne =
     → slice_get verdicts i ≡ Some Satisfied
     → (A : Assignment) × Extends (model_of t) A block × IsSolution (model_of t) A
 
--- A block has at most one filling.
+-- A block has at most one filling where values aren't looked for.
 abbrev pub FillingIsOne : Type 0
-FillingIsOne =
-    (m : Model) (block : Block) (F G : Partial) → IsFilling m block F → IsFilling m block G → F ≡ G
+FillingIsOne = (m : Model) (block : Block) (F G : Partial) → IsFilling Off m block F
+    → IsFilling Off m block G → F ≡ G
 
 -- Each filled value follows from the printed ones: a known-solution that extends the block has
 -- every value of the filling.
 abbrev pub FillingFollows : Type 0
-FillingFollows = (m : Model) (block : Block) (F : Partial) (A : Assignment) → IsFilling m block F
-    → IsKnownSolution m A → Extends m A block → HasAllOf F (whole A)
+FillingFollows = (c : Completion) (m : Model) (block : Block) (F : Partial) (A : Assignment)
+    → IsFilling c m block F → IsKnownSolution m A → Extends m A block → HasEach F (whole A)
 
 -- In a model of a tree without faults, the filling of a block without fault is a partial assignment
 -- with every value of the block's start.
 abbrev pub FillingIsProposed : Type 0
-FillingIsProposed = (t : LocatedTree) (block : Block) (F : Partial) → HasNoFault t
-    → IsFilled (model_of t) block F → IsProposed (model_of t) block F
+FillingIsProposed = (c : Completion) (t : LocatedTree) (block : Block) (F : Partial)
+    → HasNoFault t → IsFilled c (model_of t) block F → IsProposed (model_of t) block F
 
 -- The blocks with byte ranges, once the ranges are left out, are the plain blocks.
 abbrev pub BlocksAreBare : Type 0

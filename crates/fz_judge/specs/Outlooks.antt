@@ -6,7 +6,7 @@ use Rattle.fz_search.specs.of_model.declared.Term.{Term}
 use Rattle.fz_search.specs.of_model.declared.Term.TheVariants.{Var, Fixed}
 use Rattle.fz_search.specs.of_model.Meaning.{Model, Partial, Point, value, value_at}
 use Rattle.fz_search.specs.of_model.Steps.{GivesNothing}
-use Rattle.fz_judge.specs.Filling.{HasAllOf}
+use Rattle.fz_search.specs.of_model.Openings.{HasEach}
 use Rattle.fz_judge.specs.declared.outlook.Outlook.{Outlook}
 use Rattle.fz_judge.specs.declared.outlook.Outlook.TheVariants.{Waits, Asks}
 use Rattle.fz_judge.specs.declared.outlook.Waiting.{Waiting}
@@ -27,7 +27,7 @@ open_variable K (Fixed v) = None
 -- the second is of as many variables, and has all values of the first
 pub record IsLater (K L : Partial) : Type 0 where
   pub as_many : length K ≡ length L
-  pub has_all : HasAllOf K L
+  pub has_all : HasEach K L
 
 -- the scalars have the same values under both, or none
 abbrev pub Agree : Partial → Partial → List Term → Type 0

@@ -6,6 +6,7 @@ use Rattle.fz_search.specs.of_model.declared.Posted.{Posted}
 use Rattle.fz_search.specs.of_model.Meaning as meaning
 use Rattle.fz_search.specs.of_model.Meaning.{IsPartial, Model, Partial, Point, give, points, value_at}
 use Rattle.fz_search.specs.of_model.Meaning.Point.{ConstraintPoint}
+use Rattle.fz_search.specs.of_model.Aimed.{GivesNone}
 use Rattle.fz_search.specs.of_model.Steps.{Gives, GivesNothing}
 use Rattle.fz_judge.specs.Filling.{IsFirstStep}
 use Rattle.fz_judge.specs.Kept.{IsKept}
@@ -16,6 +17,10 @@ use Rattle.fz_judge.specs.declared.watch.Watch.{Watch}
 abbrev pub NoneGives : Model → Partial → ℕ → ℕ → Type 0
 NoneGives m K from to =
     (j : ℕ) (p : Point) → from ≤ j → j < to → slice_get (points m) j ≡ Some p → GivesNothing m K p
+
+-- the point of the number, where there is one, gives nothing by whichever result it has
+abbrev pub GivesNoneAt : Model → Partial → ℕ → Type 0
+GivesNoneAt m K k = (p : Point) → slice_get (points m) k ≡ Some p → GivesNone m K p
 
 -- The point of the number gives the variable the value, and those from a number up to it give
 -- nothing.

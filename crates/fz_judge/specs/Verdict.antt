@@ -7,6 +7,7 @@ use Rattle.fz_search.specs.of_model.declared.State.TheVariants.{Holds, Fails, No
 use Rattle.fz_search.specs.of_model.Relations.{same_value, same_values}
 use Rattle.fz_search.specs.of_model.Names.{literal_value}
 use Rattle.fz_search.specs.of_model.Meaning.{Place, Aim, Model, Variable, Point, Partial, value, values, points, objective, variables_of, find_name, first_some, IsPartial}
+use Rattle.fz_search.specs.of_model.Openings.{HasEach}
 use Rattle.fz_search.specs.of_model.States.{PointName, state, shown_point}
 use Rattle.fz_search.specs.of_model.Meaning.Place.{Scalar, Array}
 use Rattle.fz_search.specs.of_model.Meaning.Aim.{Minimize, Maximize}
@@ -14,7 +15,8 @@ use Rattle.fz_search.specs.of_model.States.PointName.{DomainOf, DefinitionOf, Co
 use Rattle.fz_judge.specs.Solutions.{Printed, PrintedValue, Block, printed_values}
 use Rattle.fz_judge.specs.BlockFaults.{block_fault}
 use Rattle.fz_judge.specs.Solutions.PrintedValue.{OneValue, ArrayOf}
-use Rattle.fz_judge.specs.Filling.{start, HasAllOf, IsFilling}
+use Rattle.fz_judge.specs.declared.completion.Completion.{Completion}
+use Rattle.fz_judge.specs.Filling.{start, IsFilling}
 
 -- ---- verdicts
 
@@ -137,12 +139,12 @@ pub data AreJudged (m : Model) (Proposed : Block → Partial → Type 0) : Optio
 pub record IsProposed (m : Model) (block : Block) (K : Partial) : Type 0 where
   pub no_fault : block_fault m block ≡ None
   pub partial : IsPartial m K
-  pub has_start : HasAllOf (start m block) K
+  pub has_start : HasEach (start m block) K
 
 -- the filling of a block without fault
-pub record IsFilled (m : Model) (block : Block) (F : Partial) : Type 0 where
+pub record IsFilled (c : Completion) (m : Model) (block : Block) (F : Partial) : Type 0 where
   pub no_fault : block_fault m block ≡ None
-  pub filling : IsFilling m block F
+  pub filling : IsFilling c m block F
 
 -- ---- the answer
 

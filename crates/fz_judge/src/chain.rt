@@ -5,6 +5,7 @@ ghost use Rattle.fz_search.specs.of_model.Meaning.{IsPartial};
 ghost use Rattle.fz_judge.specs.Filling.{Chain};
 ghost use Rattle.fz_judge.specs.Courses.{IsCourse};
 ghost use Rattle.fz_judge.specs.Givers.{AreGivers};
+ghost use Rattle.fz_judge.specs.declared.completion.Completion.TheVariants.{Off};
 
 use crate::course::Course;
 use crate::retrace::retrace;
@@ -61,7 +62,7 @@ pub(crate) fn fill_in_steps(
     partial: &mut Partial,
 ) -> Result<Vec<Giver>, AllocError>
     requires fits { IsPartial model.now partial.old }
-    ensures filled { IfOk result (λ v. AreGivers model.now partial.old partial.new v.items) }
+    ensures filled { IfOk result (λ v. AreGivers Off model.now partial.old partial.new v.items) }
     ensures kinds { OnOk result (IsPartial model.now partial.new) }
 {
     let mut givers = Vec::new(alloc);

@@ -9,16 +9,20 @@ ghost use Rattle.fz_stream.specs.of_syntax.Places.{IsSpanWithin};
 ghost use Rattle.fz_judge.specs.BlockFaults.{block_fault, items_fault, moved};
 ghost use Rattle.fz_judge.specs.Filling.{start};
 ghost use Rattle.fz_judge.specs.Verdict.{IsFilled};
+ghost use Rattle.fz_judge.specs.declared.completion.Completion.TheVariants.{Off, On};
 ghost use Rattle.fz_judge.specs.BlockView.{located_block, located_items};
 ghost use Rattle.fz_judge.specs.Judged.{IsBlockRefusal, TellsKind, kind_told};
 ghost use Rattle.fz_judge.specs.Working.{HasRoom, IsPlacedWithin, moved_error};
 
 use crate::chain::{fill_in, fill_in_steps};
+use crate::completion::Completion;
 use crate::course::Course;
 use crate::error::BlockError;
+use crate::further::further;
 use crate::start::{nothing_proposed, start};
 use crate::steps::Giver;
 use fz_base::Span;
+use fz_search::Search;
 use fz_search::fz_model::{Model, Partial};
 use fz_stream::Block;
 use std::alloc::Global;
@@ -83,7 +87,7 @@ pub(crate) fn filled(
 ) -> Result<Box<Partial>, BlockError>
     requires course { IfSome course.old (IsCourse model.now) }
     requires room { IfSome spare (λ s. HasRoom model.now s.value) }
-    ensures filled { IfOk result (λ f. IsFilled model.now (located_block block.now)
+    ensures filled { IfOk result (λ f. IsFilled Off model.now (located_block block.now)
         f.value) }
     ensures kinds { IfOk result (λ f. IsPartial model.now f.value) }
     ensures only { IfErr result (λ e. TellsKind e
@@ -97,7 +101,34 @@ pub(crate) fn filled(
     Ok(partial)
 }
 
-/// The filling of a block, as `fill` gives it, and the steps that gave its values, in their order.
+/// The same with the second filling, for a block of a judge that looks for values.
+pub(crate) fn filled_further(
+    alloc: Global,
+    model: &Model<'_>,
+    block: &Block<'_>,
+    course: &mut Option<Course>,
+    search: &mut Option<Search>,
+    spare: Option<Box<Partial>>,
+) -> Result<Box<Partial>, BlockError>
+    requires course { IfSome course.old (IsCourse model.now) }
+    requires room { IfSome spare (λ s. HasRoom model.now s.value) }
+    ensures filled { IfOk result (λ f. IsFilled On model.now (located_block block.now)
+        f.value) }
+    ensures kinds { IfOk result (λ f. IsPartial model.now f.value) }
+    ensures only { IfErr result (λ e. TellsKind e
+        (block_fault model.now (located_block block.now))) }
+    ensures refused { IfErr result (λ e. HasPlaces block.now → EndsWithin usize.MAX block.now
+        → IsBlockRefusal model.now (located_block block.now) e) }
+    ensures course { IfSome course.new (IsCourse model.now) }
+{
+    let mut partial = filled(alloc, model, block, course, spare)?;
+    let mut steps = Vec::new(alloc);
+    further(alloc, model, search, &mut partial, &mut steps)?;
+    Ok(partial)
+}
+
+/// The filling of a block, with or without values that are looked for, and the steps that gave its
+/// values, in their order.
 ///
 /// # Errors
 ///
@@ -105,11 +136,13 @@ pub(crate) fn filled(
 pub fn fill_with_steps(
     alloc: Global,
     model: &Model<'_>,
+    completion: Completion,
     block: &Block<'_>,
 ) -> Result<(Partial, Vec<Giver>), BlockError>
-    ensures filled { IfOk result (λ f. IsFilled model.now (located_block block.now) f.0) }
+    ensures filled { IfOk result
+        (λ f. IsFilled completion model.now (located_block block.now) f.0) }
     ensures kinds { IfOk result (λ f. IsPartial model.now f.0) }
-    ensures steps { IfOk result (λ f. AreGivers model.now
+    ensures steps { IfOk result (λ f. AreGivers completion model.now
         (start model.now (located_block block.now)) f.0 f.1.items) }
     ensures only { IfErr result (λ e. TellsKind e
         (block_fault model.now (located_block block.now))) }
@@ -117,8 +150,14 @@ pub fn fill_with_steps(
         → IsBlockRefusal model.now (located_block block.now) e) }
 {
     let mut partial = started(alloc, model, block, None)?;
-    let steps = fill_in_steps(alloc, model, &mut partial)?;
-    Ok((Box::into_inner(partial), steps))
+    let mut steps = fill_in_steps(alloc, model, &mut partial)?;
+    match completion {
+        Completion::Off => Ok((Box::into_inner(partial), steps)),
+        Completion::On => {
+            further(alloc, model, &mut None, &mut partial, &mut steps)?;
+            Ok((Box::into_inner(partial), steps))
+        }
+    }
 }
 
 /// The values that follow from the printed ones by forced steps. It goes over the printed items
@@ -130,7 +169,7 @@ pub fn fill_with_steps(
 /// The fault of the first printed item that has one, with its byte range in the stream, and
 /// `Memory` where memory runs out.
 pub fn fill(alloc: Global, model: &Model<'_>, block: &Block<'_>) -> Result<Partial, BlockError>
-    ensures filled { IfOk result (λ F. IsFilled model.now (located_block block.now) F) }
+    ensures filled { IfOk result (λ F. IsFilled Off model.now (located_block block.now) F) }
     ensures kinds { IfOk result (λ F. IsPartial model.now F) }
     // Whatever the block: it has a fault, and its first is of the kind that the error has.
     ensures only { IfErr result (λ e. TellsKind e
@@ -140,6 +179,6 @@ pub fn fill(alloc: Global, model: &Model<'_>, block: &Block<'_>) -> Result<Parti
     ensures refused { IfErr result (λ e. HasPlaces block.now → EndsWithin usize.MAX block.now
         → IsBlockRefusal model.now (located_block block.now) e) }
 {
-    let (filling, _) = fill_with_steps(alloc, model, block)?;
+    let (filling, _) = fill_with_steps(alloc, model, Completion::Off, block)?;
     Ok(filling)
 }

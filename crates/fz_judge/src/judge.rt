@@ -6,22 +6,23 @@ ghost use Rattle.fz_search.specs.of_model.Overviews.{IsOverview};
 ghost use Rattle.fz_stream.specs.Found.{EndsWithin, HasPlaces};
 ghost use Rattle.fz_judge.specs.BlockFaults.{block_fault, items_fault};
 ghost use Rattle.fz_judge.specs.Completed.{IsCompleted};
-ghost use Rattle.fz_judge.specs.Verdict.{objective_fails, verdict, verdict_by};
+ghost use Rattle.fz_judge.specs.Verdict.{IsFilled, objective_fails, verdict, verdict_by};
+ghost use Rattle.fz_judge.specs.declared.completion.Completion.TheVariants.{On};
 ghost use Rattle.fz_judge.specs.Verdict.Verdict.{Undecided};
 ghost use Rattle.fz_judge.specs.BlockView.{located_block, located_items};
 ghost use Rattle.fz_judge.specs.Judged.{IsBlockRefusal, IsJudged, TellsKind};
 ghost use Rattle.fz_judge.specs.View.{fault_view, reason_view, verdict_view};
-ghost use Rattle.fz_judge.specs.Working.{IsFound, compared, not_shown_better, with_objective};
+ghost use Rattle.fz_judge.specs.Working.{IsFound, IsRefutedAt, compared, not_shown_better, with_objective};
 
 use crate::completion::Completion;
 use crate::course::Course;
 use crate::error::BlockError;
-use crate::filling::filled;
-use crate::points::{objective, objective_fails, points_verdict};
+use crate::filling::{filled, filled_further};
+use crate::points::{fault_named, objective, objective_fails, points_verdict};
 use crate::printed::printed_fails;
 use crate::verdict::{Fault, Reason, Verdict};
 use fz_search::fz_model::{Model, Overview, Partial};
-use fz_search::{Search, propose};
+use fz_search::{Search, propose, refuted};
 use fz_stream::Block;
 use std::alloc::{AllocError, Global};
 
@@ -216,6 +217,26 @@ impl<'m, 'a> Judge<'m, 'a> {
         self.found = None;
     }
 
+    /// The filling of the next block, in the memory of the one before.
+    fn filling(&mut self, alloc: Global, block: &Block<'_>) -> Result<Box<Partial>, BlockError>
+        ensures filled { IfOk result (λ f. IsFilled self.old.completion self.old.model
+            (located_block block.now) f.value) }
+        ensures kinds { IfOk result (λ f. IsPartial self.old.model f.value) }
+        ensures same { self.new ≡ self.old }
+        ensures only { IfErr result (λ e. TellsKind e
+            (block_fault self.old.model (located_block block.now))) }
+        ensures refused { IfErr result (λ e. HasPlaces block.now → EndsWithin usize.MAX block.now
+            → IsBlockRefusal self.old.model (located_block block.now) e) }
+    {
+        let spare = self.spare.take();
+        let course = &mut self.course;
+        let search = &mut self.search;
+        match self.completion {
+            Completion::Off => filled(alloc, self.model, block, course, spare),
+            Completion::On => filled_further(alloc, self.model, block, course, search, spare),
+        }
+    }
+
     /// The verdict on a block that has the verdict `under` and the objective `now` under its
     /// filling, and the objective to compare the next block with, where values that the solver left
     /// out are looked for. What was found is judged anew, and counts only where it satisfies the
@@ -230,6 +251,7 @@ impl<'m, 'a> Judge<'m, 'a> {
     ) -> Result<(Verdict<'a>, Option<i64>), AllocError>
         requires clean { items_fault self.old.model (located_items block.now.items.items) ≡ None }
         requires kinds { IsPartial self.old.model filling.now }
+        requires filling { IsFilled On self.old.model (located_block block.now) filling.now }
         requires filled { verdict_view under
             ≡ verdict self.old.model filling.now (located_block block.now) self.old.before }
         requires objective { now ≡ objective self.old.model filling.now }
@@ -256,6 +278,7 @@ impl<'m, 'a> Judge<'m, 'a> {
     ) -> Result<(Verdict<'a>, Option<i64>), AllocError>
         requires clean { items_fault self.old.model (located_items block.now.items.items) ≡ None }
         requires kinds { IsPartial self.old.model filling.now }
+        requires filling { IsFilled On self.old.model (located_block block.now) filling.now }
         requires objective { now ≡ objective self.old.model filling.now }
         ensures told { IfOk result (λ r. IsCompleted self.old.model
             (located_block block.now) self.old.found filling.now
@@ -265,11 +288,27 @@ impl<'m, 'a> Judge<'m, 'a> {
         match reason {
             Reason::NoValue(_) => match self.satisfied(alloc, filling, block)? {
                 Some(found) => Ok((Verdict::Satisfied, found)),
-                None => Ok((Verdict::Undecided(reason), now)),
+                None => match self.refuted(alloc, filling)? {
+                    Some(fault) => Ok((Verdict::Violated(fault), now)),
+                    None => Ok((Verdict::Undecided(reason), now)),
+                },
             },
             Reason::Unknown(_, _) | Reason::TooLarge(_) | Reason::NotShownBetter(_, _) => {
                 Ok((Verdict::Undecided(reason), now))
             }
+        }
+    }
+
+    /// The fault of a point that can't hold, where no known-solution has the filling's values.
+    fn refuted(&mut self, alloc: Global, filling: &Partial) -> Result<Option<Fault<'a>>, AllocError>
+        requires kinds { IsPartial self.old.model filling.now }
+        ensures refuted { IfOk result (λ o. IfSome o
+            (λ f. IsRefutedAt self.old.model filling.now (fault_view f))) }
+        ensures same { self.new ≡ self.old }
+    {
+        match refuted(alloc, self.model, filling, &mut self.search)? {
+            Some(number) => Ok(Some(fault_named(self.model.point(number)))),
+            None => Ok(None),
         }
     }
 
@@ -301,8 +340,9 @@ impl<'m, 'a> Judge<'m, 'a> {
     /// The verdict on the next block, under its filling: the first that fails of the printed names
     /// in block order, then the points, then the objective, which is to be better than that of the
     /// block before; else the first point that is undecided. Where values are looked for and only
-    /// a value is missing, a block is satisfied where it is so under values that were found. After
-    /// an error the judge is unchanged.
+    /// a value is missing, a block is satisfied where it is so under values that were found, and
+    /// violated where it is shown that no known-solution extends it. After an error the judge is
+    /// unchanged.
     ///
     /// # Errors
     ///
@@ -322,8 +362,7 @@ impl<'m, 'a> Judge<'m, 'a> {
         ensures refused { IfErr result (λ e. HasPlaces block.now → EndsWithin usize.MAX block.now
             → IsBlockRefusal self.old.model (located_block block.now) e) }
     {
-        let spare = self.spare.take();
-        let filling = filled(alloc, self.model, block, &mut self.course, spare)?;
+        let filling = self.filling(alloc, block)?;
         let partial = &*filling;
         let overview = &mut self.overview;
         let (under, now) = verdict_over(alloc, self.model, overview, partial, block, self.before)?;

@@ -32,8 +32,7 @@ pub fn accepted_are_judged()
     ensures { AcceptedAreJudged }
 {}
 
-/// Searching for missing values changes no verdict but that of a block that is satisfied without it
-/// or lacks a value, and never to violated.
+/// A block that is violated where no values are looked for is violated where they are.
 pub fn completed_keep_verdicts()
     ensures { CompletedKeepVerdicts }
 {}
@@ -64,7 +63,7 @@ pub fn each_satisfied_has_one()
     ensures { EachSatisfiedHasOne }
 {}
 
-/// A block has at most one filling.
+/// A block has at most one filling where no values are looked for.
 pub fn filling_is_one()
     ensures { FillingIsOne }
 {}

@@ -1,7 +1,8 @@
 //! Judging solution blocks against a model, one after another: the fault of a block, its filling,
 //! and the verdict on it. The filling is the chain of forced steps: those of the block before are
 //! tried first, where they come to the same in any order; one search through the points finds the
-//! rest. An internal crate of `fz_check`.
+//! rest. Where values that a solver left out are looked for, a second filling goes on from there, by
+//! whichever result a row has. An internal crate of `fz_check`.
 //!
 //! What a verdict or an accepted stream means for solutions is defined in `specs/`, and told by the
 //! laws in `laws.rt`. The definitions are computed on worked blocks in `proofs/Rows.antt`; worked
@@ -14,6 +15,7 @@ mod course;
 mod error;
 mod faults;
 mod filling;
+mod further;
 mod judge;
 mod laws;
 mod lone;

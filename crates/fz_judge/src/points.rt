@@ -17,7 +17,7 @@ use fz_search::fz_model::{
 use std::alloc::{AllocError, Global};
 
 /// The fault of a point that fails.
-fn fault_named(point: Point<'_>) -> Fault<'_>
+pub(crate) fn fault_named(point: Point<'_>) -> Fault<'_>
     ensures { fault_view result ≡ fault_named (point_name point.entry) }
 {
     match point {

@@ -19,6 +19,7 @@ pub mod Tables
 pub mod Units
 pub mod Placed
 pub mod Chosen
+pub mod Aiming
 pub use Rattle.fz_builtins.proofs.of_meaning.Values
 pub use Rattle.fz_builtins.proofs.of_meaning.Lists
 pub use Rattle.fz_builtins.proofs.of_meaning.Partials

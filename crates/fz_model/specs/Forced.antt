@@ -1,5 +1,5 @@
--- What a point forces. The contract of `only_number` cites `IsOnlyNumber`, and that of `forced`
--- cites `Gives` alone; the rest is for private functions.
+-- What a point forces. The contract of `only_number` cites `IsOnlyNumber`, and those of `forced` and
+-- `forced_any` cite `Gives` and `GivesAny` alone; the rest is for private functions.
 use Rattle.std.specs.Prelude.{◌≡◌, ℕ, ℤ, ◌<◌, ◌↔◌, true, false, slice_get, List, [], ◌∷◌, length, flat_map, Option, Some, None, IsTrue, IsSomeAnd}
 use Rattle.fz_base.specs.declared.value.Value.{Value}
 use Rattle.fz_builtins.specs.of_meaning.Relations.{kind_of}
@@ -10,6 +10,7 @@ use Rattle.fz_builtins.specs.of_meaning.declared.term.Term.TheVariants.{Var}
 use Rattle.fz_builtins.specs.of_meaning.Meaning.{Argument, Model, Point, Partial, Posted, admits, argument_values, give, have_shapes, row_holds, row_of, terms_in}
 use Rattle.fz_builtins.specs.of_meaning.States.{sums_leave, terms_at_argument}
 use Rattle.fz_builtins.specs.of_meaning.Steps.{Gives, GivesNothing, HasOneNumber, IsResult, WithinLimits, kind_at, open_terms}
+use Rattle.fz_model.specs.Aimed.{GivesAny, GivesNone}
 use Rattle.fz_model.specs.declared.only.Spot.{Spot}
 use Rattle.fz_model.specs.KindsFit.{each_fits}
 
@@ -17,6 +18,11 @@ use Rattle.fz_model.specs.KindsFit.{each_fits}
 abbrev pub IsForced : Model → Partial → Point → Option (ℕ × Value) → Type 0
 IsForced m K p (Some r) = Gives m K p r.0 r.1
 IsForced m K p None = GivesNothing m K p
+
+-- the same by any result of its row
+abbrev pub IsForcedAny : Model → Partial → Point → Option (ℕ × Value) → Type 0
+IsForcedAny m K p (Some r) = GivesAny m K p r.0 r.1
+IsForcedAny m K p None = GivesNone m K p
 
 -- the one number of the domain, where it has exactly one
 abbrev pub IsOnlyNumber : Domain → Option ℤ → Type 0

@@ -5,6 +5,7 @@ pub mod Left
 pub mod Forced
 pub mod KindsFit
 pub mod Openings
+pub mod Aimed
 pub use Rattle.fz_builtins.specs.of_meaning.Located
 pub use Rattle.fz_builtins.specs.of_meaning.Builtins
 pub use Rattle.fz_builtins.specs.of_meaning.Results

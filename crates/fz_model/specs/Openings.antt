@@ -1,12 +1,12 @@
 -- What a constraint waits for before it can give its defined variable a value: the contract of
--- `opening_of` cites `IsOpening`. What follows that is for private functions: the scalars of an
--- argument, and which of them have no value.
-use Rattle.std.specs.Prelude.{◌≡◌, ℕ, true, List, [], ◌∷◌, None, Some, flat_map, map, slice_get, ⊤}
+-- `opening_of` cites `IsOpening`, and laws above cite `HasEach`. What follows that is for private
+-- functions: the scalars of an argument, and which of them have no value.
+use Rattle.std.specs.Prelude.{◌≡◌, ℕ, true, List, [], ◌∷◌, Option, None, Some, flat_map, map, slice_get, ⊤, ◌⊎◌}
 use Rattle.std.specs.List.{Contains, list_all}
 use Rattle.fz_base.specs.declared.value.Value.{Value}
 use Rattle.fz_builtins.specs.of_meaning.declared.term.Term.{Term}
 use Rattle.fz_builtins.specs.of_meaning.declared.term.Term.TheVariants.{Var}
-use Rattle.fz_builtins.specs.of_meaning.Meaning.{Model, Partial, Posted, terms_in, value_at}
+use Rattle.fz_builtins.specs.of_meaning.Meaning.{Model, Partial, Posted, row_of, terms_in, value_at}
 use Rattle.fz_builtins.specs.of_meaning.States.{terms_at_argument}
 use Rattle.fz_builtins.specs.of_meaning.Meaning.Point.{ConstraintPoint}
 use Rattle.fz_builtins.specs.of_meaning.Steps.{GivesNothing, open_terms}
@@ -41,6 +41,11 @@ IsOpening K p (Waits a) = (value_at K a ≡ None)
     → GivesNothing m L (ConstraintPoint k p))
     × Contains (open_terms K (flat_map terms_in p.arguments)) (Var a)
 IsOpening K p (At s) = IsAlone K p s
+
+-- a variable without a value that is there; or there is none, or no row that could give one
+abbrev pub IsOpenIn : Partial → Posted → Option ℕ → Type 0
+IsOpenIn K p None = (row_of p ≡ None) ⊎ (open_terms K (flat_map terms_in p.arguments) ≡ [])
+IsOpenIn K p (Some n) = Contains (open_terms K (flat_map terms_in p.arguments)) (Var n)
 
 -- ---- the scalars of an argument
 

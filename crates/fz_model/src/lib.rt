@@ -12,7 +12,8 @@
 //! in it without a value. A domain of one number gives that number; a definition gives the value of
 //! either side to the other; a constraint gives its defined variable the value that its row leaves:
 //! the one value of the argument's kind, an integer of 64 bits among them, with which the row
-//! holds. `opening_of` tells what a constraint waits for before.
+//! holds. `opening_of` tells what a constraint waits for before. By `forced_any` a constraint may give
+//! a value to each variable that `defines_var` might name.
 //!
 //! Its worked cases are in `tests/cases` (`builtins.txt`, `calls.txt`).
 #![tactic(auto)]
@@ -43,4 +44,4 @@ pub use holding::all_hold;
 pub use only::{Opening, Spot, opening_of};
 pub use overview::Overview;
 pub use points::state;
-pub use step::{forced, only_number};
+pub use step::{forced, forced_any, only_number};

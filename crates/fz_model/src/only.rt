@@ -1,13 +1,14 @@
 //! What a constraint waits for, and the only scalar without a value among its arguments.
 
-ghost use Rattle.std.specs.Prelude.{◌≡◌, ◌∷◌, [], List, map};
+ghost use Rattle.std.specs.Prelude.{◌≡◌, ◌∷◌, [], List, flat_map, map};
 ghost use Rattle.std.specs.List.{AllByRecursion};
 ghost use Rattle.fz_base.specs.declared.value.Value.{Value};
-ghost use Rattle.fz_builtins.specs.of_meaning.Meaning.{row_of, terms_at};
+ghost use Rattle.fz_builtins.specs.of_meaning.Meaning.{row_of, terms_at, terms_in};
 ghost use Rattle.fz_builtins.specs.of_meaning.declared.term.Term.TheVariants.{Var};
 ghost use Rattle.fz_builtins.specs.of_data.Parts.{constraint_view, kept_row, place_view};
 ghost use Rattle.fz_builtins.specs.of_data.Slots.{slot_term};
-ghost use Rattle.fz_model.specs.Openings.{AreOpen, IsFlat, IsOpening, posted_with, terms_of};
+ghost use Rattle.fz_builtins.specs.of_meaning.Steps.{open_terms};
+ghost use Rattle.fz_model.specs.Openings.{AreOpen, IsFlat, IsOpenIn, IsOpening, posted_with, terms_of};
 
 use fz_builtins::fz_data::{Argument, ConstraintParts, Partial, Slot, item_at, part};
 
@@ -135,7 +136,9 @@ fn opening_among(
     partial: &Partial,
 ) -> Opening
     requires flat { AllByRecursion (IsFlat parts.now) arguments.now }
-    ensures { IsOpening partial.now (posted_with parts.now arguments.now target) result }
+    ensures opening { IsOpening partial.now (posted_with parts.now arguments.now target) result }
+    ensures none_open { result ≡ Opening.Never → open_terms partial.now
+        (flat_map terms_in (posted_with parts.now arguments.now target).arguments) ≡ [] }
 {
     let mut found = None;
     for number in 0..arguments.len() {
@@ -177,4 +180,20 @@ pub fn opening_of(parts: &ConstraintParts<'_, '_>, partial: &Partial) -> Opening
         return Opening::Never;
     }
     opening_among(parts.arguments(), parts, target, partial)
+}
+
+/// A variable without a value among the arguments of a constraint, where it has a row. It takes no
+/// memory. What a constraint waits for to give one variable a value names another one without.
+pub(crate) fn open_in_row(parts: &ConstraintParts<'_, '_>, partial: &Partial) -> Option<usize>
+    requires known { kept_row parts.now.posted.now ≡ row_of (constraint_view parts.now) }
+    ensures { IsOpenIn partial.now (constraint_view parts.now) result }
+{
+    let Some(_) = parts.posted.known else {
+        return None;
+    };
+    match opening_among(parts.arguments(), parts, 0, partial) {
+        Opening::Never => None,
+        Opening::Waits(other) => Some(other),
+        Opening::At(spot) => Some(spot.variable),
+    }
 }

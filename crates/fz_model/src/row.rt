@@ -11,14 +11,14 @@ ghost use Rattle.fz_builtins.specs.of_data.Kinds.{PostedFits};
 ghost use Rattle.fz_builtins.specs.of_data.Parts.{constraint_view};
 ghost use Rattle.fz_builtins.specs.of_kernel.Views.{arguments_of, assigned};
 ghost use Rattle.fz_model.specs.Left.{HasUnit, IsPlaceOf};
-ghost use Rattle.fz_model.specs.Forced.{IsForced, IsOnlyValue, IsReady, IsRow};
+ghost use Rattle.fz_model.specs.Forced.{IsForced, IsForcedAny, IsOnlyValue, IsReady, IsRow};
 ghost use Rattle.fz_model.specs.KindsFit.{each_fits};
 
-use crate::only::{Opening, Spot, opening_of};
+use crate::only::{Opening, Spot, open_in_row, opening_of};
 use crate::unit::unit_value;
 use crate::value::left_value;
 use fz_base::Value;
-use fz_builtins::fz_data::{ConstraintParts, Partial};
+use fz_builtins::fz_data::{ConstraintParts, Partial, Posted};
 use fz_builtins::fz_kernel::ArgumentView;
 use fz_builtins::fz_meaning::{Filled, Known};
 use std::alloc::{AllocError, Global};
@@ -52,6 +52,36 @@ pub(crate) fn by_row(
             }
         }
     }
+}
+
+/// The same, where the only scalar without a value may be in any argument that `defines_var` might
+/// name: the constraint is taken as one whose defined variable that is.
+#[inline(always)]
+pub(crate) fn by_any_result(
+    alloc: Global,
+    parts: ConstraintParts<'_, '_>,
+    partial: &Partial,
+) -> Result<Option<(usize, Value)>, AllocError>
+    requires known { option_map known_row parts.posted.now.known ≡ row_of (constraint_view parts) }
+    requires kinds { IfSome parts.posted.now.known
+        (λ k. each_fits partial.now (known_row k).shapes (constraint_view parts).arguments ≡ true) }
+    ensures forced { (m : Meaning) → IsPartial m partial.now
+        → PostedFits m (constraint_view parts.entry) → IfOk result
+        (λ o. IsForcedAny m partial.now (ConstraintPoint parts.entry.number
+        (constraint_view parts.entry)) o) }
+{
+    let Some(unset) = open_in_row(&parts, partial) else {
+        return Ok(None);
+    };
+    let posted = Posted {
+        target: Some(unset),
+        ..*parts.posted
+    };
+    let aimed = ConstraintParts {
+        posted: &posted,
+        ..parts
+    };
+    by_row(alloc, aimed, partial)
 }
 
 // The value of the variable there with which the row holds.

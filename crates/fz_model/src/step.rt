@@ -6,9 +6,10 @@ ghost use Rattle.fz_builtins.specs.of_meaning.Meaning.Point.{DefinitionPoint, Do
 ghost use Rattle.fz_builtins.specs.of_meaning.Steps.{Gives, GivesNothing, kind_at};
 ghost use Rattle.fz_builtins.specs.of_meaning.declared.kind.Kind.TheVariants.{Int as IntKind};
 ghost use Rattle.fz_builtins.specs.of_data.Parts.{variable_view};
+ghost use Rattle.fz_model.specs.Aimed.{GivesAny, GivesNone};
 ghost use Rattle.fz_model.specs.Forced.{IsFitting, IsForced, IsOnlyNumber};
 
-use crate::row::by_row;
+use crate::row::{by_any_result, by_row};
 use fz_base::Value;
 use fz_builtins::fz_data::{Model, Partial, PointParts, Variable, kind_of, same_kind};
 use fz_builtins::fz_meaning::{Domain, Kind, Term};
@@ -35,6 +36,30 @@ pub fn forced(
         PointParts::Definition(_, own, side) => by_definition(alloc, model, own, side, partial),
         PointParts::Elements(..) => Ok(None),
         PointParts::Constraint(parts) => by_row(alloc, parts, partial),
+    }
+}
+
+/// The step of the point of a number by any result of its row: as that of `forced`, but a
+/// constraint may give its value to each variable that `defines_var` might name. It refuses only
+/// where memory runs out.
+pub fn forced_any(
+    alloc: Global,
+    model: &Model<'_>,
+    number: usize,
+    partial: &Partial,
+) -> Result<Option<(usize, Value)>, AllocError>
+    requires in_range { number < length (points model.now) }
+    requires fits { IsPartial model.now partial.now }
+    ensures given { IfOk result (λ o. IfSome o (λ r. (p : Point)
+        → slice_get (points model.now) number ≡ Some p → GivesAny model.now partial.now p r.0 r.1)) }
+    ensures nothing { IfOk result (λ o. IsNone o → (p : Point)
+        → slice_get (points model.now) number ≡ Some p → GivesNone model.now partial.now p) }
+{
+    match model.point_parts(number) {
+        PointParts::Domain(..) => forced(alloc, model, number, partial),
+        PointParts::Definition(..) => forced(alloc, model, number, partial),
+        PointParts::Elements(..) => Ok(None),
+        PointParts::Constraint(parts) => by_any_result(alloc, parts, partial),
     }
 }
 

@@ -19,6 +19,7 @@ mod linear;
 mod lone;
 mod points;
 mod proposal;
+mod refuted;
 mod relations;
 mod row;
 mod search;
@@ -30,4 +31,6 @@ mod work;
 
 pub use fz_model;
 pub use index::Search;
-pub use search::propose;
+pub use refuted::refuted;
+pub use row::Place;
+pub use search::{known_of, propose};

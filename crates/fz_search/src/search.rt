@@ -119,7 +119,7 @@ impl<'k, 'm, 'a> Work<'k, 'm, 'a> {
 }
 
 /// What is known of a model, made where it isn't there yet.
-fn known_of<'k>(
+pub fn known_of<'k>(
     alloc: Global,
     model: &Model<'_>,
     known: &'k mut Option<Search>,

@@ -122,7 +122,7 @@ pub fn check_stream<S: Read + Drop>(
         bytes: model,
         passed: NOTHING,
     };
-    let explainer = Explainer::new(text, names, options.completes);
+    let explainer = Explainer::new(text, names, completion_of(options.completes));
     let mut teller = Teller::new(rt, options, explainer, task.stream, &recent, &waiting);
     let outcome = match options.form {
         Form::Text => {

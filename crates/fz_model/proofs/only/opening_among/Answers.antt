@@ -15,15 +15,15 @@ use Rattle.fz_model.proofs.only.opening_among.Goals.{in-Nothing, in-Target+in-No
 pub open_in-requires : goal.open_in-requires
 open_in-requires c = record { flat = at_place (IsFlat c.args.parts.now) c.args.arguments.now c.loop-number.number c.item_at.result.now c.requires.flat c.item_at.ensures }
 
-pub returns-in-Other : goal.returns-in-Other
-returns-in-Other c =
+pub returns-in-Other-clause-opening : goal.returns-in-Other-clause-opening
+returns-in-Other-clause-opening c =
     let p = c.args.parts.now in
     let n = c.args.target in
     waits_for c.args.partial.now (posted_with p c.args.arguments.now n) n refl c.in-Other.other
     (has_other c.args.partial.now n (λ bs. scalars (posted_with p bs n)) (terms_of p) (λ a as'. refl) c.args.arguments.now c.loop-number.number c.item_at.result.now c.item_at.ensures c.loop-number.found c.loop-number.invariant.seen c.in-Other.other c.in-Other.ensures)
 
-pub returns-in-Some : goal.returns-in-Some
-returns-in-Some c =
+pub returns-in-Some-clause-opening : goal.returns-in-Some-clause-opening
+returns-in-Some-clause-opening c =
     let p = c.args.parts.now in
     let n = c.args.target in
     waits_for c.args.partial.now (posted_with p c.args.arguments.now n) n refl n
@@ -51,8 +51,8 @@ loop-number-preserved c =
           }
     ]
 
-pub returns-in-Some-found : goal.returns-in-Some-found
-returns-in-Some-found c =
+pub returns-in-Some-found-clause-opening : goal.returns-in-Some-found-clause-opening
+returns-in-Some-found-clause-opening c =
     let K = c.args.partial.now in
     let n = c.args.target in
     let as' = c.args.arguments.now in
@@ -64,8 +64,15 @@ returns-in-Some-found c =
       stands = stands ∙ ap (λ j. Some (Var j)) (sym is);
     }
 
-pub returns-in-None-found : goal.returns-in-None-found
-returns-in-None-found c =
+pub returns-in-None-found-clause-opening : goal.returns-in-None-found-clause-opening
+returns-in-None-found-clause-opening c =
     let n = c.args.target in
     let none = ends c.args.partial.now n (λ bs. scalars (posted_with c.args.parts.now bs n)) c.args.arguments.now c.loop-number.number c.loop-number.found refl c.loop-number-test.false c.loop-number.invariant.seen in
     never_there c.args.partial.now (posted_with c.args.parts.now c.args.arguments.now n) n refl (λ L later. none L later ∙ (λ j. open_terms L (front n (c.in-None-found.is j))))
+
+pub returns-in-None-found-clause-none_open : goal.returns-in-None-found-clause-none_open
+returns-in-None-found-clause-none_open c = λ never.
+    let n = c.args.target in
+    let K = c.args.partial.now in
+    ends K n (λ bs. scalars (posted_with c.args.parts.now bs n)) c.args.arguments.now c.loop-number.number c.loop-number.found refl c.loop-number-test.false c.loop-number.invariant.seen K (λ k v e. e)
+    ∙ (λ j. open_terms K (front n (c.in-None-found.is j)))

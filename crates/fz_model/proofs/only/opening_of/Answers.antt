@@ -22,4 +22,4 @@ pub returns : goal.returns
 returns c =
     let p = c.args.parts.now in
     subst (λ q. IsOpening c.args.partial.now q c.opening_among.result)
-    (λ i. record { name = p.posted.now.name.now; arguments = map (argument_view p.variables.now p.arrays.now p.store.now) (c.arguments.ensures.all i); target = sym c.in-Some.is i }) c.opening_among.ensures
+    (λ i. record { name = p.posted.now.name.now; arguments = map (argument_view p.variables.now p.arrays.now p.store.now) (c.arguments.ensures.all i); target = sym c.in-Some.is i }) c.opening_among.ensures.opening

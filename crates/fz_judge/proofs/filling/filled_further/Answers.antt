@@ -1,0 +1,1 @@
+use Rattle.fz_judge.proofs.filling.filled_further.Goals as goal

@@ -1,0 +1,1 @@
+use Rattle.fz_judge.proofs.judge.Judge.filling.Goals as goal

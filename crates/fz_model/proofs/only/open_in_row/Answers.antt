@@ -1,0 +1,11 @@
+use Rattle.std.proofs.Common.{flat_map, inl, inr, map, option_map, sym, ap, subst, ◌∙◌}
+use Rattle.std.specs.List.{AllByRecursion}
+use Rattle.fz_builtins.specs.of_meaning.Known.{known_row}
+use Rattle.fz_builtins.specs.of_meaning.Meaning.{terms_in}
+use Rattle.fz_builtins.specs.of_meaning.Steps.{open_terms}
+use Rattle.fz_builtins.specs.of_data.Parts.{argument_view, constraint_view}
+use Rattle.fz_builtins.specs.of_data.Slots.{segment}
+use Rattle.fz_model.proofs.ConstraintStates.{row_fits}
+use Rattle.fz_model.specs.Openings.{IsFlat, IsOpenIn}
+use Rattle.fz_model.proofs.Placed.{flat_arguments}
+use Rattle.fz_model.proofs.only.open_in_row.Goals as goal
