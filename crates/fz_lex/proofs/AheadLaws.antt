@@ -7,12 +7,13 @@ use Rattle.std.proofs.lemmas.List.{length-drop, append-nil, get_or_past}
 use Rattle.std.proofs.lemmas.Bool.{eqb-true, eqb-false, cases_Bool, cases_lt, ltb-true, ltb-false}
 use Rattle.std.proofs.lemmas.Int.{ints}
 use Rattle.fz_lex.specs.Token.{is_blank, is_line_feed, TokenValue, Whole}
-use Rattle.fz_lex.specs.Lexing.{SpannedToken, CutBetween, nothing, blank, comment, spelling, IsWholeComment, IsLongestSpelling, LexesToSpanned, most_bytes, IsWithinLimit, IsTokenWithinLimit, AreWithinLimit, LexesWithinLimits}
-use Rattle.fz_lex.specs.View.{NothingBegins, spanned, IsSpelledAtSpan, IsLexicalFault}
+use Rattle.fz_lex.specs.Lexing.{SpannedToken, CutBetween, nothing, blank, comment, spelling, IsWholeComment, IsLongestSpelling, LexesToSpanned, IsWithinLimit, IsTokenWithinLimit, AreWithinLimit, LexesWithin, standard_limits}
+use Rattle.fz_lex.specs.View.{NothingBegins, spanned, IsSpelledAtSpan, IsLexicalFaultWithin, IsPlacedWithin}
 use Rattle.fz_lex.specs.Found.{AreInOrder, NextFrom, FaultFrom, IsScanned, IsScanFault}
 use Rattle.fz_lex.specs.Scan.{FrontToken, found, none, front_of}
 use Rattle.fz_lex.specs.Ahead.{comma_at, gap_from, is_whole_within, is_within, tokens_at, tokens_from, tokens_ahead, stop_at, stop_from, stop_ahead}
 use Rattle.fz_lex.specs.Left.{first_and}
+use Rattle.fz_lex.specs.declared.limits.Limits.{Limits}
 use Rattle.fz_lex.specs.declared.token.Token.{Token}
 use Rattle.fz_lex.specs.declared.error.SyntaxError.{SyntaxError}
 use Rattle.fz_lex.specs.declared.error.SyntaxError.TheVariants.{BadByte, TooLarge}
@@ -284,13 +285,13 @@ end_scanned source place end h same n =
     (tokens_ahead source 0, cut_to source (length source) (sym same ∙ stop_same source place _ _ h (none_ahead source place end n)), numbers_to source)
 
 pub fault_scanned : (source : List ℕ) (place : ℕ) (e : SyntaxError) → place ≤ length source
-    → stop_ahead source place ≡ stop_ahead source 0 → FaultFrom source place e
-    → IsLexicalFault source e
-fault_scanned source place (BadByte span) h same f =
+    → stop_ahead source place ≡ stop_ahead source 0 → FaultFrom source place e → (limits : Limits)
+    → IsLexicalFaultWithin limits source e
+fault_scanned source place (BadByte span) h same f limits =
     (tokens_ahead source 0, cut_to source span.start (sym same ∙ stop_same source place _ _ h (bad_ahead source place span f)), numbers_to source, f.1, f.2)
-fault_scanned source place (TooLarge span) h same f =
+fault_scanned source place (TooLarge span) h same f limits =
     (tokens_ahead source 0, f.0, f.1, cut_to source span.start (sym same ∙ stop_same source place _ _ h (large_ahead source place span f)), numbers_to source, f.3, f.4, f.5)
-fault_scanned source place _ h same f = absurd f
+fault_scanned source place _ h same f limits = absurd f
 
 -- the tokens of a source, up to its first fault, follow one another
 pub ahead_in_order : (source : List ℕ) → AreInOrder 0 (length source) (tokens_ahead source 0)
@@ -309,16 +310,11 @@ pub lexed_ahead : (source : List ℕ) (tokens : List SpannedToken) → LexesToSp
 lexed_ahead source tokens l w =
     ahead_once source 0 _ _ _ _ (record { cut = l; numbers = w; stopped = at_end refl }) (ahead_is source 0 (omega arith))
 
-pub scanned_lexes : (source : List ℕ) (r : Result (Unit {0}) SyntaxError)
-    → length source ≤ most_bytes → OnOk r (IsScanned source)
-    → OnOk r (LexesWithinLimits source (tokens_ahead source 0))
-scanned_lexes source (Err e) h s = s
-scanned_lexes source (Ok v) h s = subst (LexesWithinLimits source) (lexed_ahead source s.0 s.1 s.2) (record { short = h; lexes = s.1; numbers = s.2 })
-
-pub only_scanned : (source : List ℕ) (T : List SpannedToken) (r : Result (Unit {0}) SyntaxError)
-    → LexesWithinLimits source T → IfErr r (IsScanFault source) → IsOk r
-only_scanned source T (Ok v) h f = refl
-only_scanned source T (Err e) h f = absurd (f.1 (only_fault source T h e f.0))
+pub only_scanned : (limits : Limits) (source : List ℕ) (T : List SpannedToken)
+    (r : Result (Unit {0}) SyntaxError) → LexesWithin limits source T
+    → IfErr r (IsScanFault source) → IsOk r
+only_scanned limits source T (Ok v) h f = refl
+only_scanned limits source T (Err e) h f = absurd (f.1 (only_fault limits source T h e (f.0 limits)))
 
 pub scanned_lexed : (source : List ℕ) (r : Result (Unit {0}) SyntaxError)
     → OnOk r (IsScanned source) → OnOk r (LexesToSpanned source (tokens_ahead source 0))
@@ -330,8 +326,12 @@ pub scanned_numbers : (source : List ℕ) (r : Result (Unit {0}) SyntaxError)
 scanned_numbers source (Err e) s = s
 scanned_numbers source (Ok v) s = numbers_to source
 
+pub scan_placed : (source : List ℕ) (e : SyntaxError) → IsScanFault source e
+    → IsPlacedWithin (length source) e
+scan_placed source e f = fault_placed standard_limits source e (f.0 standard_limits)
+
 -- what follows from what a scan of the whole text answers
-pub ruleset of_scan = (scanned_lexed, scanned_lexes, scanned_numbers, only_scanned, fault_placed)
+pub ruleset of_scan = (scanned_lexed, scanned_numbers, scan_placed)
 
 -- what is so of the tokens ahead
 pub ruleset of_ahead = (ahead_in_order, ahead_spelled)

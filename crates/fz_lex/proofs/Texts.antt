@@ -3,7 +3,8 @@
 use Rattle.std.proofs.Common.{◌≡◌, ℕ, ◌-◌, ◌≤◌, List, [], ◌∷◌, ◌++◌, length, take, drop, slice_range, map, sym, ap, ◌∙◌, subst, arith}
 use Rattle.std.specs.List.{AllByRecursion}
 use Rattle.fz_lex.specs.Token.{TokenValue, Word, FloatText, StringText, Spells, IsTokenText, IsWordText, IsFloatText, IsStringText}
-use Rattle.fz_lex.specs.Lexing.{SpannedToken, CutBetween, nothing, blank, comment, spelling, LexesToSpanned, most_bytes, IsTokenWithinLimit, IsTextOfTokens}
+use Rattle.fz_lex.specs.Lexing.{SpannedToken, CutBetween, nothing, blank, comment, spelling, LexesToSpanned, IsTokenWithinLimit, IsTextOfTokensWithin}
+use Rattle.fz_lex.specs.declared.limits.Limits.{Limits}
 use Rattle.fz_lex.specs.AnyLength.{LexesTo, LexesWithNumbersInLimit}
 use Rattle.fz_lex.specs.View.{IsSpelledAtSpan}
 
@@ -61,16 +62,17 @@ lexed_texts source tokens l = subst (AllByRecursion IsTokenText) l.2 (all_values
 
 -- ---- A text of tokens is one that lexes to them, short and with numbers within the limit.
 
-pub text_of_tokens : (source : List ℕ) (tokens : List TokenValue) → length source ≤ most_bytes
-    → LexesWithNumbersInLimit source tokens → IsTextOfTokens source tokens
-text_of_tokens source tokens h l =
+pub text_of_tokens : (limits : Limits) (source : List ℕ) (tokens : List TokenValue)
+    → length source ≤ limits.bytes → LexesWithNumbersInLimit source tokens
+    → IsTextOfTokensWithin limits source tokens
+text_of_tokens limits source tokens h l =
     let lexes = l.lexes in
     let numbers : AllByRecursion IsTokenWithinLimit (map (λ t. t.token) lexes.0) = subst (AllByRecursion IsTokenWithinLimit) (sym lexes.2) l.numbers in
     (lexes.0, record { short = h; lexes = lexes.1; numbers = all_spans IsTokenWithinLimit lexes.0 numbers }, lexes.2)
 
-pub text_lexes : (source : List ℕ) (tokens : List TokenValue) → IsTextOfTokens source tokens
-    → LexesWithNumbersInLimit source tokens
-text_lexes source tokens h = record {
+pub text_lexes : (limits : Limits) (source : List ℕ) (tokens : List TokenValue)
+    → IsTextOfTokensWithin limits source tokens → LexesWithNumbersInLimit source tokens
+text_lexes limits source tokens h = record {
   lexes = (h.0, h.1.lexes, h.2);
   numbers = subst (AllByRecursion IsTokenWithinLimit) h.2 (all_values IsTokenWithinLimit h.0 h.1.numbers);
 }

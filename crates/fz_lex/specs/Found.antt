@@ -3,9 +3,10 @@
 use Rattle.std.specs.Prelude.{Bool, ◌⊎◌, Option, Some, None, ◌≡◌, ◌≢◌, ℕ, ◌+◌, ◌<◌, List, [], ◌∷◌, length, take, drop, slice_range, ℤ, ◌≤◌}
 use Rattle.fz_lex.specs.Token.{Whole}
 use Rattle.fz_lex.specs.Lexing.{SpannedToken, LexesToSpanned, IsLongestSpelling, CutBetween, IsWithinLimit, IsTokenWithinLimit, AreWithinLimit}
-use Rattle.fz_lex.specs.View.{NothingBegins, token_value, spanned, all_spanned, TextsAreSlices, IsLexicalFault}
+use Rattle.fz_lex.specs.View.{NothingBegins, token_value, spanned, all_spanned, TextsAreSlices, IsLexicalFaultWithin}
 use Rattle.fz_lex.specs.Scan.{found, none, front_of, signed}
 use Rattle.fz_lex.specs.declared.token.TokenKind.TheVariants as kinds
+use Rattle.fz_lex.specs.declared.limits.Limits.{Limits}
 use Rattle.fz_lex.specs.declared.token.Token.{Token}
 use Rattle.fz_lex.specs.declared.scanner.Front.{Front}
 use Rattle.fz_lex.specs.declared.scanner.Front.TheVariants.{Found, OutsideLimit, Nothing}
@@ -70,4 +71,5 @@ IsScanned source =
 
 -- A fault of the source, neither its length nor out of memory.
 abbrev pub IsScanFault : List ℕ → SyntaxError → Type 0
-IsScanFault source e = IsLexicalFault source e × (e ≢ Memory) × (e ≢ TooLong)
+IsScanFault source e = ((limits : Limits) → IsLexicalFaultWithin limits source e) × (e ≢ Memory)
+    × (e ≢ TooLong)

@@ -3,6 +3,7 @@
 use Rattle.std.specs.Prelude.{◌≡◌, ℕ, ◌+◌, ◌<◌, ◌≤◌, List, [], ◌∷◌, length, take, drop, slice_index, IsTrue, map, ◌-◌, ◌^◌, ℤ, pos, neg_ℤ, ◌≤ℤ◌}
 use Rattle.std.specs.List.{position_or_len, AllByRecursion}
 use Rattle.fz_lex.specs.Token.{is_blank, is_line_feed, TokenValue, Spells, Word, Whole, FloatText, StringText, Marked}
+use Rattle.fz_lex.specs.declared.limits.Limits.{Limits}
 
 -- A token and the byte range of its text: from start up to end, exclusive.
 pub record SpannedToken : Type 0 where
@@ -53,9 +54,15 @@ least_whole = neg_ℤ (pos (2 ^ 63))
 abbrev pub greatest_whole : ℤ
 greatest_whole = pos (2 ^ 63 - 1)
 
--- The most bytes that a text may have.
+-- The limits where no others are given: the most bytes of a text, elements of a list in brackets or
+-- braces and levels of annotations in one another, and the greatest length of an array (this
+-- project's profile).
+abbrev pub standard_limits : Limits
+standard_limits = record { bytes = 2 ^ 24; elements = 2 ^ 20; size = 2 ^ 20; depth = 32 }
+
+-- The most bytes that a text may have then.
 abbrev pub most_bytes : ℕ
-most_bytes = 2 ^ 24
+most_bytes = standard_limits.bytes
 
 abbrev pub IsWithinLimit : ℤ → Type 0
 IsWithinLimit z = (least_whole ≤ℤ z) × (z ≤ℤ greatest_whole)
@@ -72,12 +79,16 @@ abbrev pub AreWithinLimit : List SpannedToken → Type 0
 AreWithinLimit tokens = AllByRecursion (λ t. IsTokenWithinLimit t.token) tokens
 
 -- The source lexes to the tokens, and both are within the limits.
-pub record LexesWithinLimits (source : List ℕ) (tokens : List SpannedToken) : Type 0 where
-  pub short : length source ≤ most_bytes
+pub record LexesWithin (limits : Limits) (source : List ℕ)
+    (tokens : List SpannedToken) : Type 0 where
+  pub short : length source ≤ limits.bytes
   pub lexes : LexesToSpanned source tokens
   pub numbers : AreWithinLimit tokens
 
+abbrev pub LexesWithinLimits : List ℕ → List SpannedToken → Type 0
+LexesWithinLimits = LexesWithin standard_limits
+
 -- The source is a text of the tokens: it lexes to them, and both are within the limits.
-abbrev pub IsTextOfTokens : List ℕ → List TokenValue → Type 0
-IsTextOfTokens source tokens = (spanned : List SpannedToken) × LexesWithinLimits source spanned
-    × (map (λ t. t.token) spanned ≡ tokens)
+abbrev pub IsTextOfTokensWithin : Limits → List ℕ → List TokenValue → Type 0
+IsTextOfTokensWithin limits source tokens = (spanned : List SpannedToken)
+    × LexesWithin limits source spanned × (map (λ t. t.token) spanned ≡ tokens)

@@ -4,7 +4,8 @@ use Rattle.std.specs.Prelude.{◌≡◌, ℕ, ◌+◌, ◌<◌, ◌≤◌, List,
 use Rattle.std.specs.List.{AllByRecursion}
 use Rattle.fz_base.specs.declared.span.Span.{Span}
 use Rattle.fz_lex.specs.Token.{TokenValue, Word, Whole, FloatText, StringText, Marked, Spells, is_blank}
-use Rattle.fz_lex.specs.Lexing.{SpannedToken, CutUpTo, IsLongestSpelling, most_bytes, IsWithinLimit, AreWithinLimit}
+use Rattle.fz_lex.specs.Lexing.{SpannedToken, CutUpTo, IsLongestSpelling, standard_limits, IsWithinLimit, AreWithinLimit}
+use Rattle.fz_lex.specs.declared.limits.Limits.{Limits}
 use Rattle.fz_lex.specs.declared.token.TokenKind.{TokenKind}
 use Rattle.fz_lex.specs.declared.token.TokenKind.TheVariants as kinds
 use Rattle.fz_lex.specs.declared.token.Token.{Token}
@@ -60,18 +61,21 @@ IsPlacedWithin end Memory = Unit {0}
 -- What a refusal by the lexer says about the source. `BadByte` and `TooLarge` say that the source
 -- is cut up to the fault, with numbers within the limit: at a bad byte nothing begins, and at a
 -- number that is too large the longest text of any token is that of a number outside the limit.
-abbrev pub IsLexicalFault : List ℕ → SyntaxError → Type 0
-IsLexicalFault source TooLong = most_bytes < length source
-IsLexicalFault source (BadByte span) =
+abbrev pub IsLexicalFaultWithin : Limits → List ℕ → SyntaxError → Type 0
+IsLexicalFaultWithin limits source TooLong = limits.bytes < length source
+IsLexicalFaultWithin limits source (BadByte span) =
     (before : List SpannedToken) × CutUpTo source span.start before
     × AreWithinLimit before × NothingBegins (drop span.start source)
     × (span.end ≡ span.start + 1)
-IsLexicalFault source (TooLarge span) =
+IsLexicalFaultWithin limits source (TooLarge span) =
     (before : List SpannedToken) × (n : ℕ) × (z : ℤ) × CutUpTo source span.start before
     × AreWithinLimit before × IsLongestSpelling (drop span.start source) n (Whole z)
     × (¬ (IsWithinLimit z)) × (span.end ≡ span.start + n)
-IsLexicalFault source (Float span) = ⊥
-IsLexicalFault source (Syntax span) = ⊥
-IsLexicalFault source (TooDeep span) = ⊥
-IsLexicalFault source (TooMany span) = ⊥
-IsLexicalFault source Memory = Unit {0}
+IsLexicalFaultWithin limits source (Float span) = ⊥
+IsLexicalFaultWithin limits source (Syntax span) = ⊥
+IsLexicalFaultWithin limits source (TooDeep span) = ⊥
+IsLexicalFaultWithin limits source (TooMany span) = ⊥
+IsLexicalFaultWithin limits source Memory = Unit {0}
+
+abbrev pub IsLexicalFault : List ℕ → SyntaxError → Type 0
+IsLexicalFault = IsLexicalFaultWithin standard_limits

@@ -1,39 +1,18 @@
 //! Reads the tokens of a source one by one, with no list of them.
 
-ghost use Rattle.std.specs.Prelude.{◌≡◌, ◌≢◌, ◌<◌, ◌∷◌, [], List, length, drop, IsOk, IfErr, IfSome, IfNone, OnOk};
+ghost use Rattle.std.specs.Prelude.{◌≡◌, ◌≢◌, ◌∷◌, [], List, length, drop, IsOk, IfErr, IfSome, IfNone, OnOk};
 ghost use Rattle.std.specs.List.{AllByRecursion};
-ghost use Rattle.fz_lex.specs.Lexing.{most_bytes, AreWithinLimit, LexesWithinLimits, SpannedToken, LexesToSpanned};
+ghost use Rattle.fz_lex.specs.Lexing.{AreWithinLimit, LexesWithin, SpannedToken, LexesToSpanned};
 ghost use Rattle.fz_lex.specs.Found.{AreInOrder, IsScanned, IsScanFault};
-ghost use Rattle.fz_lex.specs.View.{spanned, IsSpelledAtSpan, IsLexicalFault, IsPlacedWithin};
+ghost use Rattle.fz_lex.specs.View.{spanned, IsSpelledAtSpan, IsLexicalFaultWithin, IsPlacedWithin};
 ghost use Rattle.fz_lex.specs.Ahead.{tokens_ahead};
+ghost use Rattle.fz_lex.specs.declared.limits.Limits.{Limits};
 ghost use Rattle.fz_lex.specs.Left.{left, listed_comma, source_of};
 
 use crate::error::SyntaxError;
-use crate::lexer::{Lexer, MOST_BYTES};
+use crate::lexer::Lexer;
 use crate::token::Token;
 use fz_base::Span;
-
-/// Tells whether a text consists of tokens, blanks and comments, by the rules of `lex`. It takes no
-/// memory.
-///
-/// # Errors
-/// Those of `lex`, but never `Memory`.
-#[tactic(auto, using(crate::proofs::AheadLaws::of_scan))]
-pub fn check_tokens(source: &[u8]) -> Result<(), SyntaxError>
-    // The source lexes to the tokens ahead of its first byte, within the limits.
-    ensures found { OnOk result (LexesWithinLimits source.now (tokens_ahead source.now 0)) }
-    ensures only { (tokens : List SpannedToken) → LexesWithinLimits source.now tokens
-        → IsOk result }
-    ensures too_long { most_bytes < length source.now → result ≡ Err SyntaxError.TooLong }
-    ensures refused { IfErr result (IsLexicalFault source.now) }
-    ensures no_memory { IfErr result (λ e. e ≢ SyntaxError.Memory) }
-    ensures placed { IfErr result (IsPlacedWithin (length source.now)) }
-{
-    if source.len() > MOST_BYTES {
-        return Err(SyntaxError::TooLong);
-    }
-    scan(Lexer { source, place: 0 })
-}
 
 /// Goes over the rest of a text.
 #[tactic(auto, using(crate::proofs::AheadLaws::fault_scanned, crate::proofs::Next::of_fault))]
@@ -123,11 +102,12 @@ impl<'a> Tokens<'a> {
         ensures lexes { OnOk result (LexesToSpanned (source_of self.entry)
             (tokens_ahead (source_of self.entry) 0)) }
         ensures numbers { OnOk result (AreWithinLimit (tokens_ahead (source_of self.entry) 0)) }
-        ensures only { (tokens : List SpannedToken)
-            → LexesWithinLimits (source_of self.entry) tokens → IsOk result }
-        ensures refused { IfErr result (IsLexicalFault (source_of self.entry)) }
+        // It doesn't look at the length of the text, so this is so of all limits.
+        ensures only { (limits : Limits) (tokens : List SpannedToken)
+            → LexesWithin limits (source_of self.entry) tokens → IsOk result }
+        ensures refused { (limits : Limits)
+            → IfErr result (IsLexicalFaultWithin limits (source_of self.entry)) }
         ensures no_memory { IfErr result (λ e. e ≢ SyntaxError.Memory) }
-        // It doesn't look at the length of the text.
         ensures any_length { IfErr result (λ e. e ≢ SyntaxError.TooLong) }
         ensures placed { IfErr result (IsPlacedWithin (length (source_of self.entry))) }
     {

@@ -7,7 +7,7 @@ use thiserror::Error;
 /// Why a text is refused. Its byte range counts from the first byte of the text that was passed in.
 #[derive(Clone, Copy, Debug, PartialEq, Eq, Error)]
 pub enum SyntaxError {
-    /// It has more than 16,777,216 bytes.
+    /// It has more bytes than its limits allow.
     #[error("TooLong")]
     TooLong,
     /// No blank, comment or token begins at this byte.
@@ -25,7 +25,7 @@ pub enum SyntaxError {
     /// The name of an annotation at depth 33.
     #[error("TooDeep")]
     TooDeep(Span),
-    /// An element past the 1,048,576th of a list, or a size above that.
+    /// An element past the last that the limits allow in a list, or a size above theirs.
     #[error("TooMany")]
     TooMany(Span),
     /// Out of memory.

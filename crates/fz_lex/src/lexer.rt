@@ -9,6 +9,7 @@ ghost use Rattle.fz_lex.specs.View.{all_spanned, TextsAreSlices, IsLexicalFault,
 ghost use Rattle.fz_lex.specs.Ahead.{comma_at, tokens_ahead, stop_ahead};
 
 use crate::error::SyntaxError;
+use crate::limits::Limits;
 use crate::scanner::{
     Front, comment_len, is_blank, is_word_start, mark_front, read_other_front, short_whole,
 };
@@ -16,9 +17,6 @@ use crate::token::{Token, TokenKind};
 use crate::word::word_len;
 use fz_base::Span;
 use std::alloc::Global;
-
-/// The most bytes that a text may have.
-pub const MOST_BYTES: usize = 16_777_216;
 
 /// Skips blanks and whole comments from a byte offset on, and gives the offset where they end.
 #[inline(always)]
@@ -197,7 +195,7 @@ pub fn lex<'a>(alloc: Global, source: &'a [u8]) -> Result<Vec<Token<'a>>, Syntax
     ensures refused { IfErr result (IsLexicalFault source.now) }
     ensures placed { IfErr result (IsPlacedWithin (length source.now)) }
 {
-    if source.len() > MOST_BYTES {
+    if source.len() > Limits::STANDARD.bytes() {
         return Err(SyntaxError::TooLong);
     }
     tokens(alloc, source)

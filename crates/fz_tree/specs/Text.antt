@@ -2,7 +2,8 @@
 -- FlatZinc grammar; the limits are this project's profile.)
 use Rattle.std.specs.Prelude.{◌≡◌, ℕ, List, length, ◌≤◌, ◌+◌, zero, suc, Bool, true, false, ◌||◌, [], ◌∷◌, Option, Some, None, codes, IfSome}
 use Rattle.std.specs.List.{AllByRecursion, list_any}
-use Rattle.fz_lex.specs.Lexing.{IsTextOfTokens}
+use Rattle.fz_lex.specs.Lexing.{IsTextOfTokensWithin, standard_limits}
+use Rattle.fz_lex.specs.declared.limits.Limits.{Limits}
 use Rattle.fz_tree.specs.Tree.{Tree, Printed, Literal, Number, Truth, Range, Braces, Basic, Lit, Named, Expr, One, Several, Note, Called, NoteArgs, NoMoreArgs, MoreArgs, NoteArg, OneBasic, ListOf, NoteBasics, NoMoreBasics, MoreBasics, NoteBasic, NoteLiteral, NoteFloat, NoteString, Inner, Base, BoolBase, IntBase, SetBase, Param, Predicate, Decl, Constraint, Goal, Satisfy, Minimize, Maximize, Solve, PrintedValue, OneValue, ArrayOf}
 use Rattle.fz_tree.specs.Tokens.{toks, itoks}
 use Rattle.std.specs.Str.{bytes_eq}
@@ -29,16 +30,6 @@ is_reserved text =
 
 abbrev pub IsName : List ℕ → Type 0
 IsName text = is_reserved text ≡ false
-
--- How large a tree may be: elements of a list in brackets or braces, the length of an array, and
--- how deep annotations are nested (this project's profile).
-pub record Limits : Type 0 where
-  pub elements : ℕ
-  pub size : ℕ
-  pub depth : ℕ
-
-abbrev pub the_limits : Limits
-the_limits = record { elements = 1048576; size = 1048576; depth = 32 }
 
 -- ---- expressions
 
@@ -200,13 +191,18 @@ pub record IsPrinted (limits : Limits) (p : Printed) : Type 0 where
   pub value : IsPrintedValue limits p.value
 
 -- The source lexes to the tokens of the tree, and both are within the limits.
-pub record IsTextOfTree (source : List ℕ) (t : Tree) : Type 0 where
-  pub lexes : IsTextOfTokens source (toks t)
-  pub of_grammar : IsTree the_limits t
+pub record IsTextOfTreeWithin (limits : Limits) (source : List ℕ) (t : Tree) : Type 0 where
+  pub lexes : IsTextOfTokensWithin limits source (toks t)
+  pub of_grammar : IsTree limits t
+
+abbrev pub IsTextOfTree : List ℕ → Tree → Type 0
+IsTextOfTree = IsTextOfTreeWithin standard_limits
 
 -- The source lexes to the tokens of the printed items, and both are within the limits.
-pub record IsTextOfItems (source : List ℕ) (items : List Printed) : Type 0 where
-  pub lexes : IsTextOfTokens source (itoks items)
-  pub of_grammar : AllByRecursion (IsPrinted the_limits) items
+pub record IsTextOfItemsWithin (limits : Limits) (source : List ℕ)
+    (items : List Printed) : Type 0 where
+  pub lexes : IsTextOfTokensWithin limits source (itoks items)
+  pub of_grammar : AllByRecursion (IsPrinted limits) items
 
--- ---- laws
+abbrev pub IsTextOfItems : List ℕ → List Printed → Type 0
+IsTextOfItems = IsTextOfItemsWithin standard_limits

@@ -1,11 +1,11 @@
 //! The canonical text of a tree.
 
 ghost use Rattle.std.specs.Prelude.{◌≡◌, ◌≤◌, ◌++◌, ℕ, List, length, OnOk, IfOk};
-ghost use Rattle.fz_lex.specs.Lexing.{most_bytes};
+ghost use Rattle.fz_lex.specs.declared.limits.Limits.{Limits};
 ghost use Rattle.fz_lex.specs.AnyLength.{LexesWithNumbersInLimit};
 ghost use Rattle.fz_tree.specs.View.{bare};
 ghost use Rattle.fz_tree.specs.Tokens.{toks};
-ghost use Rattle.fz_tree.specs.Text.{IsTextOfTree};
+ghost use Rattle.fz_tree.specs.Text.{IsTextOfTreeWithin};
 ghost use Rattle.fz_tree.specs.Print.{tree_text, CanBeWritten};
 
 mod annotations;
@@ -39,10 +39,12 @@ pub fn to_text(alloc: Global, ast: &Ast<'_>) -> Result<Vec<u8>, AllocError>
     ensures reads_back { IfOk result (λ text. CanBeWritten (bare ast.now)
         → LexesWithNumbersInLimit text.items (toks (bare ast.now))) }
 
-    // For a tree that was read from a source, it is a text of that tree too, where it isn't too
-    // long.
-    ensures again { IfOk result (λ text. (source : List ℕ) → IsTextOfTree source (bare ast.now)
-        → length text.items ≤ most_bytes → IsTextOfTree text.items (bare ast.now)) }
+    // For a tree that was read from a source under some limits, it is a text of that tree under
+    // them too, where it isn't too long.
+    ensures again { IfOk result (λ text. (limits : Limits) (source : List ℕ)
+        → IsTextOfTreeWithin limits source (bare ast.now)
+        → length text.items ≤ limits.bytes
+        → IsTextOfTreeWithin limits text.items (bare ast.now)) }
 {
     let mut printer = Printer {
         text: Vec::new(alloc),
