@@ -116,11 +116,7 @@ impl<'a> Sink for Text<'a> {
         self.s(");\n");
     }
     fn decl(&mut self, is_var: bool, length: Option<usize>, base: Base, name: Name) {
-        self.ty(
-            length.map(Some).as_ref().map(std::slice::from_ref),
-            is_var,
-            base,
-        );
+        self.ty(length.map(Some).as_ref().map(std::slice::from_ref), is_var, base);
         self.n(name);
     }
     fn value(&mut self, list: bool) {

@@ -7,6 +7,7 @@ use Rattle.fz_stream.specs.declared.error.StreamError.TheVariants.{Unfinished}
 use Rattle.fz_stream.specs.declared.line.ClaimKind.TheVariants.{Complete, Unsatisfiable, Error, UnsatOrUnbounded}
 use Rattle.fz_stream.specs.declared.line.LineKind.TheVariants.{Blank, Comment, Marker, Claim, Item as ItemLine}
 use Rattle.fz_stream.specs.Parts.{Line, lines_of, kind_of, IsFiller, BlockPart, ClaimPart, BlockFrame, ClaimFrame, AreBlockLines, AreLinesOfFrame, Covers, HasDistinctNames, IsStreamText}
+use Rattle.fz_syntax.specs.Lexing.{standard_limits}
 use Rattle.fz_stream.specs.Broken.{IsBrokenAfter, IsBrokenAtEndAfter}
 use Rattle.fz_stream.specs.Splitting.{Holds}
 
@@ -93,7 +94,7 @@ no_line : (l : Line) (lines : List Line) → l ∷ lines ≡ [] → ⊥
 no_line l lines e = cc
 
 -- `x = 1;` and a claim without LF: broken at the end, and broken for good with its LF
-broken_at_end : IsBrokenAtEndAfter (codes "x = 1;" ++ (10 ∷ codes "==========")) [] (Unfinished (record { start = 0; end = 7 }))
+broken_at_end : IsBrokenAtEndAfter standard_limits (codes "x = 1;" ++ (10 ∷ codes "==========")) [] (Unfinished (record { start = 0; end = 7 }))
 unfolding kind_of
 broken_at_end = (
   tt,
@@ -110,7 +111,7 @@ broken_at_end = (
   },
 )
 
-broken : IsBrokenAfter (codes "x = 1;" ++ (10 ∷ codes "==========" ++ 10 ∷ [])) [] (Unfinished (record { start = 0; end = 7 }))
+broken : IsBrokenAfter standard_limits (codes "x = 1;" ++ (10 ∷ codes "==========" ++ 10 ∷ [])) [] (Unfinished (record { start = 0; end = 7 }))
 unfolding kind_of
 broken = (
   tt,

@@ -21,8 +21,8 @@ returns-in-Err c =
       items = tt;
       places = tt;
       within = tt;
-      broken = λ memory _ bytes more frames frame f. broken_inside _ _ (c.in-Err.ensures.refused memory) c.in-Err.e c.in-Err.ensures.tells _ waits c.args.self.now refl bytes more frames frame f;
-      broken_at_end = λ memory _ bytes frames ends. broken_last _ _ (c.in-Err.ensures.refused memory) c.in-Err.e c.in-Err.ensures.tells _ waits bytes frames ends;
+      broken = λ memory _ bytes more frames frame f. broken_inside _ _ _ (c.in-Err.ensures.refused memory) c.in-Err.e c.in-Err.ensures.tells _ waits c.args.self.now refl bytes more frames frame f;
+      broken_at_end = λ memory _ bytes frames ends. broken_last _ _ _ (c.in-Err.ensures.refused memory) c.in-Err.e c.in-Err.ensures.tells _ waits bytes frames ends;
       failed = (
         (λ e. absurd (let same : c.in-Err.e ≡ FailedBefore = cc in subst IsLineFault same c.in-Err.ensures.fault)),
         (λ e. absurd (⊎_elim (λ r. let no : Running ≡ Failed = sym r ∙ stage ∙ e in cc) (λ r. let no : Finished ≡ Failed = sym r ∙ stage ∙ e in cc) c.in-Running.is)),
