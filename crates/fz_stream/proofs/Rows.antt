@@ -72,7 +72,7 @@ unfolding kind_of
 row_empty =
     let block : AreLinesOfFrame 0 ((codes "% a" ++ 10 ∷ []) ∷ (codes "----------" ++ 10 ∷ []) ∷ []) (BlockFrame 4 []) = record { gap = (codes "% a" ++ 10 ∷ []) ∷ []; body = []; line = codes "----------" ++ 10 ∷ []; whole = refl; fillers = (tt, tt); own = tt; closes = (refl, refl, refl) } in
     let claim : AreLinesOfFrame 15 (codes "=====ERROR=====" ∷ []) (ClaimFrame Error) = record { gap = []; body = []; line = codes "=====ERROR====="; whole = refl; fillers = tt; own = tt; closes = (refl, refl) } in
-    record { framed = ([], record { covered = (codes "% a" ++ 10 ∷ []) ∷ (codes "----------" ++ 10 ∷ []) ∷ codes "=====ERROR=====" ∷ []; whole = refl; of_frames = (_, _, refl, block, (_, [], refl, claim, refl)); fillers = tt; own = tt }); items = ((none_text, none_apart), (tt, tt)) }
+    record { framed = ([], record { covered = (codes "% a" ++ 10 ∷ []) ∷ (codes "----------" ++ 10 ∷ []) ∷ codes "=====ERROR=====" ∷ []; whole = refl; of_frames = (_, _, refl, block, (_, [], refl, claim, refl)); fillers = tt; own = tt }); items = ((none_text standard_limits, none_apart), (tt, tt)) }
 
 -- no frame, and an open block
 abbrev no_frames : (gap body : List Line) → AllByRecursion IsFiller gap → AreBlockLines body
