@@ -1,16 +1,17 @@
 -- The laws of literals and expressions.
-use Rattle.std.proofs.Common.{◌≡◌, ℕ, ℤ, ◌≤◌, Bool, true, false, not, List, [], ◌∷◌, ◌++◌, length, drop, Ok, refl, ap, ◌∙◌, arith, ◌||◌}
+use Rattle.std.proofs.Common.{◌≡◌, ℕ, ℤ, ◌≤◌, Bool, true, false, List, [], ◌∷◌, ◌++◌, length, drop, Ok, refl, ◌∙◌, arith, ◌||◌}
 use Rattle.std.specs.Prelude.{codes}
 use Rattle.std.specs.List.{AllByRecursion}
 use Rattle.fz_tree.specs.of_lex.declared.token.Mark.TheVariants.{OpenBracket, CloseBracket, OpenBrace, CloseBrace, DotDot}
 use Rattle.fz_tree.specs.of_lex.Token.{TokenValue, Word, Whole, Marked}
 use Rattle.fz_tree.specs.Tree.{Literal, Number, Truth, Range, Braces, Basic, Lit, Named, Expr, One, Several}
 use Rattle.fz_tree.specs.Tokens.{mark, number_toks, literal_toks, name_toks, basic_toks, expr_toks, separated}
-use Rattle.fz_tree.specs.Text.{Limits, is_reserved, IsName, IsLiteral, IsBounds, IsBasic, IsExpr, IsLiteralBasic}
-use Rattle.fz_syntax.specs.Reading.{Reader, is_mark, next_passes, next_is, next_word, list_at, at_most, any_number, whole_at, name_at, is_whole, is_name, begins_literal, begins_basic, braces_at, from_whole, literal_at, basic_at, expr_list_at, expr_at, literal_basic_at}
+use Rattle.fz_tree.specs.of_lex.declared.limits.Limits.{Limits}
+use Rattle.fz_tree.specs.Text.{is_reserved, IsName, IsLiteral, IsBounds, IsBasic, IsExpr, IsLiteralBasic}
+use Rattle.fz_syntax.specs.Reading.{is_mark, next_passes, next_is, next_word, at_most, whole_at, name_at, is_whole, is_name, begins_literal, begins_basic, braces_at, from_whole, literal_at, basic_at, expr_list_at, expr_at, literal_basic_at}
 use Rattle.fz_syntax.proofs.Lists.{Shrinks}
 use Rattle.fz_syntax.proofs.Laws.{Always, Took, Takes, ◌⟫◌, step, made, choose, refused, first, marked, worded}
-use Rattle.fz_syntax.proofs.ListLaws.{Law, Ends, no_range, fits_more, apart, AtMost, bounded, unbounded, list_again, bounded_list_takes}
+use Rattle.fz_syntax.proofs.ListLaws.{Law, Ends, no_range, fits_more, apart, AtMost, bounded, list_again, bounded_list_takes}
 
 -- limits that are no smaller
 pub record Allow (less more : Limits) : Type 0 where

@@ -4,7 +4,7 @@ use Rattle.std.proofs.lemmas.List.{append-nil}
 use Rattle.fz_tree.specs.of_lex.Token.{TokenValue}
 use Rattle.fz_syntax.specs.declared.parser.refusal.Refusal.{Refusal}
 use Rattle.fz_tree.specs.Tree.{Literal}
-use Rattle.fz_tree.specs.Text.{Limits}
+use Rattle.fz_tree.specs.of_lex.declared.limits.Limits.{Limits}
 use Rattle.fz_syntax.specs.Reading.{Fault, Read, ◌>>=◌}
 use Rattle.fz_syntax.specs.ReadingItems.{index_set_at, index_sets_at}
 use Rattle.fz_syntax.specs.Outcome.{Fails}

@@ -1,18 +1,19 @@
 -- The laws of items and of a whole tree.
 use Rattle.std.proofs.Common.{◌≡◌, ℕ, Bool, true, false, not, ◌&&◌, ◌||◌, List, [], ◌∷◌, ◌++◌, length, drop, Option, Some, None, Ok, refl, sym, ap, ◌∙◌, append_assoc, arith}
 use Rattle.std.specs.Prelude.{codes}
-use Rattle.std.specs.List.{AllByRecursion, flat_map}
+use Rattle.std.specs.List.{flat_map}
 use Rattle.std.proofs.lemmas.List.{append-nil}
-use Rattle.fz_tree.specs.of_lex.declared.token.Mark.TheVariants.{OpenParen, CloseParen, OpenBracket, CloseBracket, Semicolon, Colon, ColonColon, Equals, DotDot}
+use Rattle.fz_tree.specs.of_lex.declared.token.Mark.TheVariants.{OpenParen, CloseParen, OpenBracket, CloseBracket, Semicolon, Colon, ColonColon, Equals}
 use Rattle.fz_tree.specs.of_lex.Token.{TokenValue, Word, Marked}
-use Rattle.fz_tree.specs.Tree.{Number, Truth, Range, Braces, Basic, Expr, One, Several, Base, BoolBase, IntBase, SetBase, Param, Predicate, Decl, Constraint, Goal, Satisfy, Minimize, Maximize, Solve, Tree}
-use Rattle.fz_tree.specs.Text.{Limits, IsExpr, IsBase, IsBaseOf, IsParam, IsPredicate, IsLiteralBasic, IsValueOf, IsDecl, IsConstraint, IsGoal, IsSolve, HasShape}
+use Rattle.fz_tree.specs.Tree.{Number, Truth, Expr, One, Several, Base, IntBase, Param, Predicate, Decl, Constraint, Goal, Satisfy, Minimize, Maximize, Solve, Tree}
+use Rattle.fz_tree.specs.of_lex.declared.limits.Limits.{Limits}
+use Rattle.fz_tree.specs.Text.{IsBase, IsBaseOf, IsParam, IsPredicate, IsValueOf, IsDecl, IsConstraint, IsGoal, IsSolve, HasShape}
 use Rattle.fz_tree.specs.Tokens.{mark, name_toks, basic_toks, expr_toks, separated, notes_toks, base_toks, var_toks, prefix_toks, param_prefix_toks, param_toks, predicate_toks, value_toks, decl_toks, constraint_toks, goal_toks, solve_toks, toks}
-use Rattle.fz_syntax.specs.Reading.{Reader, ◌>>=◌, is_word, next_is, next_word, next_passes, any_number, at_most, mark_at, word_at, list_at, begins_literal, begins_bounds, begins_decl, expr_at, expr_list_at, literal_basic_at, may_lack_value, value_at, given_value_at, param_at, predicate_at, decl_at, constraint_at, goal_at, solve_at, tree_at, ended, tree_of}
+use Rattle.fz_syntax.specs.Reading.{is_word, next_is, next_word, next_passes, any_number, mark_at, word_at, begins_bounds, begins_decl, expr_at, may_lack_value, value_at, given_value_at, param_at, predicate_at, decl_at, constraint_at, goal_at, solve_at, tree_at, ended, tree_of}
 use Rattle.fz_syntax.proofs.Lists.{Shrinks}
-use Rattle.fz_syntax.proofs.Laws.{Takes, ◌⟫◌, step, next, made, choose, none, marked, worded, mark_takes, mark_again, word_takes}
+use Rattle.fz_syntax.proofs.Laws.{Takes, ◌⟫◌, step, next, made, choose, none, worded, mark_takes, mark_again, word_takes}
 use Rattle.fz_syntax.proofs.ListLaws.{Law, Ends, fits_more, apart_word, each_before, bounded, unbounded, list_again, bounded_list_takes, unbounded_list_takes, items_take, items_again}
-use Rattle.fz_syntax.proofs.ExprLaws.{Allow, same, all_always, name_takes, name_again, begins_expr, basic_law, expr_list_takes, expr_list_again, expr_law, literal_basic_law}
+use Rattle.fz_syntax.proofs.ExprLaws.{Allow, same, all_always, name_takes, name_again, basic_law, expr_list_takes, expr_list_again, expr_law, literal_basic_law}
 use Rattle.fz_syntax.proofs.NoteLaws.{notes_take, notes_again}
 use Rattle.fz_syntax.proofs.TypeLaws.{base_of, base_no_var, no_array, var_takes, var_again, base_takes, base_again, type_takes, type_again, param_prefix_takes, param_prefix_again, prefix_takes, prefix_again}
 

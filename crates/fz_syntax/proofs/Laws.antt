@@ -1,13 +1,13 @@
 -- How the laws of a production follow from those of its parts: what is read is spelled so, and what
 -- is spelled so is read again.
-use Rattle.std.proofs.Common.{◌≡◌, ℕ, Bool, true, false, cond, eqb, List, [], ◌∷◌, ◌++◌, drop, Ok, Err, refl, sym, ap, subst, append_assoc, ◌∙◌, ◌||◌}
+use Rattle.std.proofs.Common.{◌≡◌, ℕ, Bool, true, false, cond, eqb, List, [], ◌∷◌, ◌++◌, drop, Ok, Err, refl, sym, ap, subst, append_assoc, ◌∙◌}
 use Rattle.std.proofs.lemmas.Bool.{eqb-true, eq-eqb}
 use Rattle.std.proofs.lemmas.Slice.Eq.{bytes_eq-Decides}
 use Rattle.fz_tree.specs.of_lex.declared.token.Mark.{Mark}
 use Rattle.fz_tree.specs.of_lex.declared.token.Mark.TheVariants.{OpenParen, CloseParen, OpenBracket, CloseBracket, OpenBrace, CloseBrace, Comma, Semicolon, Colon, ColonColon, Equals, DotDot}
-use Rattle.fz_tree.specs.of_lex.Token.{TokenValue, Word, Whole, FloatText, StringText, Marked}
+use Rattle.fz_tree.specs.of_lex.Token.{TokenValue, Word, Marked}
 use Rattle.fz_tree.specs.Tokens.{mark, word}
-use Rattle.fz_syntax.specs.Reading.{mark_number, next_word, word_at, Fault, Read, Reader, ◌>>=◌, is_mark, is_word, next_passes, next_is, mark_at}
+use Rattle.fz_syntax.specs.Reading.{mark_number, next_word, word_at, Fault, Read, Reader, ◌>>=◌, is_mark, next_is, mark_at}
 
 -- what a reader took from the front
 pub record Took {A : Type 0} (toks : A → List TokenValue) (Is : A → Type 0)

@@ -1,5 +1,5 @@
 -- The laws of parts one after another and of lists with commas follow from those of their elements.
-use Rattle.std.proofs.Common.{◌≡◌, ℕ, zero, suc, ◌+◌, ◌≤◌, ◌<◌, Bool, true, false, cond, eqb, List, [], ◌∷◌, ◌++◌, length, drop, Ok, ⊎_elim, refl, sym, ap, subst, ◌∙◌, append_assoc, arith, length-append, ◌&&◌, ◌||◌, nat_le}
+use Rattle.std.proofs.Common.{◌≡◌, ℕ, zero, suc, ◌+◌, ◌≤◌, ◌<◌, Bool, true, false, eqb, List, [], ◌∷◌, ◌++◌, length, drop, Ok, ⊎_elim, refl, sym, ap, subst, ◌∙◌, append_assoc, arith, length-append, ◌&&◌, ◌||◌, nat_le}
 use Rattle.std.specs.List.{flat_map, AllByRecursion}
 use Rattle.std.proofs.lemmas.Bool.{eq-eqb, cases_Bool}
 use Rattle.std.proofs.lemmas.Bool.Decides.{nat_tests}
@@ -10,10 +10,10 @@ use Rattle.fz_tree.specs.of_lex.declared.token.Mark.{Mark}
 use Rattle.fz_tree.specs.of_lex.declared.token.Mark.TheVariants.{OpenParen, Comma, DotDot}
 use Rattle.fz_tree.specs.of_lex.Token.{TokenValue, Word, Marked}
 use Rattle.fz_tree.specs.Tokens.{separated, mark}
-use Rattle.fz_syntax.specs.Reading.{mark_number, next_word, Read, Reader, ◌>>=◌, is_mark, next_passes, next_is, many_upto, many_at, after_token, separated_at, list_at, mark_at, any_number, at_most}
+use Rattle.fz_syntax.specs.Reading.{mark_number, next_word, Reader, ◌>>=◌, is_mark, next_passes, next_is, many_upto, many_at, after_token, separated_at, list_at, any_number, at_most}
 use Rattle.fz_syntax.proofs.Lists.{Shrinks, many_step, many_ends}
 use Rattle.fz_syntax.proofs.Separated.{Shrinks-after_token}
-use Rattle.fz_syntax.proofs.Laws.{same_mark, Took, Takes, Split, ◌⟫◌, step, made, choose, refused, none, marked, split_of, mark_takes, mark_again, marked_tokens}
+use Rattle.fz_syntax.proofs.Laws.{same_mark, Took, Takes, Split, ◌⟫◌, step, made, choose, refused, none, marked, split_of, mark_takes, mark_again}
 
 -- What follows a part doesn't go on with it: it is neither the dots of a range nor the parenthesis
 -- of arguments.

@@ -4,7 +4,7 @@ use Rattle.std.proofs.lemmas.Bool.{lt-leb}
 use Rattle.fz_tree.specs.of_lex.Token.{TokenValue, Whole, Marked}
 use Rattle.fz_tree.specs.of_lex.declared.token.Mark.TheVariants.{Comma}
 use Rattle.fz_tree.specs.Tree.{Literal, Number, Truth, Range, Braces}
-use Rattle.fz_tree.specs.Text.{Limits}
+use Rattle.fz_tree.specs.of_lex.declared.limits.Limits.{Limits}
 use Rattle.fz_syntax.specs.Outcome.{IsListed}
 use Rattle.fz_syntax.specs.Reading.{at_most, begins_literal, is_whole, literal_at, whole_at, from_whole}
 

@@ -1,18 +1,19 @@
 -- The laws of annotations.
-use Rattle.std.proofs.Common.{◌≡◌, ℕ, zero, suc, ◌+◌, ◌≤◌, Bool, true, false, cond, List, [], ◌∷◌, ◌++◌, length, drop, Ok, refl, sym, ap, subst, ◌∙◌, append_assoc, arith, ◌||◌}
+use Rattle.std.proofs.Common.{◌≡◌, ℕ, zero, suc, ◌≤◌, Bool, true, false, cond, List, [], ◌∷◌, ◌++◌, length, drop, Ok, refl, sym, ap, subst, ◌∙◌, append_assoc, arith, ◌||◌}
 use Rattle.std.specs.List.{AllByRecursion}
 use Rattle.std.proofs.lemmas.List.Concat.{flat_map-cons}
 use Rattle.fz_tree.specs.of_lex.declared.token.Mark.TheVariants.{OpenParen, CloseParen, OpenBracket, CloseBracket, Comma, ColonColon}
 use Rattle.fz_tree.specs.of_lex.Token.{TokenValue, FloatText, StringText, Marked}
-use Rattle.fz_tree.specs.Tree.{Literal, Number, Truth, Range, Braces, Note, Called, NoteArgs, NoMoreArgs, MoreArgs, NoteArg, OneBasic, ListOf, NoteBasics, NoMoreBasics, MoreBasics, NoteBasic, NoteLiteral, NoteFloat, NoteString, Inner}
+use Rattle.fz_tree.specs.Tree.{Literal, Truth, Note, Called, NoteArgs, NoMoreArgs, MoreArgs, NoteArg, OneBasic, ListOf, NoteBasics, NoMoreBasics, MoreBasics, NoteBasic, NoteLiteral, NoteFloat, NoteString, Inner}
 use Rattle.fz_tree.specs.Tokens.{mark, literal_toks, in_parens, in_brackets, note_toks, args_toks, more_args_toks, arg_toks, basics_toks, more_basics_toks, note_basic_toks, notes_toks, separated, after_commas}
 use Rattle.fz_tree.specs.View.{arg_list, basic_list}
-use Rattle.fz_tree.specs.Text.{Limits, IsNote, AreArgs, IsArg, AreBasics, IsNoteBasic, AreNotes, count_basics}
-use Rattle.fz_syntax.specs.Reading.{Read, Reader, ◌>>=◌, is_mark, next_passes, next_is, separated_at, many_at, after_token, any_number, at_most, is_name, is_quoted, is_deep_name, begins_literal, begins_note_basic, literal_at, note_at, note_args_at, note_arg_at, note_list_at, note_basic_at, notes_at}
+use Rattle.fz_tree.specs.of_lex.declared.limits.Limits.{Limits}
+use Rattle.fz_tree.specs.Text.{IsNote, AreArgs, IsArg, AreBasics, IsNoteBasic, AreNotes, count_basics}
+use Rattle.fz_syntax.specs.Reading.{Reader, ◌>>=◌, is_mark, next_passes, next_is, after_token, any_number, at_most, is_name, is_quoted, is_deep_name, begins_literal, begins_note_basic, literal_at, note_at, note_args_at, note_arg_at, note_list_at, note_basic_at, notes_at}
 use Rattle.fz_syntax.proofs.Lists.{Shrinks}
 use Rattle.fz_syntax.proofs.Separated.{Shrinks-after_token}
-use Rattle.fz_syntax.proofs.Laws.{Took, Takes, Split, ◌⟫◌, step, made, choose, refused, first, none, marked, mark_takes, mark_again, split_of}
-use Rattle.fz_syntax.proofs.ListLaws.{Law, Ends, no_args, apart, fits_more, AtMost, bounded, unbounded, list_again, separated_takes, separated_again, bounded_list_takes, all_of, many_takes, many_again}
+use Rattle.fz_syntax.proofs.Laws.{Takes, Split, ◌⟫◌, step, made, choose, refused, first, none, marked, mark_takes, mark_again, split_of}
+use Rattle.fz_syntax.proofs.ListLaws.{Law, Ends, no_args, apart, fits_more, bounded, unbounded, list_again, separated_takes, separated_again, bounded_list_takes, all_of, many_takes, many_again}
 use Rattle.fz_syntax.proofs.ExprLaws.{Allow, same, name_takes, name_again, literal_law, literal_begun, literal_no_name, first_of_two, second_of_two}
 
 -- ---- lists of parts, as a tree of annotations holds them

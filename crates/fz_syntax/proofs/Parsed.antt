@@ -4,7 +4,8 @@ use Rattle.std.specs.Prelude.{MatchResult}
 use Rattle.std.specs.List.{All, AllByRecursion}
 use Rattle.std.proofs.lemmas.List.Elements.{All-from_recursion}
 use Rattle.fz_tree.specs.of_lex.Token.{TokenValue, IsTokenText}
-use Rattle.fz_tree.specs.of_lex.Lexing.{SpannedToken, LexesToSpanned, nothing, most_bytes, AreWithinLimit, IsTextOfTokens}
+use Rattle.fz_tree.specs.of_lex.Lexing.{SpannedToken, LexesToSpanned, nothing, AreWithinLimit, IsTextOfTokensWithin}
+use Rattle.fz_tree.specs.of_lex.declared.limits.Limits.{Limits}
 use Rattle.fz_tree.specs.of_lex.Found.{AreInOrder}
 use Rattle.fz_tree.specs.of_lex.Ahead.{tokens_ahead}
 use Rattle.fz_tree.proofs.of_lex.Texts.{words_are_words}
@@ -16,7 +17,7 @@ use Rattle.fz_syntax.specs.declared.parser.cursor.Parser.{Parser}
 use Rattle.fz_tree.specs.declared.tree.Printed.{Printed as Item}
 use Rattle.fz_tree.specs.Tree.{Tree, Printed}
 use Rattle.fz_tree.specs.Tokens.{toks, itoks}
-use Rattle.fz_tree.specs.Text.{HasShape, IsPrinted, the_limits, IsTextOfTree, IsTextOfItems}
+use Rattle.fz_tree.specs.Text.{HasShape, IsPrinted, IsTextOfTreeWithin, IsTextOfItemsWithin}
 use Rattle.fz_syntax.specs.Reading.{tree_of, tree_at}
 use Rattle.fz_syntax.specs.ReadingItems.{items_of, items_at}
 use Rattle.fz_syntax.specs.Outcome.{IsWhole}
@@ -37,61 +38,62 @@ of_values [] h = tt
 of_values (t ∷ ts) h = (h.0, of_values ts h.1)
 
 -- the tokens of any text of the source are those ahead of its first byte
-pub tokens_are : (source : List ℕ) (ts : List TokenValue) → IsTextOfTokens source ts
-    → values (tokens_ahead source 0) ≡ ts
-tokens_are source ts (others, lexed, e) = sym (ap values (lexed_ahead source others lexed.lexes lexed.numbers)) ∙ e
+pub tokens_are : (limits : Limits) (source : List ℕ) (ts : List TokenValue)
+    → IsTextOfTokensWithin limits source ts → values (tokens_ahead source 0) ≡ ts
+tokens_are limits source ts (others, lexed, e) = sym (ap values (lexed_ahead source others lexed.lexes lexed.numbers)) ∙ e
 
--- A parser at the first token of a source, what it read, and what the tokens behind it showed.
-module _ (source : List ℕ) (p : Parser) (all : ahead p ≡ tokens_ahead source 0) where
+-- A parser at the first token of a source, what it read under limits, and what the tokens behind it
+-- showed.
+module _ (limits : Limits) (source : List ℕ) (p : Parser) (all : ahead p ≡ tokens_ahead source 0) where
   seen : (ts : List TokenValue) → lexemes p ≡ ts → values (tokens_ahead source 0) ≡ ts
   seen ts e = sym (ap values all) ∙ e
 
-  text_of : (ts : List TokenValue) → length source ≤ most_bytes
+  text_of : (ts : List TokenValue) → length source ≤ limits.bytes
       → LexesToSpanned source (tokens_ahead source 0) → AreWithinLimit (tokens_ahead source 0)
-      → lexemes p ≡ ts → IsTextOfTokens source ts
+      → lexemes p ≡ ts → IsTextOfTokensWithin limits source ts
   text_of ts short lexes numbers e = (tokens_ahead source 0, record { short = short; lexes = lexes; numbers = numbers }, seen ts e)
 
   -- the tree that was read is one of which the source is a text
-  pub tree_found : (t : Tree) → length source ≤ most_bytes
+  pub tree_found : (t : Tree) → length source ≤ limits.bytes
       → LexesToSpanned source (tokens_ahead source 0) → AreWithinLimit (tokens_ahead source 0)
-      → tree_of the_limits (lexemes p) ≡ Ok t → IsTextOfTree source t
+      → tree_of limits (lexemes p) ≡ Ok t → IsTextOfTreeWithin limits source t
   unfolding tree_of
   tree_found t short lexes numbers read =
       let result : Result Tree SyntaxError = Ok t in
-      let h = found_of (λ (u : Tree). u) toks (HasShape the_limits) (tree_at the_limits) (tree_takes _ _ (same the_limits)) result (lexemes p) read in
+      let h = found_of (λ (u : Tree). u) toks (HasShape limits) (tree_at limits) (tree_takes _ _ (same limits)) result (lexemes p) read in
       record {
         lexes = text_of (toks t) short lexes numbers h.1;
         of_grammar = record { shape = h.0; texts = subst (AllByRecursion IsTokenText) (seen (toks t) h.1) (of_values (tokens_ahead source 0) (words_are_words source (tokens_ahead source 0) lexes)) };
       }
 
   -- a tree of which the source is a text is the one that was read
-  pub tree_read : (t : Tree) → IsTextOfTree source t → tree_of the_limits (lexemes p) ≡ Ok t
+  pub tree_read : (t : Tree) → IsTextOfTreeWithin limits source t → tree_of limits (lexemes p) ≡ Ok t
   tree_read t text =
-      ap (tree_of the_limits) (ap values all ∙ tokens_are source (toks t) text.lexes) ∙ tree_of_toks _ _ (same the_limits) t text.of_grammar.shape
+      ap (tree_of limits) (ap values all ∙ tokens_are limits source (toks t) text.lexes) ∙ tree_of_toks _ _ (same limits) t text.of_grammar.shape
 
   -- the items that were read are some of which the source is a text
-  pub items_found : (v : Vec Item Global) → length source ≤ most_bytes
+  pub items_found : (v : Vec Item Global) → length source ≤ limits.bytes
       → LexesToSpanned source (tokens_ahead source 0) → AreWithinLimit (tokens_ahead source 0)
-      → items_of the_limits (lexemes p) ≡ Ok (bare_items v.items)
-      → IsTextOfItems source (bare_items v.items)
+      → items_of limits (lexemes p) ≡ Ok (bare_items v.items)
+      → IsTextOfItemsWithin limits source (bare_items v.items)
   unfolding items_of
   items_found v short lexes numbers read =
       let result : Result (Vec Item Global) SyntaxError = Ok v in
-      let h = found_of (λ (x : Vec Item Global). bare_items x.items) itoks (AllByRecursion (IsPrinted the_limits)) (items_at the_limits) (items_takes _ _ (same the_limits)) result (lexemes p) read in
+      let h = found_of (λ (x : Vec Item Global). bare_items x.items) itoks (AllByRecursion (IsPrinted limits)) (items_at limits) (items_takes _ _ (same limits)) result (lexemes p) read in
       record { lexes = text_of (itoks (bare_items v.items)) short lexes numbers h.1; of_grammar = h.0 }
 
   -- items of which the source is a text are those that were read
   pub items_only : (result : Result (Vec Item Global) SyntaxError)
       → IsWhole (λ (x : Vec Item Global). bare_items x.items) result
-      (items_of the_limits (lexemes p)) → (items : List Printed) → IsTextOfItems source items
+      (items_of limits (lexemes p)) → (items : List Printed) → IsTextOfItemsWithin limits source items
       → IsValue (λ (x : Vec Item Global). bare_items x.items) result items
   unfolding items_of
   items_only result read items text =
-      only_of (λ (x : Vec Item Global). bare_items x.items) itoks (AllByRecursion (IsPrinted the_limits)) (items_at the_limits) (items_of_toks _ _ (same the_limits)) result (lexemes p) read items text.of_grammar (ap values all ∙ tokens_are source (itoks items) text.lexes)
+      only_of (λ (x : Vec Item Global). bare_items x.items) itoks (AllByRecursion (IsPrinted limits)) (items_at limits) (items_of_toks _ _ (same limits)) result (lexemes p) read items text.of_grammar (ap values all ∙ tokens_are limits source (itoks items) text.lexes)
 
 -- the empty text is one of no items
-pub none_text : IsTextOfItems [] []
-none_text = record { lexes = ([], record { short = omega arith; lexes = nothing 0; numbers = tt }, refl); of_grammar = tt }
+pub none_text : (limits : Limits) → IsTextOfItemsWithin limits [] []
+none_text limits = record { lexes = ([], record { short = omega arith; lexes = nothing 0; numbers = tt }, refl); of_grammar = tt }
 
 none_seen : (items : List Item) → map bare_printed items ≡ [] → items ≡ []
 none_seen [] e = refl
@@ -106,10 +108,10 @@ empty_of_none items_of (Err _) h = absurd h
 
 -- what is read of the empty text
 pub empty_of_only : {X : Type 0} (items_of : X → List Item) (result : Result X SyntaxError)
-    (source : List ℕ) → ((items : List Printed) → IsTextOfItems source items
+    (limits : Limits) (source : List ℕ) → ((items : List Printed) → IsTextOfItemsWithin limits source items
     → IsValue (λ given. bare_items (items_of given)) result items)
     → source ≡ [] → MatchResult result (λ given. items_of given ≡ []) (λ e. e ≡ errors.Memory)
-empty_of_only items_of result source only empty = empty_of_none items_of result (only [] (subst (λ (s : List ℕ). IsTextOfItems s []) (sym empty) none_text))
+empty_of_only items_of result limits source only empty = empty_of_none items_of result (only [] (subst (λ (s : List ℕ). IsTextOfItemsWithin limits s []) (sym empty) (none_text limits)))
 
 -- tokens in order lie within the source
 within_source : (from end : ℕ) (tokens : List SpannedToken) → AreInOrder from end tokens

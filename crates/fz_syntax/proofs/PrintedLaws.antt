@@ -1,6 +1,5 @@
 -- The laws of printed items.
 use Rattle.std.proofs.Common.{◌≡◌, ◌<◌, ◌≤◌, ℕ, zero, suc, Bool, true, false, cond, eqb, List, [], ◌∷◌, ◌++◌, length, drop, Ok, refl, sym, ap, subst, ◌∙◌, append_assoc, arith}
-use Rattle.std.specs.Prelude.{codes}
 use Rattle.std.specs.List.{AllByRecursion, flat_map}
 use Rattle.std.specs.Str.{bytes_eq}
 use Rattle.std.proofs.lemmas.Bool.Decides.{nat_tests}
@@ -8,10 +7,11 @@ use Rattle.std.proofs.lemmas.Slice.Eq.{bytes_eq-Decides}
 use Rattle.std.proofs.lemmas.List.{append-nil}
 use Rattle.fz_tree.specs.of_lex.declared.token.Mark.TheVariants.{OpenParen, CloseParen, OpenBracket, CloseBracket, Comma, Semicolon, Equals}
 use Rattle.fz_tree.specs.of_lex.Token.{TokenValue, Word, Marked}
-use Rattle.fz_tree.specs.Tree.{Literal, Number, Truth, Range, Braces, PrintedValue, OneValue, ArrayOf, Printed}
-use Rattle.fz_tree.specs.Text.{Limits, IsLiteral, IsBounds, IsPrintedValue, IsPrinted}
+use Rattle.fz_tree.specs.Tree.{Literal, Truth, PrintedValue, OneValue, ArrayOf, Printed}
+use Rattle.fz_tree.specs.of_lex.declared.limits.Limits.{Limits}
+use Rattle.fz_tree.specs.Text.{IsLiteral, IsBounds, IsPrintedValue, IsPrinted}
 use Rattle.fz_tree.specs.Tokens.{mark, word, name_toks, literal_toks, separated, array_word, printed_value_toks, printed_toks, itoks}
-use Rattle.fz_syntax.specs.Reading.{Reader, is_name, any_number, at_most, literal_at, begins_literal, ended}
+use Rattle.fz_syntax.specs.Reading.{is_name, any_number, at_most, literal_at, begins_literal, ended}
 use Rattle.fz_syntax.specs.ReadingItems.{dimensions_of, next_dimensions, index_set_at, index_sets_at, elements_at, printed_array_at, printed_value_at, printed_at, items_at, items_of}
 use Rattle.fz_syntax.proofs.Lists.{Shrinks}
 use Rattle.fz_syntax.proofs.Laws.{Took, Takes, Split, ◌⟫◌, step, next, made, choose, none, mark_takes, mark_again}

@@ -1,6 +1,6 @@
 -- The steps of a loop over elements with commas between them, and of one over parts that each begin
 -- with a mark.
-use Rattle.std.proofs.Common.{◌≡◌, ℕ, ◌+◌, true, false, cond, List, [], ◌∷◌, ◌++◌, drop, Ok, Err, refl, sym, ap, ◌∙◌, arith, length-drop}
+use Rattle.std.proofs.Common.{◌≡◌, ℕ, cond, List, [], ◌∷◌, drop, Ok, Err, refl, ap, arith, length-drop}
 use Rattle.fz_syntax.specs.declared.parser.refusal.Refusal.{Refusal}
 use Rattle.fz_syntax.specs.declared.parser.refusal.Refusal.TheVariants as refusals
 use Rattle.fz_tree.specs.of_lex.declared.token.Mark.{Mark}
@@ -8,7 +8,7 @@ use Rattle.fz_tree.specs.of_lex.declared.token.Mark.TheVariants.{Comma}
 use Rattle.fz_tree.specs.of_lex.Token.{TokenValue}
 use Rattle.fz_syntax.specs.Reading.{Syntax, Float, TooDeep, TooMany, Fault, FaultKind, Read, Reader, ◌>>=◌, is_mark, next_is, many_at, after_token, separated_at}
 use Rattle.fz_syntax.specs.Outcome.{Fails}
-use Rattle.fz_syntax.proofs.Lists.{Shrinks, loop_step, loop_fails, loop_ends, with_front}
+use Rattle.fz_syntax.proofs.Lists.{Shrinks, with_front}
 
 abbrev fault : FaultKind → List TokenValue → Fault
 fault kind left = record { kind = kind; left = left }

@@ -1,12 +1,12 @@
 -- The laws of types.
-use Rattle.std.proofs.Common.{◌≡◌, ℕ, pos, negsuc, ◌≤◌, Bool, true, false, List, [], ◌∷◌, ◌++◌, length, drop, Option, Some, None, Ok, refl, ap, ◌∙◌, append_assoc, arith, ◌||◌}
+use Rattle.std.proofs.Common.{◌≡◌, ℕ, pos, negsuc, ◌≤◌, Bool, true, false, List, [], ◌∷◌, ◌++◌, drop, Option, Some, None, Ok, refl, ap, ◌∙◌, append_assoc, arith}
 use Rattle.std.specs.Prelude.{codes, nat_le, IfSome}
-use Rattle.std.specs.List.{AllByRecursion}
 use Rattle.std.proofs.lemmas.Bool.Decides.{Decides-int_eq, nat_tests}
 use Rattle.fz_tree.specs.of_lex.declared.token.Mark.TheVariants.{OpenBracket, CloseBracket, OpenBrace, DotDot}
 use Rattle.fz_tree.specs.of_lex.Token.{TokenValue, Word, Whole, Marked}
 use Rattle.fz_tree.specs.Tree.{Literal, Number, Truth, Range, Braces, Base, BoolBase, IntBase, SetBase}
-use Rattle.fz_tree.specs.Text.{Limits, IsBounds, IsBase, IsPlain, IsBaseOf, IsAnyIndex, IsParamArray, most_indexes}
+use Rattle.fz_tree.specs.of_lex.declared.limits.Limits.{Limits}
+use Rattle.fz_tree.specs.Text.{IsBounds, IsBase, IsPlain, IsBaseOf, IsAnyIndex, IsParamArray, most_indexes}
 use Rattle.fz_tree.specs.Tokens.{mark, word, literal_toks, separated, in_brackets, bounds_toks, base_toks, var_toks, index_toks, prefix_toks, any_index_toks, param_prefix_toks}
 use Rattle.fz_syntax.specs.Reading.{Reader, ◌>>=◌, next_is, next_word, next_passes, at_most, whole_at, mark_at, word_at, begins_bounds, range_at, bounds_at, int_at, base_at, plain_at, type_at, is_one, one_at, size_at, index_at, array_at, any_index_at, begins_index, indexes_at, param_prefix_at, prefix_at, var_at}
 use Rattle.fz_syntax.proofs.Lists.{Shrinks}

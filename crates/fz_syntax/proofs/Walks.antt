@@ -12,16 +12,14 @@ use Rattle.fz_tree.specs.of_lex.Token.{TokenValue, Word, Marked}
 use Rattle.fz_tree.specs.of_lex.Lexing.{SpannedToken}
 use Rattle.fz_tree.specs.of_lex.Left.{left, listed_comma, source_of}
 use Rattle.fz_tree.specs.of_lex.declared.ahead.Listed.{Listed}
-use Rattle.fz_tree.specs.of_lex.View.{token_value, spanned}
+use Rattle.fz_tree.specs.of_lex.View.{spanned}
 use Rattle.fz_tree.specs.of_lex.declared.token.Mark.{Mark}
 use Rattle.fz_tree.specs.of_lex.declared.token.Mark.TheVariants.{OpenParen, CloseParen, OpenBracket, CloseBracket, Comma}
-use Rattle.fz_tree.specs.of_lex.declared.token.TokenKind.{TokenKind}
-use Rattle.fz_tree.specs.of_lex.declared.token.TokenKind.TheVariants as kinds
 use Rattle.fz_tree.specs.of_lex.declared.token.Token.{Token}
 use Rattle.fz_tree.specs.Tree as tree
 use Rattle.fz_tree.specs.Tokens.{mark, word, literal_toks, var_toks, array_word}
 use Rattle.fz_tree.specs.View.{lexeme, bare_literal, bare_literal_kind}
-use Rattle.fz_syntax.specs.Reading.{Reader, is_name, next_is, next_word, mark_at, word_at}
+use Rattle.fz_syntax.specs.Reading.{Reader, next_is, next_word, mark_at, word_at}
 use Rattle.fz_syntax.specs.ReadingItems.{next_dimensions}
 use Rattle.fz_syntax.specs.Outcome.{Gives, IsListed, plain_token, plain_kind}
 use Rattle.fz_syntax.specs.declared.parser.refusal.Refusal.{Refusal}
@@ -30,11 +28,10 @@ use Rattle.fz_syntax.specs.declared.parser.kinds.Plain.TheVariants as plains
 use Rattle.fz_syntax.specs.declared.parser.cursor.Parser.{Parser}
 use Rattle.fz_tree.specs.declared.tree.LiteralKind.{LiteralKind}
 use Rattle.fz_tree.specs.declared.tree.Literal.{Literal}
-use Rattle.fz_tree.specs.declared.tree.Name.{Name}
 use Rattle.fz_tree.specs.declared.tree.NoteArg.{NoteArg}
 use Rattle.fz_tree.specs.declared.tree.NoteBasic.{NoteBasic}
 use Rattle.fz_tree.specs.declared.tree.PrintedValue.{PrintedValue}
-use Rattle.fz_syntax.specs.Placed.{PlacedToken, AgreeWith, unplaced, plain, placed_mark, placed_word, placed_separated, placed_between, placed_name, starting_at, ending_at, placed_literal, placed_parts, placed_args, placed_arg, placed_note_basic, placed_printed_value}
+use Rattle.fz_syntax.specs.Placed.{PlacedToken, AgreeWith, unplaced, plain, placed_mark, placed_word, placed_separated, placed_between, starting_at, ending_at, placed_literal, placed_parts, placed_args, placed_arg, placed_note_basic, placed_printed_value}
 use Rattle.fz_syntax.specs.Walk.{ahead, lexemes, start_of, end_of, Consumed, Passed, Walk, placed_listed}
 use Rattle.fz_syntax.proofs.Laws.{Takes, marked_tokens, worded_tokens, mark_takes, word_takes}
 use Rattle.fz_syntax.proofs.PrintedLaws.{array_tokens}

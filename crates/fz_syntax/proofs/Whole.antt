@@ -10,9 +10,10 @@ use Rattle.fz_tree.specs.of_lex.Token.{TokenValue}
 use Rattle.fz_syntax.specs.Reading.{Fault, FaultKind, Read, Syntax, Float, TooDeep, TooMany, Reader, ended, whole}
 use Rattle.fz_syntax.specs.Outcome.{IsFault, IsWhole, IsRefusal, IsErrorOf, Fails, unexpected_kind}
 use Rattle.fz_tree.specs.of_lex.of_base.declared.span.Span.{Span}
-use Rattle.fz_tree.specs.of_lex.Lexing.{SpannedToken, LexesWithinLimits}
-use Rattle.fz_tree.specs.of_lex.View.{IsLexicalFault}
-use Rattle.fz_tree.specs.Refusals.{IsValue, IsRefusalOf}
+use Rattle.fz_tree.specs.of_lex.Lexing.{SpannedToken, LexesWithin}
+use Rattle.fz_tree.specs.of_lex.View.{IsLexicalFaultWithin}
+use Rattle.fz_tree.specs.of_lex.declared.limits.Limits.{Limits}
+use Rattle.fz_tree.specs.Refusals.{IsValue, IsRefusalWithin}
 use Rattle.fz_syntax.proofs.Laws.{Takes}
 
 fault_of : {X A : Type 0} (view : X → A) (e : SyntaxError) (f : Fault) (read : Result A Fault)
@@ -108,20 +109,21 @@ large_none p Syntax h = h
 large_none p _ h = h
 
 -- the grammar finds its own faults alone, and here the source lexes
-pub grammar_refuses : {X A : Type 0} (view : X → A) (source : List ℕ) (e : SyntaxError)
-    (read : Result A Fault) (tokens : List SpannedToken) → LexesWithinLimits source tokens
-    → IsWhole view (Err e) read → IsRefusalOf source e
-grammar_refuses view source errors.Memory read tokens lexed h = tt
-grammar_refuses view source errors.TooLong read tokens lexed h = absurd (errors_none h.0.kind h.2)
-grammar_refuses view source (errors.BadByte p) read tokens lexed h = absurd (byte_none p h.0.kind h.2)
-grammar_refuses view source (errors.TooLarge p) read tokens lexed h = absurd (large_none p h.0.kind h.2)
-grammar_refuses view source _ read tokens lexed h = (tokens, lexed)
+pub grammar_refuses : {X A : Type 0} (view : X → A) (limits : Limits) (source : List ℕ)
+    (e : SyntaxError) (read : Result A Fault) (tokens : List SpannedToken)
+    → LexesWithin limits source tokens → IsWhole view (Err e) read
+    → IsRefusalWithin limits source e
+grammar_refuses view limits source errors.Memory read tokens lexed h = tt
+grammar_refuses view limits source errors.TooLong read tokens lexed h = absurd (errors_none h.0.kind h.2)
+grammar_refuses view limits source (errors.BadByte p) read tokens lexed h = absurd (byte_none p h.0.kind h.2)
+grammar_refuses view limits source (errors.TooLarge p) read tokens lexed h = absurd (large_none p h.0.kind h.2)
+grammar_refuses view limits source _ read tokens lexed h = (tokens, lexed)
 
 -- the lexer finds its own
-pub lexer_refuses : (source : List ℕ) (e : SyntaxError) → IsLexicalFault source e
-    → IsRefusalOf source e
-lexer_refuses source errors.Memory f = tt
-lexer_refuses source errors.TooLong f = f
-lexer_refuses source (errors.BadByte p) f = f
-lexer_refuses source (errors.TooLarge p) f = f
-lexer_refuses source _ f = absurd f
+pub lexer_refuses : (limits : Limits) (source : List ℕ) (e : SyntaxError)
+    → IsLexicalFaultWithin limits source e → IsRefusalWithin limits source e
+lexer_refuses limits source errors.Memory f = tt
+lexer_refuses limits source errors.TooLong f = f
+lexer_refuses limits source (errors.BadByte p) f = f
+lexer_refuses limits source (errors.TooLarge p) f = f
+lexer_refuses limits source _ f = absurd f

@@ -12,6 +12,7 @@ pub use Rattle.fz_tree.specs.of_lex.View as Places
 pub use Rattle.fz_tree.specs.of_lex.of_base.Sets
 pub use Rattle.fz_tree.specs.of_lex.of_base.Ranges
 pub use Rattle.fz_tree.specs.of_lex.declared.error.SyntaxError
+pub use Rattle.fz_tree.specs.of_lex.declared.limits.Limits
 pub use Rattle.fz_tree.specs.of_lex.declared.token.Mark
 pub use Rattle.fz_tree.specs.of_lex.declared.token.TokenKind
 pub use Rattle.fz_tree.specs.of_lex.of_base.declared.span.Span

@@ -4,8 +4,9 @@
 -- what is left behind it was left before, and the last one that nothing is left.
 use Rattle.std.specs.Prelude.{◌≡◌, ◌<◌, ◌≤◌, ℕ, List, [], ◌∷◌, ◌++◌, map, length, codes, Bool, None, Result, Ok, Err}
 use Rattle.std.specs.List.{flat_map}
-use Rattle.fz_tree.specs.of_lex.View.{IsLexicalFault, IsPlacedWithin}
-use Rattle.fz_tree.specs.of_lex.Lexing.{most_bytes, LexesWithinLimits, SpannedToken}
+use Rattle.fz_tree.specs.of_lex.View.{IsLexicalFaultWithin, IsPlacedWithin}
+use Rattle.fz_tree.specs.of_lex.Lexing.{LexesWithin, SpannedToken, standard_limits}
+use Rattle.fz_tree.specs.of_lex.declared.limits.Limits.{Limits}
 use Rattle.fz_syntax.specs.Outcome.{IsErrorOf}
 use Rattle.fz_syntax.specs.declared.parser.refusal.Refusal.{Refusal}
 use Rattle.fz_tree.specs.of_lex.Ahead.{tokens_ahead}
@@ -25,10 +26,10 @@ use Rattle.fz_tree.specs.declared.tree.Constraint.{Constraint}
 use Rattle.fz_tree.specs.declared.tree.Solve.{Solve}
 use Rattle.fz_tree.specs.View.{bare_predicate, bare_decl, bare_constraint, bare_solve}
 use Rattle.fz_syntax.specs.Placed.{PlacedToken, ArePlacedIn, placed_predicate, placed_decl, placed_constraint, placed_solve}
-use Rattle.fz_tree.specs.Text.{the_limits, IsTextOfTree}
+use Rattle.fz_tree.specs.Text.{IsTextOfTreeWithin}
 use Rattle.fz_syntax.specs.Spots.{Stand, spots_from}
 use Rattle.fz_syntax.specs.Reading.{Fault, Read, Reader, ◌>>=◌, many_at, any_number, is_word, begins_decl, predicate_at, decl_at, constraint_at, solve_at, whole}
-use Rattle.fz_tree.specs.Refusals.{IsRefusalOf}
+use Rattle.fz_tree.specs.Refusals.{IsRefusalWithin}
 use Rattle.fz_syntax.specs.Walk.{ahead, lexemes, Walk}
 
 -- The items of a tree, those of each kind in source order.
@@ -60,33 +61,40 @@ placed_all t = flat_map placed_predicate t.predicates ++ flat_map placed_decl t.
 
 -- The source is a text of these items, and they have the byte ranges of their tokens, so the names
 -- and literals follow one another.
-pub record IsTextOfAll (source : List ℕ) (t : TreeItems) : Type 0 where
-  pub text : IsTextOfTree source (bare_all t)
+pub record IsTextOfAllWithin (limits : Limits) (source : List ℕ) (t : TreeItems) : Type 0 where
+  pub text : IsTextOfTreeWithin limits source (bare_all t)
   pub placed : ArePlacedIn source (placed_all t)
   pub stands : Stand source 0 (length source) (spots_from None (placed_all t))
 
--- The source is a text of no tree, unless memory ran out, and the fault is the first in the order
--- of faults.
-pub record IsRefused (source : List ℕ) (e : SyntaxError) : Type 0 where
-  pub no_tree : (t : tree.Tree) → IsTextOfTree source t → e ≡ Memory
-  pub order : IsRefusalOf source e
+abbrev pub IsTextOfAll : List ℕ → TreeItems → Type 0
+IsTextOfAll = IsTextOfAllWithin standard_limits
+
+-- The source is a text of no tree within the limits, unless memory ran out, and the fault is the
+-- first in the order of faults.
+pub record IsRefusedWithin (limits : Limits) (source : List ℕ) (e : SyntaxError) : Type 0 where
+  pub no_tree : (t : tree.Tree) → IsTextOfTreeWithin limits source t → e ≡ Memory
+  pub order : IsRefusalWithin limits source e
   pub place : IsPlacedWithin (length source) e
+
+abbrev pub IsRefused : List ℕ → SyntaxError → Type 0
+IsRefused = IsRefusedWithin standard_limits
 
 -- The grammar refused a token for a reason, and this is the error given: a lexical fault, or else
 -- the reason, at some byte range.
-pub data IsRefusedBy (source : List ℕ) (reason : Refusal) (e : SyntaxError) : Type 0 where
-  by_lexer : IsLexicalFault source e → ((tokens : List SpannedToken)
-      → LexesWithinLimits source tokens → ⊥) → IsPlacedWithin (length source) e
-      → IsRefusedBy source reason e
-  by_grammar : LexesWithinLimits source (tokens_ahead source 0) → IsErrorOf reason e
-      → IsPlacedWithin (length source) e → IsRefusedBy source reason e
+pub data IsRefusedBy (limits : Limits) (source : List ℕ) (reason : Refusal)
+    (e : SyntaxError) : Type 0 where
+  by_lexer : IsLexicalFaultWithin limits source e → ((tokens : List SpannedToken)
+      → LexesWithin limits source tokens → ⊥) → IsPlacedWithin (length source) e
+      → IsRefusedBy limits source reason e
+  by_grammar : LexesWithin limits source (tokens_ahead source 0) → IsErrorOf reason e
+      → IsPlacedWithin (length source) e → IsRefusedBy limits source reason e
 
 -- ---- what is left
 
--- The last part of a text: how its tokens are read, what they are read as, and the tokens of its
--- items.
+-- The last part of a text: how its tokens are read under limits, what they are read as, and the
+-- tokens of its items.
 pub record Part (R B : Type 0) : Type 0 where
-  pub read : Reader B
+  pub read : Limits → Reader B
   pub bare : R → B
   pub placed : R → List PlacedToken
 
@@ -97,15 +105,15 @@ changed f read = read >>= λ r. Ok (f r.0, r.1)
 -- The items of a kind: which token begins one, how it is read, what it is read as, and its tokens.
 pub record Kind (X A : Type 0) : Type 0 where
   pub begins : TokenValue → Bool
-  pub read : Reader A
+  pub read : Limits → Reader A
   pub bare : X → A
   pub placed : X → List PlacedToken
 
 -- items of a kind, as long as a token begins one, and the part behind them
 abbrev pub kind_before : {X A R B : Type 0} → Kind X A → Part R B → Part (List X × R) (List A × B)
 kind_before kind behind = record {
-  read = λ tokens. many_at kind.begins (any_number kind.read) 0 tokens >>= λ xs.
-      changed (λ r. (xs.0, r)) (behind.read xs.1);
+  read = λ limits tokens. many_at kind.begins (any_number (kind.read limits)) 0 tokens >>= λ xs.
+      changed (λ r. (xs.0, r)) (behind.read limits xs.1);
   bare = λ r. (map kind.bare r.0, behind.bare r.1);
   placed = λ r. flat_map kind.placed r.0 ++ behind.placed r.1;
 }
@@ -113,7 +121,7 @@ kind_before kind behind = record {
 abbrev pub predicate_kind : Kind Predicate tree.Predicate
 predicate_kind = record {
   begins = is_word (codes "predicate");
-  read = predicate_at the_limits;
+  read = predicate_at;
   bare = bare_predicate;
   placed = placed_predicate;
 }
@@ -121,7 +129,7 @@ predicate_kind = record {
 abbrev pub decl_kind : Kind Decl tree.Decl
 decl_kind = record {
   begins = begins_decl;
-  read = decl_at the_limits;
+  read = decl_at;
   bare = bare_decl;
   placed = placed_decl;
 }
@@ -129,13 +137,13 @@ decl_kind = record {
 abbrev pub constraint_kind : Kind Constraint tree.Constraint
 constraint_kind = record {
   begins = is_word (codes "constraint");
-  read = constraint_at the_limits;
+  read = constraint_at;
   bare = bare_constraint;
   placed = placed_constraint;
 }
 
 abbrev pub from_solve : Part Solve tree.Solve
-from_solve = record { read = solve_at the_limits; bare = bare_solve; placed = placed_solve }
+from_solve = record { read = solve_at; bare = bare_solve; placed = placed_solve }
 
 abbrev pub from_constraints : Part (List Constraint × Solve) (List tree.Constraint × tree.Solve)
 from_constraints = kind_before constraint_kind from_solve
@@ -159,24 +167,26 @@ all_items r = record {
 
 -- The tokens from here to the end of the source are those of these items, and the source lexes.
 pub record IsLeft {R B : Type 0} (part : Part R B) (i : Rest) (r : R) : Type 0 where
-  pub lexed : LexesWithinLimits i.source.now (tokens_ahead i.source.now 0)
-  pub read : part.read (lexemes i.parser) ≡ Ok (part.bare r, [])
+  pub lexed : LexesWithin i.limits i.source.now (tokens_ahead i.source.now 0)
+  pub read : part.read i.limits (lexemes i.parser) ≡ Ok (part.bare r, [])
   pub last : Parser
   pub walked : Walk i.parser last (part.placed r)
   pub ended : ahead last ≡ []
 
 -- The parser is in the source, which is a text of no tree if the last part of it can't be read.
 pub record IsWithin {R B : Type 0} (part : Part R B) (i : Rest) : Type 0 where
-  pub short : length i.source.now ≤ most_bytes
+  pub short : length i.source.now ≤ i.limits.bytes
   pub of_source : source_of i.parser.tokens ≡ i.source.now
   pub ends : i.parser.end ≡ length i.source.now
-  pub no_tree : (f : Fault) → whole (part.read (lexemes i.parser)) ≡ Err f → (t : tree.Tree)
-      → IsTextOfTree i.source.now t → ⊥
+  pub no_tree : (f : Fault) → whole (part.read i.limits (lexemes i.parser)) ≡ Err f
+      → (t : tree.Tree) → IsTextOfTreeWithin i.limits i.source.now t → ⊥
 
--- What is left of the same source now, put together with what was taken, was left before.
+-- What is left of the same source under the same limits now, put together with what was taken, was
+-- left before.
 pub record Leaves {R B Q C : Type 0} (before : Part R B) (after : Part Q C) (all : Q → R)
     (old new : Rest) : Type 0 where
   pub same : new.source.now ≡ old.source.now
+  pub same_limits : new.limits ≡ old.limits
   pub all_left : (r : Q) → IsLeft after new r → IsLeft before old (all r)
 
 -- These items were taken, and more of their kind may be left.
@@ -197,9 +207,13 @@ left_of i = length (lexemes i.parser)
 abbrev pub TookOne : {X A R B : Type 0} → Part (List X × R) (List A × B) → X → Rest → Rest → Type 0
 TookOne part x old new = Took part (x ∷ []) old new × (left_of new < left_of old)
 
+-- The source is refused.
+abbrev pub IsRefusedAt : Rest → SyntaxError → Type 0
+IsRefusedAt i e = IsRefusedWithin i.limits i.source.now e
+
 -- An item is offered, or there are no more of its kind, or the source is refused.
-abbrev pub Offers : {X S T : Type 0} → List ℕ → (X → S → Type 0) → (T → Type 0)
+abbrev pub Offers : {X S T : Type 0} → Rest → (X → S → Type 0) → (T → Type 0)
     → Result (Offer X S T) SyntaxError → Type 0
-Offers source one none (Ok (Item x more)) = one x more
-Offers source one none (Ok (End behind)) = none behind
-Offers source one none (Err e) = IsRefused source e
+Offers i one none (Ok (Item x more)) = one x more
+Offers i one none (Ok (End behind)) = none behind
+Offers i one none (Err e) = IsRefusedAt i e

@@ -11,7 +11,8 @@ use Rattle.fz_tree.specs.of_lex.declared.token.Mark.TheVariants.{OpenParen, Clos
 use Rattle.fz_tree.specs.of_lex.Token.{TokenValue, Word, Whole, FloatText, StringText, Marked}
 use Rattle.fz_tree.specs.Tree.{Literal, Number, Truth, Range, Braces, Basic, Lit, Named, Expr, One, Several, Note, Called, NoteArg, OneBasic, ListOf, NoteBasic, NoteLiteral, NoteFloat, NoteString, Inner, Base, BoolBase, IntBase, SetBase, Param, Predicate, Decl, Constraint, Goal, Satisfy, Minimize, Maximize, Solve, Tree}
 use Rattle.fz_tree.specs.View.{arg_list, basic_list}
-use Rattle.fz_tree.specs.Text.{is_reserved, Limits, most_indexes}
+use Rattle.fz_tree.specs.of_lex.declared.limits.Limits.{Limits}
+use Rattle.fz_tree.specs.Text.{is_reserved, most_indexes}
 
 -- why a token is refused
 pub data FaultKind : Type 0 where

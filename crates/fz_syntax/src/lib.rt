@@ -1,7 +1,8 @@
 //! The syntax of FlatZinc: `parse` gives the tree of a model, `PredicateItems` its items one by one
 //! without a tree, `read_items` the items of a block of solver output, and `to_text` the canonical
-//! text of a tree. A facade: it also passes on the lexer and the errors of `fz_lex`, and the tree and the
-//! printer of `fz_tree`.
+//! text of a tree. `parse_within` and `read_items_within` are the same under other limits. A facade:
+//! it also passes on the lexer, the errors and the limits of `fz_lex`, and the tree and the printer
+//! of `fz_tree`.
 //! Its worked cases are in `tests/cases` (`shown.txt`, `calls.txt`) and `tests/broken`.
 #![tactic(auto)]
 
@@ -11,12 +12,12 @@ mod reader;
 ghost use Rattle.fz_tree.specs.Refusals.{TextHasOneTree, TextHasOneListOfItems};
 
 pub use fz_tree::fz_lex::fz_base::Span;
-pub use fz_tree::fz_lex::{Mark, SyntaxError, Token, TokenKind, lex};
+pub use fz_tree::fz_lex::{Limits, Mark, SyntaxError, Token, TokenKind, lex};
 pub use fz_tree::{
     Ast, Base, Basic, Constraint, Decl, Expr, Goal, Literal, LiteralKind, Name, Note, NoteArg,
     NoteBasic, Param, Predicate, Printed, PrintedValue, Solve, to_text,
 };
-pub use parser::{parse, read_items};
+pub use parser::{parse, parse_within, read_items, read_items_within};
 pub use reader::{ConstraintItems, DeclItems, Offer, PredicateItems};
 
 /// A text has at most one tree.

@@ -8,8 +8,9 @@ ghost use Rattle.fz_syntax.specs.Placed.{ArePlacedIn, placed_tree, placed_items}
 ghost use Rattle.fz_syntax.specs.Spots.{Stand, spots, item_spots};
 ghost use Rattle.fz_tree.specs.View.{bare, bare_items};
 ghost use Rattle.fz_syntax.specs.Outcome.{IsWhole};
-ghost use Rattle.fz_tree.specs.Text.{IsTextOfTree, IsTextOfItems, Limits, HasShape, IsTree, IsPrinted, the_limits};
-ghost use Rattle.fz_tree.specs.Refusals.{IsValue, IsRefusalOf};
+ghost use Rattle.fz_tree.specs.of_lex.declared.limits.Limits.{Limits};
+ghost use Rattle.fz_tree.specs.Text.{IsTextOfTree, IsTextOfTreeWithin, IsTextOfItems, IsTextOfItemsWithin, HasShape, IsTree, IsPrinted};
+ghost use Rattle.fz_tree.specs.Refusals.{IsValue, IsRefusalOf, IsRefusalWithin};
 ghost use Rattle.fz_syntax.specs.Reading.{tree_of};
 ghost use Rattle.fz_syntax.specs.ReadingItems.{items_of};
 ghost use Rattle.fz_tree.specs.Tokens.{toks, itoks};
@@ -29,20 +30,23 @@ mod types;
 
 use crate::parser::cursor::Parser;
 use crate::reader::PredicateItems;
-use fz_tree::fz_lex::{MOST_BYTES, SyntaxError, check_tokens};
+use fz_tree::fz_lex::{Limits, SyntaxError, Tokens};
 use fz_tree::{Ast, Printed};
 use std::alloc::Global;
 
 /// Reads all tokens that are left as printed items.
 #[tactic(auto, unfolding(crate::specs::ReadingItems::items_of, crate::specs::ReadingItems::items_at, crate::specs::Reading::ended))]
-fn read_all_items<'a>(parser: &mut Parser<'a>) -> Result<Vec<Printed<'a>>, SyntaxError>
+fn read_all_items<'a>(
+    parser: &mut Parser<'a>,
+    limits: &Limits,
+) -> Result<Vec<Printed<'a>>, SyntaxError>
     ensures whole { IsWhole (λ v. bare_items v.items) result
-        (items_of the_limits (lexemes parser.old)) }
+        (items_of limits.now (lexemes parser.old)) }
     ensures placed { IfErr result (IsPlacedWithin parser.old.end) }
     ensures walked { IfOk result (λ v. Walk parser.old parser.new (placed_items v.items)) }
     ensures ended { IfOk result (λ _. ahead parser.new ≡ []) }
 {
-    match parser.printed_items() {
+    match parser.printed_items(limits) {
         Ok(items) => {
             if parser.tokens.first().is_none() {
                 Ok(items)
@@ -93,7 +97,27 @@ pub fn parse<'a>(alloc: Global, source: &'a [u8]) -> Result<Ast<'a>, SyntaxError
     // So the names and literals follow one another in the source, and each name has its text.
     ensures stands { IfOk result (λ a. Stand source.now 0 (length source.now) (spots a)) }
 {
-    let (predicates, items) = PredicateItems::new(alloc, source)?.all()?;
+    parse_within(alloc, source, Limits::STANDARD)
+}
+
+/// Reads a model as `parse` does, under these limits in place of the standard ones.
+pub fn parse_within<'a>(
+    alloc: Global,
+    source: &'a [u8],
+    limits: Limits,
+) -> Result<Ast<'a>, SyntaxError>
+    ensures found { IfOk result (λ a. IsTextOfTreeWithin limits source.now (bare a)) }
+    ensures only { (t : tree.Tree) → IsTextOfTreeWithin limits source.now t
+        → IsValue bare result t }
+    ensures same { IfOk result (λ a. (any : Limits) (t : tree.Tree) → IsTree any t
+        → toks t ≡ toks (bare a) → t ≡ bare a) }
+    ensures too_long { (result ≡ Err TooLong) ↔ (limits.bytes < length source.now) }
+    ensures order { IfErr result (IsRefusalWithin limits source.now) }
+    ensures placed { IfErr result (IsPlacedWithin (length source.now)) }
+    ensures in_place { IfOk result (λ a. ArePlacedIn source.now (placed_tree a)) }
+    ensures stands { IfOk result (λ a. Stand source.now 0 (length source.now) (spots a)) }
+{
+    let (predicates, items) = PredicateItems::new(alloc, source, limits)?.all()?;
     let (decls, items) = items.all()?;
     let (constraints, solve) = items.all()?;
     Ok(Ast {
@@ -142,17 +166,42 @@ pub fn read_items<'a>(alloc: Global, source: &'a [u8]) -> Result<Vec<Printed<'a>
     ensures empty { source.now ≡ []
         → MatchResult result (λ items. items.items ≡ []) (λ e. e ≡ Memory) }
 {
-    if source.len() > MOST_BYTES {
+    read_items_within(alloc, source, Limits::STANDARD)
+}
+
+/// Reads printed items as `read_items` does, under these limits in place of the standard ones.
+pub fn read_items_within<'a>(
+    alloc: Global,
+    source: &'a [u8],
+    limits: Limits,
+) -> Result<Vec<Printed<'a>>, SyntaxError>
+    ensures found { IfOk result
+        (λ items. IsTextOfItemsWithin limits source.now (bare_items items.items)) }
+    ensures only { (items : List tree.Printed) → IsTextOfItemsWithin limits source.now items
+        → IsValue (λ given. bare_items given.items) result items }
+    ensures same { IfOk result (λ items. (any : Limits) (others : List tree.Printed)
+        → AllByRecursion (IsPrinted any) others → itoks others ≡ itoks (bare_items items.items)
+        → others ≡ bare_items items.items) }
+    ensures too_long { (result ≡ Err TooLong) ↔ (limits.bytes < length source.now) }
+    ensures order { IfErr result (IsRefusalWithin limits source.now) }
+    ensures placed { IfErr result (IsPlacedWithin (length source.now)) }
+    ensures in_place { IfOk result (λ items. ArePlacedIn source.now (placed_items items.items)) }
+    ensures stands { IfOk result (λ a. Stand source.now 0 (length source.now)
+        (item_spots a.items)) }
+    ensures empty { source.now ≡ []
+        → MatchResult result (λ items. items.items ≡ []) (λ e. e ≡ Memory) }
+{
+    if source.len() > limits.bytes() {
         return Err(SyntaxError::TooLong);
     }
     let mut parser = Parser::new(alloc, source);
-    match read_all_items(&mut parser) {
+    match read_all_items(&mut parser, &limits) {
         Ok(items) => {
             parser.tokens.finish()?;
             Ok(items)
         }
         Err(error) => {
-            check_tokens(source)?;
+            Tokens::new(source).finish()?;
             Err(error)
         }
     }

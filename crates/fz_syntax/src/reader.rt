@@ -2,15 +2,14 @@
 //! takes and gives back or gives up for the next one: so no call can come out of order, and none
 //! after an error.
 
-ghost use Rattle.std.specs.Prelude.{◌≡◌, ◌<◌, [], length, IfErr, IfOk, Err};
-ghost use Rattle.fz_tree.specs.of_lex.Lexing.{most_bytes};
+ghost use Rattle.std.specs.Prelude.{◌≡◌, ◌<◌, ◌≤◌, [], length, IfErr, IfOk, Err};
 ghost use Rattle.fz_tree.specs.of_lex.declared.error.SyntaxError.TheVariants.{TooLong};
-ghost use Rattle.fz_syntax.specs.Offering.{IsLeft, IsRefused, IsRefusedBy, IsTextOfAll, IsWithin, Offers, Took, TookAll, TookOne, all_items, from_constraints, from_decls, from_predicates, from_solve, left_of};
+ghost use Rattle.fz_syntax.specs.Offering.{IsLeft, IsRefusedAt, IsRefusedBy, IsRefusedWithin, IsTextOfAllWithin, IsWithin, Offers, Took, TookAll, TookOne, all_items, from_constraints, from_decls, from_predicates, from_solve, left_of};
 
 use crate::parser::cursor::Parser;
 use crate::parser::lists::trimmed;
 use crate::parser::refusal::Refusal;
-use fz_tree::fz_lex::{MOST_BYTES, SyntaxError, check_tokens};
+use fz_tree::fz_lex::{Limits, SyntaxError, Tokens};
 use fz_tree::{Constraint, Decl, Predicate, Solve};
 use std::alloc::Global;
 
@@ -19,17 +18,19 @@ use std::alloc::Global;
 pub(crate) struct Rest<'a> {
     pub(crate) parser: Parser<'a>,
     pub(crate) source: &'a [u8],
+    pub(crate) limits: Limits,
 }
 
 impl<'a> Rest<'a> {
     /// The error where the grammar refuses the next token: a lexical fault of the source comes
     /// first, wherever it is.
     fn refused(&self, refusal: Refusal) -> SyntaxError
-        ensures { self.now.parser.end ≡ length self.now.source.now
-            → IsRefusedBy self.now.source.now refusal result }
+        ensures { length self.now.source.now ≤ self.now.limits.bytes
+            → self.now.parser.end ≡ length self.now.source.now
+            → IsRefusedBy self.now.limits self.now.source.now refusal result }
     {
         let error = self.parser.refused(refusal);
-        match check_tokens(self.source) {
+        match Tokens::new(self.source).finish() {
             Ok(()) => error,
             Err(lexical) => lexical,
         }
@@ -39,9 +40,10 @@ impl<'a> Rest<'a> {
     fn solve(mut self) -> Result<Solve<'a>, SyntaxError>
         requires { IsWithin from_solve self }
         ensures left { IfOk result (IsLeft from_solve self.entry) }
-        ensures refused { IfErr result (IsRefused self.entry.source.now) }
+        ensures refused { IfErr result (IsRefusedAt self.entry) }
     {
-        let item = match self.parser.solve() {
+        let limits = self.limits;
+        let item = match self.parser.solve(&limits) {
             Ok(item) => item,
             Err(refusal) => return Err(self.refused(refusal)),
         };
@@ -82,26 +84,32 @@ pub struct ConstraintItems<'a> {
 }
 
 impl<'a> PredicateItems<'a> {
-    /// All items of a text.
+    /// All items of a text, read under these limits.
     ///
     /// # Errors
     ///
-    /// `TooLong`: the source has more than 16,777,216 bytes.
-    pub fn new(alloc: Global, source: &'a [u8]) -> Result<PredicateItems<'a>, SyntaxError>
+    /// `TooLong`: the source has more bytes than the limits allow.
+    pub fn new(
+        alloc: Global,
+        source: &'a [u8],
+        limits: Limits,
+    ) -> Result<PredicateItems<'a>, SyntaxError>
         ensures text { IfOk result (λ i. (r : _) → IsLeft from_predicates i.rest r
-            → IsTextOfAll source.now (all_items r)) }
+            → IsTextOfAllWithin limits source.now (all_items r)) }
         ensures source { IfOk result (λ i. i.rest.source.now ≡ source.now) }
-        ensures too_long { (most_bytes < length source.now) → result ≡ Err TooLong }
+        ensures limits { IfOk result (λ i. i.rest.limits ≡ limits) }
+        ensures too_long { (limits.bytes < length source.now) → result ≡ Err TooLong }
         ensures only_too_long { IfErr result
-            (λ e. (e ≡ TooLong) × (most_bytes < length source.now)) }
-        ensures refused { IfErr result (IsRefused source.now) }
+            (λ e. (e ≡ TooLong) × (limits.bytes < length source.now)) }
+        ensures refused { IfErr result (IsRefusedWithin limits source.now) }
     {
-        if source.len() > MOST_BYTES {
+        if source.len() > limits.bytes() {
             return Err(SyntaxError::TooLong);
         }
         let rest = Rest {
             parser: Parser::new(alloc, source),
             source,
+            limits,
         };
         Ok(PredicateItems { rest })
     }
@@ -114,7 +122,7 @@ impl<'a> PredicateItems<'a> {
     pub fn next(
         self,
     ) -> Result<Offer<Predicate<'a>, PredicateItems<'a>, DeclItems<'a>>, SyntaxError>
-        ensures offers { Offers self.entry.rest.source.now
+        ensures offers { Offers self.entry.rest
             (λ p more. TookOne from_predicates p self.entry.rest more.rest)
             (λ behind. TookAll from_predicates from_decls [] self.entry.rest behind.rest) result }
     {
@@ -122,7 +130,8 @@ impl<'a> PredicateItems<'a> {
         if !rest.parser.next_word(b"predicate") {
             return Ok(Offer::End(DeclItems { rest }));
         }
-        match rest.parser.predicate() {
+        let limits = rest.limits;
+        match rest.parser.predicate(&limits) {
             Ok(item) => Ok(Offer::Item(item, PredicateItems { rest })),
             Err(refusal) => Err(rest.refused(refusal)),
         }
@@ -132,7 +141,7 @@ impl<'a> PredicateItems<'a> {
     pub(crate) fn all(self) -> Result<(Vec<Predicate<'a>>, DeclItems<'a>), SyntaxError>
         ensures all { IfOk result
             (λ r. TookAll from_predicates from_decls r.0.items self.entry.rest r.1.rest) }
-        ensures refused { IfErr result (IsRefused self.entry.rest.source.now) }
+        ensures refused { IfErr result (IsRefusedAt self.entry.rest) }
     {
         let alloc = self.rest.parser.alloc;
         let mut all = Vec::new(alloc);
@@ -156,7 +165,7 @@ impl<'a> DeclItems<'a> {
     ///
     /// Those of `parse`.
     pub fn next(self) -> Result<Offer<Decl<'a>, DeclItems<'a>, ConstraintItems<'a>>, SyntaxError>
-        ensures offers { Offers self.entry.rest.source.now
+        ensures offers { Offers self.entry.rest
             (λ d more. TookOne from_decls d self.entry.rest more.rest)
             (λ behind. TookAll from_decls from_constraints [] self.entry.rest behind.rest) result }
     {
@@ -164,7 +173,8 @@ impl<'a> DeclItems<'a> {
         if !rest.parser.begins_decl() {
             return Ok(Offer::End(ConstraintItems { rest }));
         }
-        match rest.parser.decl() {
+        let limits = rest.limits;
+        match rest.parser.decl(&limits) {
             Ok(item) => Ok(Offer::Item(item, DeclItems { rest })),
             Err(refusal) => Err(rest.refused(refusal)),
         }
@@ -184,7 +194,7 @@ impl<'a> DeclItems<'a> {
     pub(crate) fn all(self) -> Result<(Vec<Decl<'a>>, ConstraintItems<'a>), SyntaxError>
         ensures all { IfOk result
             (λ r. TookAll from_decls from_constraints r.0.items self.entry.rest r.1.rest) }
-        ensures refused { IfErr result (IsRefused self.entry.rest.source.now) }
+        ensures refused { IfErr result (IsRefusedAt self.entry.rest) }
     {
         let alloc = self.rest.parser.alloc;
         let mut all = Vec::new(alloc);
@@ -208,7 +218,7 @@ impl<'a> ConstraintItems<'a> {
     ///
     /// Those of `parse`.
     pub fn next(self) -> Result<Offer<Constraint<'a>, ConstraintItems<'a>, Solve<'a>>, SyntaxError>
-        ensures offers { Offers self.entry.rest.source.now
+        ensures offers { Offers self.entry.rest
             (λ c more. TookOne from_constraints c self.entry.rest more.rest)
             (λ solve. IsLeft from_constraints self.entry.rest ([], solve)) result }
     {
@@ -216,7 +226,8 @@ impl<'a> ConstraintItems<'a> {
         if !rest.parser.next_word(b"constraint") {
             return Ok(Offer::End(rest.solve()?));
         }
-        match rest.parser.constraint() {
+        let limits = rest.limits;
+        match rest.parser.constraint(&limits) {
             Ok(item) => Ok(Offer::Item(item, ConstraintItems { rest })),
             Err(refusal) => Err(rest.refused(refusal)),
         }
@@ -236,7 +247,7 @@ impl<'a> ConstraintItems<'a> {
     pub(crate) fn all(self) -> Result<(Vec<Constraint<'a>>, Solve<'a>), SyntaxError>
         ensures all { IfOk result
             (λ r. IsLeft from_constraints self.entry.rest (r.0.items, r.1)) }
-        ensures refused { IfErr result (IsRefused self.entry.rest.source.now) }
+        ensures refused { IfErr result (IsRefusedAt self.entry.rest) }
     {
         let alloc = self.rest.parser.alloc;
         let mut all = Vec::new(alloc);

@@ -5,22 +5,21 @@ ghost use Rattle.fz_tree.specs.View.{bare_note, bare_arg, bare_basic, bare_notes
 ghost use Rattle.fz_syntax.specs.Outcome.{Gives};
 ghost use Rattle.fz_syntax.specs.Reading.{mark_at, at_most, separated_at, note_at, note_args_at, note_arg_at, note_list_at, note_basic_at, begins_note_basic, any_number, notes_at, list_at};
 ghost use Rattle.fz_tree.specs.of_lex.declared.token.Mark.TheVariants.{CloseParen, CloseBracket};
-ghost use Rattle.fz_tree.specs.Text.{the_limits};
 ghost use Rattle.fz_syntax.specs.Placed.{placed_mark, placed_separated, placed_note, placed_arg, placed_args, placed_note_basic, placed_notes};
 ghost use Rattle.fz_syntax.specs.Walk.{Walk, lexemes};
 
-use crate::parser::cursor::{MAX_DEPTH, MAX_ELEMENTS, Parser};
+use crate::parser::cursor::Parser;
 use crate::parser::lists::trimmed;
 use crate::parser::refusal::Refusal;
-use fz_tree::fz_lex::{Mark, TokenKind};
+use fz_tree::fz_lex::{Limits, Mark, TokenKind};
 use fz_tree::{Note, NoteArg, NoteBasic};
 
 impl<'a> Parser<'a> {
     /// An annotation of at most `depth` levels.
     #[cycle(notes)]
     #[tactic(auto, unfolding(crate::specs::Reading::note_at), using(crate::proofs::Walks::passed_then, crate::proofs::Walks::passed_none, crate::proofs::Walks::passed, crate::proofs::Walks::walk_none, crate::proofs::Errors::fails_unexpected, crate::proofs::Separated::fails_bind))]
-    pub(crate) fn note(&mut self, depth: usize) -> Result<Note<'a>, Refusal>
-        ensures read { Gives (bare_note) result (note_at the_limits depth (lexemes self.old))
+    pub(crate) fn note(&mut self, limits: &Limits, depth: usize) -> Result<Note<'a>, Refusal>
+        ensures read { Gives (bare_note) result (note_at limits.now depth (lexemes self.old))
             (lexemes self.new) }
         ensures shorter { length (lexemes self.new) ≤ length (lexemes self.old) }
         ensures end { self.new.end ≡ self.old.end }
@@ -34,15 +33,19 @@ impl<'a> Parser<'a> {
             });
         }
         let name = self.name()?;
-        let args = self.note_args(depth - 1)?;
+        let args = self.note_args(limits, depth - 1)?;
         Ok(Note { name, args })
     }
 
     #[cycle(notes)]
     #[tactic(auto, unfolding(crate::specs::Reading::note_args_at, crate::specs::Reading::mark_at), using(crate::proofs::Walks::passed_then, crate::proofs::Walks::passed_none, crate::proofs::Walks::passed, crate::proofs::Walks::walk_none, crate::proofs::Errors::fails_unexpected, crate::proofs::Separated::fails_bind))]
-    pub(crate) fn note_args(&mut self, depth: usize) -> Result<Vec<NoteArg<'a>>, Refusal>
+    pub(crate) fn note_args(
+        &mut self,
+        limits: &Limits,
+        depth: usize,
+    ) -> Result<Vec<NoteArg<'a>>, Refusal>
         ensures read { Gives (λ v. map bare_arg v.items) result
-            (note_args_at the_limits depth (note_at the_limits depth) (lexemes self.old))
+            (note_args_at limits.now depth (note_at limits.now depth) (lexemes self.old))
             (lexemes self.new) }
         ensures shorter { length (lexemes self.new) ≤ length (lexemes self.old) }
         ensures end { self.new.end ≡ self.old.end }
@@ -52,15 +55,19 @@ impl<'a> Parser<'a> {
         if !self.eat(Mark::OpenParen) {
             return Ok(Vec::new(self.alloc));
         }
-        let args = self.separated_note_args(depth)?;
+        let args = self.separated_note_args(limits, depth)?;
         self.expect(Mark::CloseParen)?;
         Ok(args)
     }
 
     #[cycle(notes)]
-    pub(crate) fn separated_note_args(&mut self, depth: usize) -> Result<Vec<NoteArg<'a>>, Refusal>
+    pub(crate) fn separated_note_args(
+        &mut self,
+        limits: &Limits,
+        depth: usize,
+    ) -> Result<Vec<NoteArg<'a>>, Refusal>
         ensures read { Gives (λ v. map bare_arg v.items) result
-            (separated_at (any_number (note_arg_at the_limits depth (note_at the_limits depth)))
+            (separated_at (any_number (note_arg_at limits.now depth (note_at limits.now depth)))
             (lexemes self.old)) (lexemes self.new) }
         ensures shorter { length (lexemes self.new) ≤ length (lexemes self.old) }
         ensures end { self.new.end ≡ self.old.end }
@@ -69,9 +76,9 @@ impl<'a> Parser<'a> {
         ensures some { IfOk result (λ v. 0 < length v.items) }
     {
         let mut arguments = self.spare.note_args.list(self.alloc);
-        arguments.push(self.note_arg(depth)?)?;
+        arguments.push(self.note_arg(limits, depth)?)?;
         'more_args: while self.eat(Mark::Comma) {
-            let arg = self.note_arg(depth)?;
+            let arg = self.note_arg(limits, depth)?;
             arguments.push(arg)?;
         }
         Ok(self.spare.note_args.filled(self.alloc, arguments))
@@ -79,25 +86,29 @@ impl<'a> Parser<'a> {
 
     #[cycle(notes)]
     #[tactic(auto, unfolding(crate::specs::Reading::note_arg_at), using(crate::proofs::Walks::passed_then, crate::proofs::Walks::passed_none, crate::proofs::Walks::passed, crate::proofs::Walks::walk_none, crate::proofs::Errors::fails_unexpected, crate::proofs::Separated::fails_bind))]
-    pub(crate) fn note_arg(&mut self, depth: usize) -> Result<NoteArg<'a>, Refusal>
-        ensures read { Gives (bare_arg) result (note_arg_at the_limits depth
-            (note_at the_limits depth) (lexemes self.old)) (lexemes self.new) }
+    pub(crate) fn note_arg(&mut self, limits: &Limits, depth: usize) -> Result<NoteArg<'a>, Refusal>
+        ensures read { Gives (bare_arg) result (note_arg_at limits.now depth
+            (note_at limits.now depth) (lexemes self.old)) (lexemes self.new) }
         ensures shorter { length (lexemes self.new) ≤ length (lexemes self.old) }
         ensures end { self.new.end ≡ self.old.end }
         ensures walked { IfOk result (λ a. Walk self.old self.new (placed_arg a)) }
     {
         if self.eat(Mark::OpenBracket) {
-            Ok(NoteArg::List(self.note_list(depth)?))
+            Ok(NoteArg::List(self.note_list(limits, depth)?))
         } else {
-            Ok(NoteArg::One(self.note_basic(depth)?))
+            Ok(NoteArg::One(self.note_basic(limits, depth)?))
         }
     }
 
     #[cycle(notes)]
     #[tactic(auto, unfolding(crate::specs::Reading::note_list_at, crate::specs::Reading::list_at, crate::specs::Reading::mark_at), using(crate::proofs::Walks::passed_then, crate::proofs::Walks::passed_none, crate::proofs::Walks::passed, crate::proofs::Walks::walk_none, crate::proofs::Errors::fails_unexpected, crate::proofs::Separated::fails_bind))]
-    pub(crate) fn note_list(&mut self, depth: usize) -> Result<Vec<NoteBasic<'a>>, Refusal>
+    pub(crate) fn note_list(
+        &mut self,
+        limits: &Limits,
+        depth: usize,
+    ) -> Result<Vec<NoteBasic<'a>>, Refusal>
         ensures read { Gives (λ v. map bare_basic v.items) result
-            (note_list_at the_limits depth (note_at the_limits depth) (lexemes self.old))
+            (note_list_at limits.now depth (note_at limits.now depth) (lexemes self.old))
             (lexemes self.new) }
         ensures shorter { length (lexemes self.new) ≤ length (lexemes self.old) }
         ensures end { self.new.end ≡ self.old.end }
@@ -107,7 +118,7 @@ impl<'a> Parser<'a> {
         if self.eat(Mark::CloseBracket) {
             return Ok(Vec::new(self.alloc));
         }
-        let basics = self.separated_note_basics(depth)?;
+        let basics = self.separated_note_basics(limits, depth)?;
         self.expect(Mark::CloseBracket)?;
         Ok(basics)
     }
@@ -115,11 +126,12 @@ impl<'a> Parser<'a> {
     #[cycle(notes)]
     pub(crate) fn separated_note_basics(
         &mut self,
+        limits: &Limits,
         depth: usize,
     ) -> Result<Vec<NoteBasic<'a>>, Refusal>
         ensures read { Gives (λ v. map bare_basic v.items) result
-            (separated_at (at_most the_limits.elements (begins_note_basic depth)
-            (note_basic_at the_limits (note_at the_limits depth))) (lexemes self.old))
+            (separated_at (at_most limits.now.elements (begins_note_basic depth)
+            (note_basic_at limits.now (note_at limits.now depth))) (lexemes self.old))
             (lexemes self.new) }
         ensures shorter { length (lexemes self.new) ≤ length (lexemes self.old) }
         ensures end { self.new.end ≡ self.old.end }
@@ -127,9 +139,9 @@ impl<'a> Parser<'a> {
             (placed_separated placed_note_basic v.items)) }
     {
         let mut basics = Vec::new(self.alloc);
-        basics.push(self.listed_note_basic(depth, 0)?)?;
+        basics.push(self.listed_note_basic(limits, depth, 0)?)?;
         'more_basics: while self.eat(Mark::Comma) {
-            let basic = self.listed_note_basic(depth, basics.len())?;
+            let basic = self.listed_note_basic(limits, depth, basics.len())?;
             basics.push(basic)?;
         }
         Ok(trimmed(self.alloc, basics))
@@ -139,27 +151,32 @@ impl<'a> Parser<'a> {
     #[cycle(notes)]
     pub(crate) fn listed_note_basic(
         &mut self,
+        limits: &Limits,
         depth: usize,
         count: usize,
     ) -> Result<NoteBasic<'a>, Refusal>
-        ensures read { Gives (bare_basic) result (at_most the_limits.elements
-            (begins_note_basic depth) (note_basic_at the_limits (note_at the_limits depth)) count
+        ensures read { Gives (bare_basic) result (at_most limits.now.elements
+            (begins_note_basic depth) (note_basic_at limits.now (note_at limits.now depth)) count
             (lexemes self.old)) (lexemes self.new) }
         ensures shorter { length (lexemes self.new) ≤ length (lexemes self.old) }
         ensures end { self.new.end ≡ self.old.end }
         ensures walked { IfOk result (λ b. Walk self.old self.new (placed_note_basic b)) }
     {
-        if count >= MAX_ELEMENTS && self.begins_note_basic(depth) {
+        if count >= limits.elements() && self.begins_note_basic(depth) {
             return Err(Refusal::TooMany);
         }
-        self.note_basic(depth)
+        self.note_basic(limits, depth)
     }
 
     #[cycle(notes)]
     #[tactic(auto, unfolding(crate::specs::Reading::note_basic_at), using(crate::proofs::Walks::passed_then, crate::proofs::Walks::passed_none, crate::proofs::Walks::passed, crate::proofs::Walks::walk_none, crate::proofs::Errors::fails_unexpected, crate::proofs::Separated::fails_bind))]
-    pub(crate) fn note_basic(&mut self, depth: usize) -> Result<NoteBasic<'a>, Refusal>
-        ensures read { Gives (bare_basic) result (note_basic_at the_limits
-            (note_at the_limits depth) (lexemes self.old)) (lexemes self.new) }
+    pub(crate) fn note_basic(
+        &mut self,
+        limits: &Limits,
+        depth: usize,
+    ) -> Result<NoteBasic<'a>, Refusal>
+        ensures read { Gives (bare_basic) result (note_basic_at limits.now
+            (note_at limits.now depth) (lexemes self.old)) (lexemes self.new) }
         ensures shorter { length (lexemes self.new) ≤ length (lexemes self.old) }
         ensures end { self.new.end ≡ self.old.end }
         ensures walked { IfOk result (λ b. Walk self.old self.new (placed_note_basic b)) }
@@ -178,22 +195,22 @@ impl<'a> Parser<'a> {
             }
         }
         if self.begins_name() {
-            Ok(NoteBasic::Inner(self.note(depth)?))
+            Ok(NoteBasic::Inner(self.note(limits, depth)?))
         } else {
-            Ok(NoteBasic::Lit(self.literal()?))
+            Ok(NoteBasic::Lit(self.literal(limits)?))
         }
     }
 
-    pub(crate) fn notes(&mut self) -> Result<Vec<Note<'a>>, Refusal>
+    pub(crate) fn notes(&mut self, limits: &Limits) -> Result<Vec<Note<'a>>, Refusal>
         ensures read { Gives (λ v. bare_notes v.items) result
-            (notes_at the_limits (lexemes self.old)) (lexemes self.new) }
+            (notes_at limits.now (lexemes self.old)) (lexemes self.new) }
         ensures shorter { length (lexemes self.new) ≤ length (lexemes self.old) }
         ensures end { self.new.end ≡ self.old.end }
         ensures walked { IfOk result (λ v. Walk self.old self.new (placed_notes v.items)) }
     {
         let mut notes = self.spare.notes.list(self.alloc);
         while self.eat(Mark::ColonColon) {
-            let note = self.note(MAX_DEPTH)?;
+            let note = self.note(limits, limits.depth())?;
             notes.push(note)?;
         }
         Ok(self.spare.notes.filled(self.alloc, notes))

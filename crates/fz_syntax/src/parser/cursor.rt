@@ -19,12 +19,6 @@ use fz_tree::fz_lex::fz_base::Span;
 use fz_tree::fz_lex::{Mark, SyntaxError, TokenKind, Tokens};
 use std::alloc::Global;
 
-pub(crate) const MAX_ELEMENTS: usize = 1_048_576;
-
-pub(crate) const MAX_SIZE: usize = 1_048_576;
-
-pub(crate) const MAX_DEPTH: usize = 32;
-
 /// The tokens that are left to read. After a refusal they begin with the token that was refused.
 #[derive(Drop)]
 pub(crate) struct Parser<'a> {

@@ -6,15 +6,14 @@ ghost use Rattle.fz_syntax.specs.Outcome.{Gives, IsListed};
 ghost use Rattle.fz_syntax.specs.Reading.{mark_at, whole_at, is_whole, begins_literal, begins_basic, at_most, separated_at, braces_at, from_whole, literal_at, basic_at, expr_list_at, expr_at, list_at, literal_basic_at};
 ghost use Rattle.fz_tree.specs.of_lex.Token.{Whole, Marked};
 ghost use Rattle.fz_tree.specs.of_lex.declared.token.Mark.TheVariants.{CloseBracket, Comma};
-ghost use Rattle.fz_tree.specs.Text.{the_limits};
 ghost use Rattle.fz_syntax.specs.Placed.{placed_mark, placed_separated, placed_literal, placed_basic, placed_expr};
 ghost use Rattle.fz_syntax.specs.Walk.{Passed, Walk, placed_listed, lexemes};
 
-use crate::parser::cursor::{MAX_ELEMENTS, Parser};
+use crate::parser::cursor::Parser;
 use crate::parser::kinds::{kind_of, plain_of};
 use crate::parser::lists::trimmed;
 use crate::parser::refusal::Refusal;
-use fz_tree::fz_lex::{Mark, Token, TokenKind};
+use fz_tree::fz_lex::{Limits, Mark, Token, TokenKind};
 use fz_tree::{Basic, Expr, Literal, LiteralKind};
 
 impl<'a> Parser<'a> {
@@ -82,22 +81,22 @@ impl<'a> Parser<'a> {
 
     /// A number of a list that has `count` elements so far.
     #[inline(always)]
-    pub(crate) fn listed_whole(&mut self, count: usize) -> Result<i64, Refusal>
-        ensures read { Gives (λ n. n) result (at_most the_limits.elements is_whole whole_at count
+    pub(crate) fn listed_whole(&mut self, limits: &Limits, count: usize) -> Result<i64, Refusal>
+        ensures read { Gives (λ n. n) result (at_most limits.now.elements is_whole whole_at count
             (lexemes self.old)) (lexemes self.new) }
         ensures shorter { length (lexemes self.new) ≤ length (lexemes self.old) }
         ensures end { self.new.end ≡ self.old.end }
         ensures walked { IfOk result (λ _. Passed self.old self.new) }
     {
-        if count >= MAX_ELEMENTS && self.begins_whole() {
+        if count >= limits.elements() && self.begins_whole() {
             return Err(Refusal::TooMany);
         }
         self.whole()
     }
 
-    pub(crate) fn numbers(&mut self) -> Result<Vec<i64>, Refusal>
+    pub(crate) fn numbers(&mut self, limits: &Limits) -> Result<Vec<i64>, Refusal>
         ensures read { Gives (λ v. v.items) result (separated_at
-            (at_most the_limits.elements is_whole whole_at) (lexemes self.old)) (lexemes self.new) }
+            (at_most limits.now.elements is_whole whole_at) (lexemes self.old)) (lexemes self.new) }
         ensures shorter { length (lexemes self.new) ≤ length (lexemes self.old) }
         ensures end { self.new.end ≡ self.old.end }
         ensures walked { IfOk result (λ _. Passed self.old self.new) }
@@ -105,13 +104,13 @@ impl<'a> Parser<'a> {
         let mut numbers = Vec::new(self.alloc);
         'numbers: loop {
             // Numbers with a comma right after them: mostly all but the last.
-            'listed: while numbers.len() < MAX_ELEMENTS {
+            'listed: while numbers.len() < limits.elements() {
                 let Some(number) = self.eat_listed_whole() else {
                     break;
                 };
                 numbers.push(number)?;
             }
-            let number = self.listed_whole(numbers.len())?;
+            let number = self.listed_whole(limits, numbers.len())?;
             numbers.push(number)?;
             if !self.eat(Mark::Comma) {
                 return Ok(trimmed(self.alloc, numbers));
@@ -121,8 +120,8 @@ impl<'a> Parser<'a> {
 
     /// Numbers after the brace that opened at `start`.
     #[tactic(auto, unfolding(crate::specs::Reading::braces_at, crate::specs::Reading::list_at, crate::specs::Reading::mark_at), using(crate::proofs::Walks::passed_then, crate::proofs::Walks::passed_none, crate::proofs::Walks::passed, crate::proofs::Walks::walk_none, crate::proofs::Errors::fails_unexpected, crate::proofs::Separated::fails_bind))]
-    pub(crate) fn braces(&mut self, start: usize) -> Result<Literal, Refusal>
-        ensures read { Gives (bare_literal) result (braces_at the_limits (lexemes self.old))
+    pub(crate) fn braces(&mut self, limits: &Limits, start: usize) -> Result<Literal, Refusal>
+        ensures read { Gives (bare_literal) result (braces_at limits.now (lexemes self.old))
             (lexemes self.new) }
         ensures shorter { length (lexemes self.new) ≤ length (lexemes self.old) }
         ensures end { self.new.end ≡ self.old.end }
@@ -135,7 +134,7 @@ impl<'a> Parser<'a> {
                 what: LiteralKind::Braces(Vec::new(self.alloc)),
             });
         }
-        let numbers = self.numbers()?;
+        let numbers = self.numbers(limits)?;
         self.expect(Mark::CloseBrace)?;
         Ok(Literal {
             span: self.span_from(start),
@@ -169,8 +168,8 @@ impl<'a> Parser<'a> {
     /// A literal whose first token starts at `start`.
     #[inline(always)]
     #[tactic(auto, unfolding(crate::specs::Reading::literal_at), using(crate::proofs::Walks::passed_then, crate::proofs::Walks::passed_none, crate::proofs::Walks::passed, crate::proofs::Walks::walk_none, crate::proofs::Errors::fails_unexpected, crate::proofs::Separated::fails_bind))]
-    fn literal_from(&mut self, start: usize) -> Result<Literal, Refusal>
-        ensures read { Gives (bare_literal) result (literal_at the_limits (lexemes self.old))
+    fn literal_from(&mut self, limits: &Limits, start: usize) -> Result<Literal, Refusal>
+        ensures read { Gives (bare_literal) result (literal_at limits.now (lexemes self.old))
             (lexemes self.new) }
         ensures shorter { length (lexemes self.new) ≤ length (lexemes self.old) }
         ensures end { self.new.end ≡ self.old.end }
@@ -191,28 +190,28 @@ impl<'a> Parser<'a> {
                 what: LiteralKind::Truth(false),
             })
         } else if self.eat(Mark::OpenBrace) {
-            self.braces(start)
+            self.braces(limits, start)
         } else {
             Err(self.unexpected())
         }
     }
 
     #[inline(always)]
-    pub(crate) fn literal(&mut self) -> Result<Literal, Refusal>
-        ensures read { Gives (bare_literal) result (literal_at the_limits (lexemes self.old))
+    pub(crate) fn literal(&mut self, limits: &Limits) -> Result<Literal, Refusal>
+        ensures read { Gives (bare_literal) result (literal_at limits.now (lexemes self.old))
             (lexemes self.new) }
         ensures shorter { length (lexemes self.new) ≤ length (lexemes self.old) }
         ensures end { self.new.end ≡ self.old.end }
         ensures walked { IfOk result (λ l. Walk self.old self.new (placed_literal l)) }
     {
         let start = self.place().start;
-        self.literal_from(start)
+        self.literal_from(limits, start)
     }
 
     #[inline(always)]
     #[tactic(auto, unfolding(crate::specs::Reading::basic_at), using(crate::proofs::Walks::passed_then, crate::proofs::Walks::passed_none, crate::proofs::Walks::passed, crate::proofs::Walks::walk_none, crate::proofs::Errors::fails_unexpected, crate::proofs::Separated::fails_bind))]
-    pub(crate) fn basic(&mut self) -> Result<Basic<'a>, Refusal>
-        ensures read { Gives (bare_expression) result (basic_at the_limits (lexemes self.old))
+    pub(crate) fn basic(&mut self, limits: &Limits) -> Result<Basic<'a>, Refusal>
+        ensures read { Gives (bare_expression) result (basic_at limits.now (lexemes self.old))
             (lexemes self.new) }
         ensures shorter { length (lexemes self.new) ≤ length (lexemes self.old) }
         ensures end { self.new.end ≡ self.old.end }
@@ -221,29 +220,33 @@ impl<'a> Parser<'a> {
         if self.begins_name() {
             Ok(Basic::Named(self.name()?))
         } else {
-            Ok(Basic::Lit(self.literal()?))
+            Ok(Basic::Lit(self.literal(limits)?))
         }
     }
 
     /// An element of a list that has `count` elements so far.
     #[inline(always)]
-    pub(crate) fn listed_basic(&mut self, count: usize) -> Result<Basic<'a>, Refusal>
-        ensures read { Gives (bare_expression) result (at_most the_limits.elements begins_basic
-            (basic_at the_limits) count (lexemes self.old)) (lexemes self.new) }
+    pub(crate) fn listed_basic(
+        &mut self,
+        limits: &Limits,
+        count: usize,
+    ) -> Result<Basic<'a>, Refusal>
+        ensures read { Gives (bare_expression) result (at_most limits.now.elements begins_basic
+            (basic_at limits.now) count (lexemes self.old)) (lexemes self.new) }
         ensures shorter { length (lexemes self.new) ≤ length (lexemes self.old) }
         ensures end { self.new.end ≡ self.old.end }
         ensures walked { IfOk result (λ b. Walk self.old self.new (placed_basic b)) }
     {
-        if count >= MAX_ELEMENTS && self.begins_basic() {
+        if count >= limits.elements() && self.begins_basic() {
             return Err(Refusal::TooMany);
         }
-        self.basic()
+        self.basic(limits)
     }
 
     #[inline(always)]
-    pub(crate) fn separated_basics(&mut self) -> Result<Vec<Basic<'a>>, Refusal>
+    pub(crate) fn separated_basics(&mut self, limits: &Limits) -> Result<Vec<Basic<'a>>, Refusal>
         ensures read { Gives (λ v. bare_expressions v.items) result
-            (separated_at (at_most the_limits.elements begins_basic (basic_at the_limits))
+            (separated_at (at_most limits.now.elements begins_basic (basic_at limits.now))
             (lexemes self.old)) (lexemes self.new) }
         ensures shorter { length (lexemes self.new) ≤ length (lexemes self.old) }
         ensures end { self.new.end ≡ self.old.end }
@@ -251,9 +254,9 @@ impl<'a> Parser<'a> {
             (placed_separated placed_basic v.items)) }
     {
         let mut basics = self.spare.basics.list(self.alloc);
-        basics.push(self.listed_basic(0)?)?;
+        basics.push(self.listed_basic(limits, 0)?)?;
         while self.eat(Mark::Comma) {
-            let basic = self.listed_basic(basics.len())?;
+            let basic = self.listed_basic(limits, basics.len())?;
             basics.push(basic)?;
         }
         Ok(self.spare.basics.filled(self.alloc, basics))
@@ -261,9 +264,9 @@ impl<'a> Parser<'a> {
 
     /// A list's elements, after the bracket that opens it.
     #[tactic(auto, unfolding(crate::specs::Reading::expr_list_at, crate::specs::Reading::list_at, crate::specs::Reading::mark_at), using(crate::proofs::Walks::passed_then, crate::proofs::Walks::passed_none, crate::proofs::Walks::passed, crate::proofs::Walks::walk_none, crate::proofs::Errors::fails_unexpected, crate::proofs::Separated::fails_bind))]
-    pub(crate) fn expr_list(&mut self) -> Result<Vec<Basic<'a>>, Refusal>
+    pub(crate) fn expr_list(&mut self, limits: &Limits) -> Result<Vec<Basic<'a>>, Refusal>
         ensures read { Gives (λ v. bare_expressions v.items) result
-            (expr_list_at the_limits (lexemes self.old)) (lexemes self.new) }
+            (expr_list_at limits.now (lexemes self.old)) (lexemes self.new) }
         ensures shorter { length (lexemes self.new) ≤ length (lexemes self.old) }
         ensures end { self.new.end ≡ self.old.end }
         ensures walked { IfOk result (λ v. Walk self.old self.new
@@ -272,55 +275,59 @@ impl<'a> Parser<'a> {
         if self.eat(Mark::CloseBracket) {
             return Ok(Vec::new(self.alloc));
         }
-        let basics = self.separated_basics()?;
+        let basics = self.separated_basics(limits)?;
         self.expect(Mark::CloseBracket)?;
         Ok(basics)
     }
 
     #[inline(always)]
     #[tactic(auto, unfolding(crate::specs::Reading::expr_at), using(crate::proofs::Walks::passed_then, crate::proofs::Walks::passed_none, crate::proofs::Walks::passed, crate::proofs::Walks::walk_none, crate::proofs::Errors::fails_unexpected, crate::proofs::Separated::fails_bind))]
-    pub(crate) fn expr(&mut self) -> Result<Expr<'a>, Refusal>
-        ensures read { Gives (bare_expr) result (expr_at the_limits (lexemes self.old))
+    pub(crate) fn expr(&mut self, limits: &Limits) -> Result<Expr<'a>, Refusal>
+        ensures read { Gives (bare_expr) result (expr_at limits.now (lexemes self.old))
             (lexemes self.new) }
         ensures shorter { length (lexemes self.new) ≤ length (lexemes self.old) }
         ensures end { self.new.end ≡ self.old.end }
         ensures walked { IfOk result (λ e. Walk self.old self.new (placed_expr e)) }
     {
         if self.eat(Mark::OpenBracket) {
-            Ok(Expr::List(self.expr_list()?))
+            Ok(Expr::List(self.expr_list(limits)?))
         } else {
-            Ok(Expr::One(self.basic()?))
+            Ok(Expr::One(self.basic(limits)?))
         }
     }
 
     #[tactic(auto, unfolding(crate::specs::Reading::literal_basic_at), using(crate::proofs::Walks::passed_then, crate::proofs::Walks::passed_none, crate::proofs::Walks::passed, crate::proofs::Walks::walk_none, crate::proofs::Errors::fails_unexpected, crate::proofs::Separated::fails_bind))]
-    pub(crate) fn literal_basic(&mut self) -> Result<Basic<'a>, Refusal>
+    pub(crate) fn literal_basic(&mut self, limits: &Limits) -> Result<Basic<'a>, Refusal>
         ensures read { Gives (bare_expression) result
-            (literal_basic_at the_limits (lexemes self.old)) (lexemes self.new) }
+            (literal_basic_at limits.now (lexemes self.old)) (lexemes self.new) }
         ensures shorter { length (lexemes self.new) ≤ length (lexemes self.old) }
         ensures end { self.new.end ≡ self.old.end }
         ensures walked { IfOk result (λ b. Walk self.old self.new (placed_basic b)) }
     {
-        Ok(Basic::Lit(self.literal()?))
+        Ok(Basic::Lit(self.literal(limits)?))
     }
 
     /// An element of a list that has `count` elements so far.
-    pub(crate) fn listed_literal(&mut self, count: usize) -> Result<Basic<'a>, Refusal>
-        ensures read { Gives (bare_expression) result (at_most the_limits.elements begins_literal
-            (literal_basic_at the_limits) count (lexemes self.old)) (lexemes self.new) }
+    pub(crate) fn listed_literal(
+        &mut self,
+        limits: &Limits,
+        count: usize,
+    ) -> Result<Basic<'a>, Refusal>
+        ensures read { Gives (bare_expression) result (at_most limits.now.elements begins_literal
+            (literal_basic_at limits.now) count (lexemes self.old)) (lexemes self.new) }
         ensures shorter { length (lexemes self.new) ≤ length (lexemes self.old) }
         ensures end { self.new.end ≡ self.old.end }
         ensures walked { IfOk result (λ b. Walk self.old self.new (placed_basic b)) }
     {
-        if count >= MAX_ELEMENTS && self.begins_literal() {
+        if count >= limits.elements() && self.begins_literal() {
             return Err(Refusal::TooMany);
         }
-        self.literal_basic()
+        self.literal_basic(limits)
     }
 
-    pub(crate) fn separated_literals(&mut self) -> Result<Vec<Basic<'a>>, Refusal>
+    pub(crate) fn separated_literals(&mut self, limits: &Limits) -> Result<Vec<Basic<'a>>, Refusal>
         ensures read { Gives (λ v. bare_expressions v.items) result
-            (separated_at (at_most the_limits.elements begins_literal (literal_basic_at the_limits))
+            (separated_at (at_most limits.now.elements begins_literal (literal_basic_at limits.now))
             (lexemes self.old)) (lexemes self.new) }
         ensures shorter { length (lexemes self.new) ≤ length (lexemes self.old) }
         ensures end { self.new.end ≡ self.old.end }
@@ -328,9 +335,9 @@ impl<'a> Parser<'a> {
             (placed_separated placed_basic v.items)) }
     {
         let mut literals = self.spare.basics.list(self.alloc);
-        literals.push(self.listed_literal(0)?)?;
+        literals.push(self.listed_literal(limits, 0)?)?;
         while self.eat(Mark::Comma) {
-            let literal = self.listed_literal(literals.len())?;
+            let literal = self.listed_literal(limits, literals.len())?;
             literals.push(literal)?;
         }
         Ok(self.spare.basics.filled(self.alloc, literals))
@@ -338,10 +345,10 @@ impl<'a> Parser<'a> {
 
     /// A list's literals, after the bracket that opens it.
     #[tactic(auto, unfolding(crate::specs::Reading::list_at, crate::specs::Reading::mark_at), using(crate::proofs::Walks::passed_then, crate::proofs::Walks::passed_none, crate::proofs::Walks::passed, crate::proofs::Walks::walk_none, crate::proofs::Errors::fails_unexpected, crate::proofs::Separated::fails_bind))]
-    pub(crate) fn literal_list(&mut self) -> Result<Vec<Basic<'a>>, Refusal>
+    pub(crate) fn literal_list(&mut self, limits: &Limits) -> Result<Vec<Basic<'a>>, Refusal>
         ensures read { Gives (λ v. bare_expressions v.items) result
-            (list_at CloseBracket (at_most the_limits.elements begins_literal
-            (literal_basic_at the_limits)) (lexemes self.old)) (lexemes self.new) }
+            (list_at CloseBracket (at_most limits.now.elements begins_literal
+            (literal_basic_at limits.now)) (lexemes self.old)) (lexemes self.new) }
         ensures shorter { length (lexemes self.new) ≤ length (lexemes self.old) }
         ensures end { self.new.end ≡ self.old.end }
         ensures walked { IfOk result (λ v. Walk self.old self.new
@@ -350,7 +357,7 @@ impl<'a> Parser<'a> {
         if self.eat(Mark::CloseBracket) {
             return Ok(Vec::new(self.alloc));
         }
-        let literals = self.separated_literals()?;
+        let literals = self.separated_literals(limits)?;
         self.expect(Mark::CloseBracket)?;
         Ok(literals)
     }

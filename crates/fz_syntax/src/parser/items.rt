@@ -5,7 +5,6 @@ ghost use Rattle.fz_tree.specs.View.{bare_expr, bare_param, bare_predicate, bare
 ghost use Rattle.fz_syntax.specs.Outcome.{Gives};
 ghost use Rattle.fz_syntax.specs.Reading.{mark_at, separated_at, expr_at, any_number, param_at, predicate_at, list_at, next_word, constraint_at, goal_at, solve_at, decl_at, value_at, given_value_at, may_lack_value};
 ghost use Rattle.fz_tree.specs.of_lex.declared.token.Mark.TheVariants.{CloseParen};
-ghost use Rattle.fz_tree.specs.Text.{the_limits};
 ghost use Rattle.fz_syntax.specs.Placed.{placed_mark, placed_separated, placed_expr, placed_param, placed_predicate, placed_constraint, placed_goal, placed_solve, placed_value, placed_decl};
 ghost use Rattle.fz_syntax.specs.Walk.{Walk, lexemes};
 
@@ -13,21 +12,21 @@ use crate::parser::cursor::Parser;
 use crate::parser::kinds::may_lack_value;
 use crate::parser::lists::trimmed;
 use crate::parser::refusal::Refusal;
-use fz_tree::fz_lex::Mark;
+use fz_tree::fz_lex::{Limits, Mark};
 use fz_tree::{Constraint, Decl, Expr, Goal, Param, Predicate, Solve};
 
 impl<'a> Parser<'a> {
     #[tactic(auto, unfolding(crate::specs::Reading::param_at, crate::specs::Reading::var_at), using(crate::proofs::Walks::passed_then, crate::proofs::Walks::passed_none, crate::proofs::Walks::passed, crate::proofs::Walks::walk_none, crate::proofs::Errors::fails_unexpected, crate::proofs::Separated::fails_bind))]
-    pub(crate) fn param(&mut self) -> Result<Param<'a>, Refusal>
-        ensures read { Gives (bare_param) result (param_at the_limits (lexemes self.old))
+    pub(crate) fn param(&mut self, limits: &Limits) -> Result<Param<'a>, Refusal>
+        ensures read { Gives (bare_param) result (param_at limits.now (lexemes self.old))
             (lexemes self.new) }
         ensures shorter { length (lexemes self.new) ≤ length (lexemes self.old) }
         ensures end { self.new.end ≡ self.old.end }
         ensures walked { IfOk result (λ p. Walk self.old self.new (placed_param p)) }
     {
-        let array = self.param_prefix()?;
+        let array = self.param_prefix(limits)?;
         let is_var = self.eat_word(b"var");
-        let base = self.base()?;
+        let base = self.base(limits)?;
         self.expect(Mark::Colon)?;
         let name = self.name()?;
         Ok(Param {
@@ -38,9 +37,9 @@ impl<'a> Parser<'a> {
         })
     }
 
-    pub(crate) fn separated_params(&mut self) -> Result<Vec<Param<'a>>, Refusal>
+    pub(crate) fn separated_params(&mut self, limits: &Limits) -> Result<Vec<Param<'a>>, Refusal>
         ensures read { Gives (λ v. map bare_param v.items) result
-            (separated_at (any_number (param_at the_limits)) (lexemes self.old))
+            (separated_at (any_number (param_at limits.now)) (lexemes self.old))
             (lexemes self.new) }
         ensures shorter { length (lexemes self.new) ≤ length (lexemes self.old) }
         ensures end { self.new.end ≡ self.old.end }
@@ -48,18 +47,18 @@ impl<'a> Parser<'a> {
             (placed_separated placed_param v.items)) }
     {
         let mut params = Vec::new(self.alloc);
-        params.push(self.param()?)?;
+        params.push(self.param(limits)?)?;
         while self.eat(Mark::Comma) {
-            let param = self.param()?;
+            let param = self.param(limits)?;
             params.push(param)?;
         }
         Ok(trimmed(self.alloc, params))
     }
 
     #[tactic(auto, unfolding(crate::specs::Reading::list_at, crate::specs::Reading::mark_at), using(crate::proofs::Walks::passed_then, crate::proofs::Walks::passed_none, crate::proofs::Walks::passed, crate::proofs::Walks::walk_none, crate::proofs::Errors::fails_unexpected, crate::proofs::Separated::fails_bind))]
-    pub(crate) fn params(&mut self) -> Result<Vec<Param<'a>>, Refusal>
+    pub(crate) fn params(&mut self, limits: &Limits) -> Result<Vec<Param<'a>>, Refusal>
         ensures read { Gives (λ v. map bare_param v.items) result
-            (list_at CloseParen (any_number (param_at the_limits)) (lexemes self.old))
+            (list_at CloseParen (any_number (param_at limits.now)) (lexemes self.old))
             (lexemes self.new) }
         ensures shorter { length (lexemes self.new) ≤ length (lexemes self.old) }
         ensures end { self.new.end ≡ self.old.end }
@@ -69,14 +68,14 @@ impl<'a> Parser<'a> {
         if self.eat(Mark::CloseParen) {
             return Ok(Vec::new(self.alloc));
         }
-        let params = self.separated_params()?;
+        let params = self.separated_params(limits)?;
         self.expect(Mark::CloseParen)?;
         Ok(params)
     }
 
     #[tactic(auto, unfolding(crate::specs::Reading::predicate_at), using(crate::proofs::Walks::passed_then, crate::proofs::Walks::passed_none, crate::proofs::Walks::passed, crate::proofs::Walks::walk_none, crate::proofs::Errors::fails_unexpected, crate::proofs::Separated::fails_bind))]
-    pub(crate) fn predicate(&mut self) -> Result<Predicate<'a>, Refusal>
-        ensures read { Gives (bare_predicate) result (predicate_at the_limits (lexemes self.old))
+    pub(crate) fn predicate(&mut self, limits: &Limits) -> Result<Predicate<'a>, Refusal>
+        ensures read { Gives (bare_predicate) result (predicate_at limits.now (lexemes self.old))
             (lexemes self.new) }
         ensures shorter { length (lexemes self.new) ≤ length (lexemes self.old) }
         ensures end { self.new.end ≡ self.old.end }
@@ -85,32 +84,32 @@ impl<'a> Parser<'a> {
         self.expect_word(b"predicate")?;
         let name = self.name()?;
         self.expect(Mark::OpenParen)?;
-        let params = self.params()?;
+        let params = self.params(limits)?;
         self.expect(Mark::Semicolon)?;
         Ok(Predicate { name, params })
     }
 
-    pub(crate) fn separated_args(&mut self) -> Result<Vec<Expr<'a>>, Refusal>
+    pub(crate) fn separated_args(&mut self, limits: &Limits) -> Result<Vec<Expr<'a>>, Refusal>
         ensures read { Gives (λ v. map bare_expr v.items) result
-            (separated_at (any_number (expr_at the_limits)) (lexemes self.old)) (lexemes self.new) }
+            (separated_at (any_number (expr_at limits.now)) (lexemes self.old)) (lexemes self.new) }
         ensures shorter { length (lexemes self.new) ≤ length (lexemes self.old) }
         ensures end { self.new.end ≡ self.old.end }
         ensures walked { IfOk result (λ v. Walk self.old self.new
             (placed_separated placed_expr v.items)) }
     {
         let mut arguments = self.spare.exprs.list(self.alloc);
-        arguments.push(self.expr()?)?;
+        arguments.push(self.expr(limits)?)?;
         while self.eat(Mark::Comma) {
-            let expr = self.expr()?;
+            let expr = self.expr(limits)?;
             arguments.push(expr)?;
         }
         Ok(self.spare.exprs.filled(self.alloc, arguments))
     }
 
     #[tactic(auto, unfolding(crate::specs::Reading::list_at, crate::specs::Reading::mark_at), using(crate::proofs::Walks::passed_then, crate::proofs::Walks::passed_none, crate::proofs::Walks::passed, crate::proofs::Walks::walk_none, crate::proofs::Errors::fails_unexpected, crate::proofs::Separated::fails_bind))]
-    pub(crate) fn constraint_args(&mut self) -> Result<Vec<Expr<'a>>, Refusal>
+    pub(crate) fn constraint_args(&mut self, limits: &Limits) -> Result<Vec<Expr<'a>>, Refusal>
         ensures read { Gives (λ v. map bare_expr v.items) result
-            (list_at CloseParen (any_number (expr_at the_limits)) (lexemes self.old))
+            (list_at CloseParen (any_number (expr_at limits.now)) (lexemes self.old))
             (lexemes self.new) }
         ensures shorter { length (lexemes self.new) ≤ length (lexemes self.old) }
         ensures end { self.new.end ≡ self.old.end }
@@ -120,16 +119,16 @@ impl<'a> Parser<'a> {
         if self.eat(Mark::CloseParen) {
             return Ok(Vec::new(self.alloc));
         }
-        let args = self.separated_args()?;
+        let args = self.separated_args(limits)?;
         self.expect(Mark::CloseParen)?;
         Ok(args)
     }
 
     #[tactic(auto, unfolding(crate::specs::Reading::constraint_at, crate::specs::Reading::word_at), using(crate::proofs::Walks::passed_then, crate::proofs::Walks::passed_none, crate::proofs::Walks::passed, crate::proofs::Walks::walk_none, crate::proofs::Errors::fails_unexpected, crate::proofs::Separated::fails_bind))]
     /// A constraint, whose first word has been looked at.
-    pub(crate) fn constraint(&mut self) -> Result<Constraint<'a>, Refusal>
+    pub(crate) fn constraint(&mut self, limits: &Limits) -> Result<Constraint<'a>, Refusal>
         requires begun { next_word (codes "constraint") (lexemes self.old) ≡ true }
-        ensures read { Gives (bare_constraint) result (constraint_at the_limits (lexemes self.old))
+        ensures read { Gives (bare_constraint) result (constraint_at limits.now (lexemes self.old))
             (lexemes self.new) }
         ensures shorter { length (lexemes self.new) ≤ length (lexemes self.old) }
         ensures end { self.new.end ≡ self.old.end }
@@ -138,24 +137,24 @@ impl<'a> Parser<'a> {
         self.skip();
         let name = self.name()?;
         self.expect(Mark::OpenParen)?;
-        let args = self.constraint_args()?;
-        let notes = self.notes()?;
+        let args = self.constraint_args(limits)?;
+        let notes = self.notes(limits)?;
         self.expect(Mark::Semicolon)?;
         Ok(Constraint { name, args, notes })
     }
 
     #[tactic(auto, unfolding(crate::specs::Reading::goal_at), using(crate::proofs::Walks::passed_then, crate::proofs::Walks::passed_none, crate::proofs::Walks::passed, crate::proofs::Walks::walk_none, crate::proofs::Errors::fails_unexpected, crate::proofs::Separated::fails_bind))]
-    pub(crate) fn goal(&mut self) -> Result<Goal<'a>, Refusal>
-        ensures read { Gives (bare_goal) result (goal_at the_limits (lexemes self.old))
+    pub(crate) fn goal(&mut self, limits: &Limits) -> Result<Goal<'a>, Refusal>
+        ensures read { Gives (bare_goal) result (goal_at limits.now (lexemes self.old))
             (lexemes self.new) }
         ensures shorter { length (lexemes self.new) ≤ length (lexemes self.old) }
         ensures end { self.new.end ≡ self.old.end }
         ensures walked { IfOk result (λ g. Walk self.old self.new (placed_goal g)) }
     {
         if self.eat_word(b"minimize") {
-            Ok(Goal::Minimize(self.basic()?))
+            Ok(Goal::Minimize(self.basic(limits)?))
         } else if self.eat_word(b"maximize") {
-            Ok(Goal::Maximize(self.basic()?))
+            Ok(Goal::Maximize(self.basic(limits)?))
         } else {
             self.expect_word(b"satisfy")?;
             Ok(Goal::Satisfy)
@@ -163,38 +162,43 @@ impl<'a> Parser<'a> {
     }
 
     #[tactic(auto, unfolding(crate::specs::Reading::solve_at), using(crate::proofs::Walks::passed_then, crate::proofs::Walks::passed_none, crate::proofs::Walks::passed, crate::proofs::Walks::walk_none, crate::proofs::Errors::fails_unexpected, crate::proofs::Separated::fails_bind))]
-    pub(crate) fn solve(&mut self) -> Result<Solve<'a>, Refusal>
-        ensures read { Gives (bare_solve) result (solve_at the_limits (lexemes self.old))
+    pub(crate) fn solve(&mut self, limits: &Limits) -> Result<Solve<'a>, Refusal>
+        ensures read { Gives (bare_solve) result (solve_at limits.now (lexemes self.old))
             (lexemes self.new) }
         ensures shorter { length (lexemes self.new) ≤ length (lexemes self.old) }
         ensures end { self.new.end ≡ self.old.end }
         ensures walked { IfOk result (λ s. Walk self.old self.new (placed_solve s)) }
     {
         self.expect_word(b"solve")?;
-        let notes = self.notes()?;
-        let goal = self.goal()?;
+        let notes = self.notes(limits)?;
+        let goal = self.goal(limits)?;
         self.expect(Mark::Semicolon)?;
         Ok(Solve { notes, goal })
     }
 
     #[tactic(auto, unfolding(crate::specs::Reading::value_at), using(crate::proofs::Walks::passed_then, crate::proofs::Walks::passed_none, crate::proofs::Walks::passed, crate::proofs::Walks::walk_none, crate::proofs::Errors::fails_unexpected, crate::proofs::Separated::fails_bind))]
-    pub(crate) fn value(&mut self, is_var: bool, array: Option<usize>) -> Result<Expr<'a>, Refusal>
+    pub(crate) fn value(
+        &mut self,
+        limits: &Limits,
+        is_var: bool,
+        array: Option<usize>,
+    ) -> Result<Expr<'a>, Refusal>
         ensures read { Gives (bare_expr) result
-            (value_at the_limits is_var array (lexemes self.old)) (lexemes self.new) }
+            (value_at limits.now is_var array (lexemes self.old)) (lexemes self.new) }
         ensures shorter { length (lexemes self.new) ≤ length (lexemes self.old) }
         ensures end { self.new.end ≡ self.old.end }
         ensures walked { IfOk result (λ e. Walk self.old self.new (placed_expr e)) }
     {
         match (is_var, array) {
-            (true, None) => Ok(Expr::One(self.basic()?)),
-            (false, None) => Ok(Expr::One(self.literal_basic()?)),
+            (true, None) => Ok(Expr::One(self.basic(limits)?)),
+            (false, None) => Ok(Expr::One(self.literal_basic(limits)?)),
             (true, Some(_)) => {
                 self.expect(Mark::OpenBracket)?;
-                Ok(Expr::List(self.expr_list()?))
+                Ok(Expr::List(self.expr_list(limits)?))
             }
             (false, Some(_)) => {
                 self.expect(Mark::OpenBracket)?;
-                Ok(Expr::List(self.literal_list()?))
+                Ok(Expr::List(self.literal_list(limits)?))
             }
         }
     }
@@ -202,11 +206,12 @@ impl<'a> Parser<'a> {
     #[tactic(auto, unfolding(crate::specs::Reading::given_value_at), using(crate::proofs::Walks::passed_then, crate::proofs::Walks::passed_none, crate::proofs::Walks::passed, crate::proofs::Walks::walk_none, crate::proofs::Errors::fails_unexpected, crate::proofs::Separated::fails_bind))]
     pub(crate) fn given_value(
         &mut self,
+        limits: &Limits,
         is_var: bool,
         array: Option<usize>,
     ) -> Result<Option<Expr<'a>>, Refusal>
         ensures read { Gives (bare_value) result
-            (given_value_at the_limits is_var array (lexemes self.old)) (lexemes self.new) }
+            (given_value_at limits.now is_var array (lexemes self.old)) (lexemes self.new) }
         ensures shorter { length (lexemes self.new) ≤ length (lexemes self.old) }
         ensures end { self.new.end ≡ self.old.end }
         ensures walked { IfOk result (λ o. Walk self.old self.new (placed_value o)) }
@@ -215,24 +220,24 @@ impl<'a> Parser<'a> {
             return Ok(None);
         }
         self.expect(Mark::Equals)?;
-        Ok(Some(self.value(is_var, array)?))
+        Ok(Some(self.value(limits, is_var, array)?))
     }
 
     #[tactic(auto, unfolding(crate::specs::Reading::decl_at, crate::specs::Reading::var_at), using(crate::proofs::Walks::passed_then, crate::proofs::Walks::passed_none, crate::proofs::Walks::passed, crate::proofs::Walks::walk_none, crate::proofs::Errors::fails_unexpected, crate::proofs::Separated::fails_bind))]
-    pub(crate) fn decl(&mut self) -> Result<Decl<'a>, Refusal>
-        ensures read { Gives (bare_decl) result (decl_at the_limits (lexemes self.old))
+    pub(crate) fn decl(&mut self, limits: &Limits) -> Result<Decl<'a>, Refusal>
+        ensures read { Gives (bare_decl) result (decl_at limits.now (lexemes self.old))
             (lexemes self.new) }
         ensures shorter { length (lexemes self.new) ≤ length (lexemes self.old) }
         ensures end { self.new.end ≡ self.old.end }
         ensures walked { IfOk result (λ d. Walk self.old self.new (placed_decl d)) }
     {
-        let length = self.prefix()?;
+        let length = self.prefix(limits)?;
         let is_var = self.eat_word(b"var");
-        let base = self.element_type(is_var)?;
+        let base = self.element_type(limits, is_var)?;
         self.expect(Mark::Colon)?;
         let name = self.name()?;
-        let notes = self.notes()?;
-        let value = self.given_value(is_var, length)?;
+        let notes = self.notes(limits)?;
+        let value = self.given_value(limits, is_var, length)?;
         self.expect(Mark::Semicolon)?;
         Ok(Decl {
             is_var,

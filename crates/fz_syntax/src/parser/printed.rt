@@ -5,16 +5,15 @@ ghost use Rattle.fz_tree.specs.View.{bare_literal, bare_printed_value, bare_prin
 ghost use Rattle.fz_syntax.specs.Outcome.{Gives};
 ghost use Rattle.fz_syntax.specs.Reading.{any_number, at_most, separated_at, begins_literal, literal_at, many_at, is_name};
 ghost use Rattle.fz_syntax.specs.ReadingItems.{next_dimensions, index_set_at, index_sets_at, elements_at, printed_array_at, printed_value_at, printed_at};
-ghost use Rattle.fz_tree.specs.Text.{the_limits};
 ghost use Rattle.fz_syntax.specs.Placed.{placed_mark, placed_word, placed_separated, placed_literal, placed_indexes, placed_printed_value, placed_printed, placed_items};
 ghost use Rattle.fz_tree.specs.of_lex.declared.token.Mark.TheVariants.{CloseBracket, Comma};
 ghost use Rattle.fz_tree.specs.Tokens.{array_word};
 ghost use Rattle.fz_syntax.specs.Walk.{Passed, Walk, lexemes};
 
-use crate::parser::cursor::{MAX_ELEMENTS, Parser};
+use crate::parser::cursor::Parser;
 use crate::parser::kinds::dimensions;
 use crate::parser::refusal::Refusal;
-use fz_tree::fz_lex::Mark;
+use fz_tree::fz_lex::{Limits, Mark};
 use fz_tree::{Literal, Printed, PrintedValue};
 
 impl<'a> Parser<'a> {
@@ -41,51 +40,51 @@ impl<'a> Parser<'a> {
     }
 
     #[tactic(auto, unfolding(crate::specs::ReadingItems::index_set_at), using(crate::proofs::Walks::passed_then, crate::proofs::Walks::passed_none, crate::proofs::Walks::passed, crate::proofs::Walks::walk_none, crate::proofs::Errors::fails_unexpected, crate::proofs::Separated::fails_bind))]
-    fn index_set(&mut self) -> Result<Literal, Refusal>
-        ensures read { Gives bare_literal result (index_set_at the_limits (lexemes self.old))
+    fn index_set(&mut self, limits: &Limits) -> Result<Literal, Refusal>
+        ensures read { Gives bare_literal result (index_set_at limits.now (lexemes self.old))
             (lexemes self.new) }
         ensures shorter { length (lexemes self.new) ≤ length (lexemes self.old) }
         ensures end { self.new.end ≡ self.old.end }
         ensures walked { IfOk result (λ l. Walk self.old self.new
             (placed_literal l ++ placed_mark Comma)) }
     {
-        let bounds = self.bounds()?;
+        let bounds = self.bounds(limits)?;
         self.expect(Mark::Comma)?;
         Ok(bounds)
     }
 
-    fn index_sets(&mut self, count: usize) -> Result<Vec<Literal>, Refusal>
+    fn index_sets(&mut self, limits: &Limits, count: usize) -> Result<Vec<Literal>, Refusal>
         ensures read { Gives (λ v. map bare_literal v.items) result
-            (index_sets_at the_limits count (lexemes self.old)) (lexemes self.new) }
+            (index_sets_at limits.now count (lexemes self.old)) (lexemes self.new) }
         ensures shorter { length (lexemes self.new) ≤ length (lexemes self.old) }
         ensures end { self.new.end ≡ self.old.end }
         ensures walked { IfOk result (λ v. Walk self.old self.new (placed_indexes v.items)) }
     {
         let mut sets = Vec::new(self.alloc);
         while sets.len() < count {
-            let set = self.index_set()?;
+            let set = self.index_set(limits)?;
             sets.push(set)?;
         }
         Ok(sets)
     }
 
     /// An element of a list that has `count` elements so far.
-    fn listed_element(&mut self, count: usize) -> Result<Literal, Refusal>
-        ensures read { Gives bare_literal result (at_most the_limits.elements begins_literal
-            (literal_at the_limits) count (lexemes self.old)) (lexemes self.new) }
+    fn listed_element(&mut self, limits: &Limits, count: usize) -> Result<Literal, Refusal>
+        ensures read { Gives bare_literal result (at_most limits.now.elements begins_literal
+            (literal_at limits.now) count (lexemes self.old)) (lexemes self.new) }
         ensures shorter { length (lexemes self.new) ≤ length (lexemes self.old) }
         ensures end { self.new.end ≡ self.old.end }
         ensures walked { IfOk result (λ l. Walk self.old self.new (placed_literal l)) }
     {
-        if count >= MAX_ELEMENTS && self.begins_literal() {
+        if count >= limits.elements() && self.begins_literal() {
             return Err(Refusal::TooMany);
         }
-        self.literal()
+        self.literal(limits)
     }
 
-    fn separated_elements(&mut self) -> Result<Vec<Literal>, Refusal>
+    fn separated_elements(&mut self, limits: &Limits) -> Result<Vec<Literal>, Refusal>
         ensures read { Gives (λ v. map bare_literal v.items) result
-            (separated_at (at_most the_limits.elements begins_literal (literal_at the_limits))
+            (separated_at (at_most limits.now.elements begins_literal (literal_at limits.now))
             (lexemes self.old)) (lexemes self.new) }
         ensures shorter { length (lexemes self.new) ≤ length (lexemes self.old) }
         ensures end { self.new.end ≡ self.old.end }
@@ -95,13 +94,13 @@ impl<'a> Parser<'a> {
         let mut elements = Vec::new(self.alloc);
         'elements: loop {
             // Literals of one token with a comma right after them: mostly all but the last.
-            'listed: while elements.len() < MAX_ELEMENTS {
+            'listed: while elements.len() < limits.elements() {
                 let Some(literal) = self.eat_listed() else {
                     break;
                 };
                 elements.push(literal)?;
             }
-            let element = self.listed_element(elements.len())?;
+            let element = self.listed_element(limits, elements.len())?;
             elements.push(element)?;
             if !self.eat(Mark::Comma) {
                 return Ok(elements);
@@ -111,9 +110,9 @@ impl<'a> Parser<'a> {
 
     /// An array's elements, after the bracket that opens them.
     #[tactic(auto, unfolding(crate::specs::ReadingItems::elements_at, crate::specs::Reading::list_at, crate::specs::Reading::mark_at), using(crate::proofs::Walks::passed_then, crate::proofs::Walks::passed_none, crate::proofs::Walks::passed, crate::proofs::Walks::walk_none, crate::proofs::Errors::fails_unexpected, crate::proofs::Separated::fails_bind))]
-    fn elements(&mut self) -> Result<Vec<Literal>, Refusal>
+    fn elements(&mut self, limits: &Limits) -> Result<Vec<Literal>, Refusal>
         ensures read { Gives (λ v. map bare_literal v.items) result
-            (elements_at the_limits (lexemes self.old)) (lexemes self.new) }
+            (elements_at limits.now (lexemes self.old)) (lexemes self.new) }
         ensures shorter { length (lexemes self.new) ≤ length (lexemes self.old) }
         ensures end { self.new.end ≡ self.old.end }
         ensures walked { IfOk result (λ v. Walk self.old self.new
@@ -122,16 +121,16 @@ impl<'a> Parser<'a> {
         if self.eat(Mark::CloseBracket) {
             return Ok(Vec::new(self.alloc));
         }
-        let elements = self.separated_elements()?;
+        let elements = self.separated_elements(limits)?;
         self.expect(Mark::CloseBracket)?;
         Ok(elements)
     }
 
     /// An array, after its word, which says how many index sets it has.
     #[tactic(auto, unfolding(crate::specs::ReadingItems::printed_array_at), using(crate::proofs::Walks::passed_then, crate::proofs::Walks::passed_none, crate::proofs::Walks::passed, crate::proofs::Walks::walk_none, crate::proofs::Errors::fails_unexpected, crate::proofs::Separated::fails_bind))]
-    fn printed_array(&mut self, dimensions: usize) -> Result<PrintedValue, Refusal>
+    fn printed_array(&mut self, limits: &Limits, dimensions: usize) -> Result<PrintedValue, Refusal>
         ensures read { Gives bare_printed_value result
-            (printed_array_at the_limits dimensions (lexemes self.old)) (lexemes self.new) }
+            (printed_array_at limits.now dimensions (lexemes self.old)) (lexemes self.new) }
         ensures shorter { length (lexemes self.new) ≤ length (lexemes self.old) }
         ensures end { self.new.end ≡ self.old.end }
         ensures walked { IfOk result (λ v. Walk self.old self.new
@@ -140,32 +139,32 @@ impl<'a> Parser<'a> {
             ≡ placed_word (array_word dimensions) ++ drop 1 (placed_printed_value v)) }
     {
         self.expect(Mark::OpenParen)?;
-        let indexes = self.index_sets(dimensions)?;
+        let indexes = self.index_sets(limits, dimensions)?;
         self.expect(Mark::OpenBracket)?;
-        let elements = self.elements()?;
+        let elements = self.elements(limits)?;
         self.expect(Mark::CloseParen)?;
         Ok(PrintedValue::Array { indexes, elements })
     }
 
     #[tactic(auto, unfolding(crate::specs::ReadingItems::printed_value_at), using(crate::proofs::Walks::passed_then, crate::proofs::Walks::passed_none, crate::proofs::Walks::passed, crate::proofs::Walks::walk_none, crate::proofs::Errors::fails_unexpected, crate::proofs::Separated::fails_bind))]
-    fn printed_value(&mut self) -> Result<PrintedValue, Refusal>
+    fn printed_value(&mut self, limits: &Limits) -> Result<PrintedValue, Refusal>
         ensures read { Gives bare_printed_value result
-            (printed_value_at the_limits (lexemes self.old)) (lexemes self.new) }
+            (printed_value_at limits.now (lexemes self.old)) (lexemes self.new) }
         ensures shorter { length (lexemes self.new) ≤ length (lexemes self.old) }
         ensures end { self.new.end ≡ self.old.end }
         ensures walked { IfOk result (λ v. Walk self.old self.new (placed_printed_value v)) }
     {
         let dimensions = self.eat_array();
         if dimensions == 0 {
-            Ok(PrintedValue::One(self.literal()?))
+            Ok(PrintedValue::One(self.literal(limits)?))
         } else {
-            self.printed_array(dimensions)
+            self.printed_array(limits, dimensions)
         }
     }
 
     #[tactic(auto, unfolding(crate::specs::ReadingItems::printed_at), using(crate::proofs::Walks::passed_then, crate::proofs::Walks::passed_none, crate::proofs::Walks::passed, crate::proofs::Walks::walk_none, crate::proofs::Errors::fails_unexpected, crate::proofs::Separated::fails_bind))]
-    fn printed(&mut self) -> Result<Printed<'a>, Refusal>
-        ensures read { Gives bare_printed result (printed_at the_limits (lexemes self.old))
+    fn printed(&mut self, limits: &Limits) -> Result<Printed<'a>, Refusal>
+        ensures read { Gives bare_printed result (printed_at limits.now (lexemes self.old))
             (lexemes self.new) }
         ensures shorter { length (lexemes self.new) ≤ length (lexemes self.old) }
         ensures end { self.new.end ≡ self.old.end }
@@ -173,14 +172,14 @@ impl<'a> Parser<'a> {
     {
         let name = self.name()?;
         self.expect(Mark::Equals)?;
-        let value = self.printed_value()?;
+        let value = self.printed_value(limits)?;
         self.expect(Mark::Semicolon)?;
         Ok(Printed { name, value })
     }
 
-    pub(crate) fn printed_items(&mut self) -> Result<Vec<Printed<'a>>, Refusal>
+    pub(crate) fn printed_items(&mut self, limits: &Limits) -> Result<Vec<Printed<'a>>, Refusal>
         ensures read { Gives (λ v. bare_items v.items) result
-            (many_at is_name (any_number (printed_at the_limits)) 0 (lexemes self.old))
+            (many_at is_name (any_number (printed_at limits.now)) 0 (lexemes self.old))
             (lexemes self.new) }
         ensures shorter { length (lexemes self.new) ≤ length (lexemes self.old) }
         ensures end { self.new.end ≡ self.old.end }
@@ -188,7 +187,7 @@ impl<'a> Parser<'a> {
     {
         let mut items = Vec::new(self.alloc);
         while self.begins_name() {
-            let item = self.printed()?;
+            let item = self.printed(limits)?;
             items.push(item)?;
         }
         Ok(items)

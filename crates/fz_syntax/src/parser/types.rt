@@ -5,13 +5,13 @@ ghost use Rattle.fz_tree.specs.View.{bare_literal, bare_bounds, bare_base, bare_
 ghost use Rattle.fz_syntax.specs.Outcome.{Gives};
 ghost use Rattle.fz_syntax.specs.Reading.{range_at, bounds_at, int_at, base_at, plain_at, one_at, size_at, index_at, any_index_at, at_most, begins_index, indexes_at, param_prefix_at, prefix_at, type_at};
 ghost use Rattle.fz_tree.specs.of_lex.declared.token.Mark.TheVariants.{CloseBracket};
-ghost use Rattle.fz_tree.specs.Text.{most_indexes, the_limits};
+ghost use Rattle.fz_tree.specs.Text.{most_indexes};
 ghost use Rattle.fz_syntax.specs.Placed.{placed_literal, placed_bounds, placed_base};
 ghost use Rattle.fz_syntax.specs.Walk.{Passed, Walk, lexemes};
 
-use crate::parser::cursor::{MAX_SIZE, Parser};
+use crate::parser::cursor::Parser;
 use crate::parser::refusal::Refusal;
-use fz_tree::fz_lex::{Mark, TokenKind};
+use fz_tree::fz_lex::{Limits, Mark, TokenKind};
 use fz_tree::{Base, Literal, LiteralKind};
 
 /// The most index sets of an array.
@@ -39,8 +39,8 @@ impl<'a> Parser<'a> {
 
     /// Bounds whose first token starts at `start`.
     #[tactic(auto, unfolding(crate::specs::Reading::bounds_at), using(crate::proofs::Walks::passed_then, crate::proofs::Walks::passed_none, crate::proofs::Walks::passed, crate::proofs::Walks::walk_none, crate::proofs::Errors::fails_unexpected, crate::proofs::Separated::fails_bind))]
-    fn bounds_from(&mut self, start: usize) -> Result<Literal, Refusal>
-        ensures read { Gives (bare_literal) result (bounds_at the_limits (lexemes self.old))
+    fn bounds_from(&mut self, limits: &Limits, start: usize) -> Result<Literal, Refusal>
+        ensures read { Gives (bare_literal) result (bounds_at limits.now (lexemes self.old))
             (lexemes self.new) }
         ensures shorter { length (lexemes self.new) ≤ length (lexemes self.old) }
         ensures end { self.new.end ≡ self.old.end }
@@ -48,27 +48,27 @@ impl<'a> Parser<'a> {
         ensures span { IfOk result (λ l. (l.span.start ≡ start) × (l.span.end ≡ self.new.reached)) }
     {
         if self.eat(Mark::OpenBrace) {
-            self.braces(start)
+            self.braces(limits, start)
         } else {
             self.range(start)
         }
     }
 
-    pub(crate) fn bounds(&mut self) -> Result<Literal, Refusal>
-        ensures read { Gives (bare_literal) result (bounds_at the_limits (lexemes self.old))
+    pub(crate) fn bounds(&mut self, limits: &Limits) -> Result<Literal, Refusal>
+        ensures read { Gives (bare_literal) result (bounds_at limits.now (lexemes self.old))
             (lexemes self.new) }
         ensures shorter { length (lexemes self.new) ≤ length (lexemes self.old) }
         ensures end { self.new.end ≡ self.old.end }
         ensures walked { IfOk result (λ l. Walk self.old self.new (placed_literal l)) }
     {
         let start = self.place().start;
-        self.bounds_from(start)
+        self.bounds_from(limits, start)
     }
 
     /// The word `int`, or bounds.
     #[tactic(auto, unfolding(crate::specs::Reading::int_at), using(crate::proofs::Walks::passed_then, crate::proofs::Walks::passed_none, crate::proofs::Walks::passed, crate::proofs::Walks::walk_none, crate::proofs::Errors::fails_unexpected, crate::proofs::Separated::fails_bind))]
-    pub(crate) fn int(&mut self) -> Result<Option<Literal>, Refusal>
-        ensures read { Gives (bare_bounds) result (int_at the_limits (lexemes self.old))
+    pub(crate) fn int(&mut self, limits: &Limits) -> Result<Option<Literal>, Refusal>
+        ensures read { Gives (bare_bounds) result (int_at limits.now (lexemes self.old))
             (lexemes self.new) }
         ensures shorter { length (lexemes self.new) ≤ length (lexemes self.old) }
         ensures end { self.new.end ≡ self.old.end }
@@ -77,13 +77,13 @@ impl<'a> Parser<'a> {
         if self.eat_word(b"int") {
             Ok(None)
         } else {
-            Ok(Some(self.bounds()?))
+            Ok(Some(self.bounds(limits)?))
         }
     }
 
     #[tactic(auto, unfolding(crate::specs::Reading::base_at), using(crate::proofs::Walks::passed_then, crate::proofs::Walks::passed_none, crate::proofs::Walks::passed, crate::proofs::Walks::walk_none, crate::proofs::Errors::fails_unexpected, crate::proofs::Separated::fails_bind))]
-    pub(crate) fn base(&mut self) -> Result<Base, Refusal>
-        ensures read { Gives (bare_base) result (base_at the_limits (lexemes self.old))
+    pub(crate) fn base(&mut self, limits: &Limits) -> Result<Base, Refusal>
+        ensures read { Gives (bare_base) result (base_at limits.now (lexemes self.old))
             (lexemes self.new) }
         ensures shorter { length (lexemes self.new) ≤ length (lexemes self.old) }
         ensures end { self.new.end ≡ self.old.end }
@@ -93,9 +93,9 @@ impl<'a> Parser<'a> {
             Ok(Base::Bool)
         } else if self.eat_word(b"set") {
             self.expect_word(b"of")?;
-            Ok(Base::Set(self.int()?))
+            Ok(Base::Set(self.int(limits)?))
         } else {
-            Ok(Base::Int(self.int()?))
+            Ok(Base::Int(self.int(limits)?))
         }
     }
 
@@ -140,8 +140,8 @@ impl<'a> Parser<'a> {
     }
 
     #[tactic(auto, unfolding(crate::specs::Reading::size_at), using(crate::proofs::Walks::passed_then, crate::proofs::Walks::passed_none, crate::proofs::Walks::passed, crate::proofs::Walks::walk_none, crate::proofs::Errors::fails_unexpected, crate::proofs::Separated::fails_bind))]
-    pub(crate) fn size(&mut self) -> Result<usize, Refusal>
-        ensures read { Gives (λ n. n) result (size_at the_limits (lexemes self.old))
+    pub(crate) fn size(&mut self, limits: &Limits) -> Result<usize, Refusal>
+        ensures read { Gives (λ n. n) result (size_at limits.now (lexemes self.old))
             (lexemes self.new) }
         ensures shorter { length (lexemes self.new) ≤ length (lexemes self.old) }
         ensures end { self.new.end ≡ self.old.end }
@@ -151,7 +151,7 @@ impl<'a> Parser<'a> {
             Some(first) => match first.kind {
                 TokenKind::Whole(n) => match usize::try_from(n) {
                     Ok(size) => {
-                        if size <= MAX_SIZE {
+                        if size <= limits.size() {
                             self.skip();
                             Ok(size)
                         } else {
@@ -167,8 +167,8 @@ impl<'a> Parser<'a> {
     }
 
     #[tactic(auto, unfolding(crate::specs::Reading::index_at), using(crate::proofs::Walks::passed_then, crate::proofs::Walks::passed_none, crate::proofs::Walks::passed, crate::proofs::Walks::walk_none, crate::proofs::Errors::fails_unexpected, crate::proofs::Separated::fails_bind))]
-    pub(crate) fn index(&mut self) -> Result<usize, Refusal>
-        ensures read { Gives (λ n. n) result (index_at the_limits (lexemes self.old))
+    pub(crate) fn index(&mut self, limits: &Limits) -> Result<usize, Refusal>
+        ensures read { Gives (λ n. n) result (index_at limits.now (lexemes self.old))
             (lexemes self.new) }
         ensures shorter { length (lexemes self.new) ≤ length (lexemes self.old) }
         ensures end { self.new.end ≡ self.old.end }
@@ -176,12 +176,12 @@ impl<'a> Parser<'a> {
     {
         self.one()?;
         self.expect(Mark::DotDot)?;
-        self.size()
+        self.size(limits)
     }
 
     #[tactic(auto, unfolding(crate::specs::Reading::any_index_at), using(crate::proofs::Walks::passed_then, crate::proofs::Walks::passed_none, crate::proofs::Walks::passed, crate::proofs::Walks::walk_none, crate::proofs::Errors::fails_unexpected, crate::proofs::Separated::fails_bind))]
-    pub(crate) fn any_index(&mut self) -> Result<Option<usize>, Refusal>
-        ensures read { Gives (λ n. n) result (any_index_at the_limits (lexemes self.old))
+    pub(crate) fn any_index(&mut self, limits: &Limits) -> Result<Option<usize>, Refusal>
+        ensures read { Gives (λ n. n) result (any_index_at limits.now (lexemes self.old))
             (lexemes self.new) }
         ensures shorter { length (lexemes self.new) ≤ length (lexemes self.old) }
         ensures end { self.new.end ≡ self.old.end }
@@ -190,14 +190,14 @@ impl<'a> Parser<'a> {
         if self.eat_word(b"int") {
             Ok(None)
         } else {
-            Ok(Some(self.index()?))
+            Ok(Some(self.index(limits)?))
         }
     }
 
     /// An index set of an array that has `count` index sets so far.
-    fn listed_index(&mut self, count: usize) -> Result<Option<usize>, Refusal>
+    fn listed_index(&mut self, limits: &Limits, count: usize) -> Result<Option<usize>, Refusal>
         ensures read { Gives (λ n. n) result (at_most most_indexes begins_index
-            (any_index_at the_limits) count (lexemes self.old)) (lexemes self.new) }
+            (any_index_at limits.now) count (lexemes self.old)) (lexemes self.new) }
         ensures shorter { length (lexemes self.new) ≤ length (lexemes self.old) }
         ensures end { self.new.end ≡ self.old.end }
         ensures walked { IfOk result (λ _. Passed self.old self.new) }
@@ -205,29 +205,32 @@ impl<'a> Parser<'a> {
         if count >= MOST_INDEXES && self.begins_index() {
             return Err(Refusal::TooMany);
         }
-        self.any_index()
+        self.any_index(limits)
     }
 
     /// The index sets of an array, up to the bracket after them.
-    fn indexes(&mut self) -> Result<Vec<Option<usize>>, Refusal>
-        ensures read { Gives (λ v. v.items) result (indexes_at the_limits (lexemes self.old))
+    fn indexes(&mut self, limits: &Limits) -> Result<Vec<Option<usize>>, Refusal>
+        ensures read { Gives (λ v. v.items) result (indexes_at limits.now (lexemes self.old))
             (lexemes self.new) }
         ensures shorter { length (lexemes self.new) ≤ length (lexemes self.old) }
         ensures end { self.new.end ≡ self.old.end }
         ensures walked { IfOk result (λ _. Passed self.old self.new) }
     {
         let mut indexes = Vec::new(self.alloc);
-        indexes.push(self.listed_index(0)?)?;
+        indexes.push(self.listed_index(limits, 0)?)?;
         while self.eat(Mark::Comma) {
-            let index = self.listed_index(indexes.len())?;
+            let index = self.listed_index(limits, indexes.len())?;
             indexes.push(index)?;
         }
         Ok(indexes)
     }
 
     #[tactic(auto, unfolding(crate::specs::Reading::param_prefix_at, crate::specs::Reading::array_at), using(crate::proofs::Walks::passed_then, crate::proofs::Walks::passed_none, crate::proofs::Walks::passed, crate::proofs::Walks::walk_none, crate::proofs::Errors::fails_unexpected, crate::proofs::Separated::fails_bind))]
-    pub(crate) fn param_prefix(&mut self) -> Result<Option<Vec<Option<usize>>>, Refusal>
-        ensures read { Gives bare_indexes result (param_prefix_at the_limits (lexemes self.old))
+    pub(crate) fn param_prefix(
+        &mut self,
+        limits: &Limits,
+    ) -> Result<Option<Vec<Option<usize>>>, Refusal>
+        ensures read { Gives bare_indexes result (param_prefix_at limits.now (lexemes self.old))
             (lexemes self.new) }
         ensures shorter { length (lexemes self.new) ≤ length (lexemes self.old) }
         ensures end { self.new.end ≡ self.old.end }
@@ -237,15 +240,15 @@ impl<'a> Parser<'a> {
             return Ok(None);
         }
         self.expect(Mark::OpenBracket)?;
-        let indexes = self.indexes()?;
+        let indexes = self.indexes(limits)?;
         self.expect(Mark::CloseBracket)?;
         self.expect_word(b"of")?;
         Ok(Some(indexes))
     }
 
     #[tactic(auto, unfolding(crate::specs::Reading::prefix_at, crate::specs::Reading::array_at), using(crate::proofs::Walks::passed_then, crate::proofs::Walks::passed_none, crate::proofs::Walks::passed, crate::proofs::Walks::walk_none, crate::proofs::Errors::fails_unexpected, crate::proofs::Separated::fails_bind))]
-    pub(crate) fn prefix(&mut self) -> Result<Option<usize>, Refusal>
-        ensures read { Gives (λ n. n) result (prefix_at the_limits (lexemes self.old))
+    pub(crate) fn prefix(&mut self, limits: &Limits) -> Result<Option<usize>, Refusal>
+        ensures read { Gives (λ n. n) result (prefix_at limits.now (lexemes self.old))
             (lexemes self.new) }
         ensures shorter { length (lexemes self.new) ≤ length (lexemes self.old) }
         ensures end { self.new.end ≡ self.old.end }
@@ -255,20 +258,24 @@ impl<'a> Parser<'a> {
             return Ok(None);
         }
         self.expect(Mark::OpenBracket)?;
-        let length = self.index()?;
+        let length = self.index(limits)?;
         self.expect(Mark::CloseBracket)?;
         self.expect_word(b"of")?;
         Ok(Some(length))
     }
 
     #[tactic(auto, unfolding(crate::specs::Reading::type_at), using(crate::proofs::Walks::passed_then, crate::proofs::Walks::passed_none, crate::proofs::Walks::passed, crate::proofs::Walks::walk_none, crate::proofs::Errors::fails_unexpected, crate::proofs::Separated::fails_bind))]
-    pub(crate) fn element_type(&mut self, is_var: bool) -> Result<Base, Refusal>
-        ensures read { Gives (bare_base) result (type_at the_limits is_var (lexemes self.old))
+    pub(crate) fn element_type(&mut self, limits: &Limits, is_var: bool) -> Result<Base, Refusal>
+        ensures read { Gives (bare_base) result (type_at limits.now is_var (lexemes self.old))
             (lexemes self.new) }
         ensures shorter { length (lexemes self.new) ≤ length (lexemes self.old) }
         ensures end { self.new.end ≡ self.old.end }
         ensures walked { IfOk result (λ b. Walk self.old self.new (placed_base b)) }
     {
-        if is_var { self.base() } else { self.plain() }
+        if is_var {
+            self.base(limits)
+        } else {
+            self.plain()
+        }
     }
 }

@@ -1,7 +1,5 @@
-use Rattle.std.proofs.Common.{refl, sym, ◌∙◌}
-use Rattle.fz_syntax.specs.declared.reader.Rest.{Rest}
+use Rattle.std.proofs.Common.{sym, ◌∙◌}
 use Rattle.fz_syntax.specs.Offering.{constraint_kind, from_solve}
-use Rattle.fz_tree.specs.Text.{the_limits}
 use Rattle.fz_syntax.proofs.ItemLaws.{constraints_shrink}
 use Rattle.fz_syntax.proofs.Offers.{Reads, item_refused, item_took, item_within, none_took, none_within}
 use Rattle.fz_syntax.proofs.reader.ConstraintItems.next.Goals as goal
@@ -14,15 +12,13 @@ returns-then-not-next_word c = record { offers = (none_took constraint_kind from
 
 pub invariant_of-result : goal.invariant_of-result
 invariant_of-result c =
-    let now : Rest = record { parser = c.constraint.new.self; source = c.args.self.rest.source } in
-    let reads : Reads constraint_kind c.args.self.rest now c.in-Ok.item = record { same = refl; end = c.in-Ok.ensures.end; begun = sym c.next_word.ensures ∙ c.if-not-next_word.false; found = c.in-Ok.ensures.read; walked = c.in-Ok.ensures.walked } in
-    record { within = item_within constraint_kind from_solve (constraints_shrink the_limits) c.in-Ok.item c.args.self.rest now reads c.args.self.within }
+    let reads : Reads constraint_kind c.args.self.rest c.constraint.new.self c.in-Ok.item = record { end = c.in-Ok.ensures.end; begun = sym c.next_word.ensures ∙ c.if-not-next_word.false; found = c.in-Ok.ensures.read; walked = c.in-Ok.ensures.walked } in
+    record { within = item_within constraint_kind from_solve c.in-Ok.item c.args.self.rest c.constraint.new.self (constraints_shrink _) reads c.args.self.within }
 
 pub returns-in-Ok : goal.returns-in-Ok
 returns-in-Ok c =
-    let now : Rest = record { parser = c.constraint.new.self; source = c.args.self.rest.source } in
-    let reads : Reads constraint_kind c.args.self.rest now c.in-Ok.item = record { same = refl; end = c.in-Ok.ensures.end; begun = sym c.next_word.ensures ∙ c.if-not-next_word.false; found = c.in-Ok.ensures.read; walked = c.in-Ok.ensures.walked } in
-    record { offers = item_took constraint_kind from_solve (constraints_shrink the_limits) c.in-Ok.item c.args.self.rest now reads }
+    let reads : Reads constraint_kind c.args.self.rest c.constraint.new.self c.in-Ok.item = record { end = c.in-Ok.ensures.end; begun = sym c.next_word.ensures ∙ c.if-not-next_word.false; found = c.in-Ok.ensures.read; walked = c.in-Ok.ensures.walked } in
+    record { offers = item_took constraint_kind from_solve c.in-Ok.item c.args.self.rest c.constraint.new.self (constraints_shrink _) reads }
 
 pub returns : goal.returns
-returns c = record { offers = item_refused constraint_kind from_solve c.args.self.rest c.in-Err.refusal c.refused.result _ (sym c.next_word.ensures ∙ c.if-not-next_word.false) c.in-Err.ensures.read c.args.self.within (c.refused.ensures (c.in-Err.ensures.end ∙ c.args.self.within.ends)) }
+returns c = record { offers = item_refused constraint_kind from_solve c.args.self.rest c.in-Err.refusal c.refused.result _ (sym c.next_word.ensures ∙ c.if-not-next_word.false) c.in-Err.ensures.read c.args.self.within (c.refused.ensures c.args.self.within.short (c.in-Err.ensures.end ∙ c.args.self.within.ends)) }

@@ -1,7 +1,5 @@
-use Rattle.std.proofs.Common.{refl, sym, ◌∙◌}
-use Rattle.fz_syntax.specs.declared.reader.Rest.{Rest}
+use Rattle.std.proofs.Common.{sym, ◌∙◌}
 use Rattle.fz_syntax.specs.Offering.{decl_kind, from_constraints}
-use Rattle.fz_tree.specs.Text.{the_limits}
 use Rattle.fz_syntax.proofs.ItemLaws.{decls_shrink}
 use Rattle.fz_syntax.proofs.Offers.{Reads, item_refused, item_took, item_within, none_took, none_within}
 use Rattle.fz_syntax.proofs.reader.DeclItems.next.Goals as goal
@@ -14,15 +12,13 @@ returns-then-not-begins_decl c = record { offers = none_took decl_kind from_cons
 
 pub invariant_of-result-in-Ok : goal.invariant_of-result-in-Ok
 invariant_of-result-in-Ok c =
-    let now : Rest = record { parser = c.decl.new.self; source = c.args.self.rest.source } in
-    let reads : Reads decl_kind c.args.self.rest now c.in-Ok.item = record { same = refl; end = c.in-Ok.ensures.end; begun = sym c.begins_decl.ensures ∙ c.if-not-begins_decl.false; found = c.in-Ok.ensures.read; walked = c.in-Ok.ensures.walked } in
-    record { within = item_within decl_kind from_constraints (decls_shrink the_limits) c.in-Ok.item c.args.self.rest now reads c.args.self.within }
+    let reads : Reads decl_kind c.args.self.rest c.decl.new.self c.in-Ok.item = record { end = c.in-Ok.ensures.end; begun = sym c.begins_decl.ensures ∙ c.if-not-begins_decl.false; found = c.in-Ok.ensures.read; walked = c.in-Ok.ensures.walked } in
+    record { within = item_within decl_kind from_constraints c.in-Ok.item c.args.self.rest c.decl.new.self (decls_shrink _) reads c.args.self.within }
 
 pub returns-in-Ok : goal.returns-in-Ok
 returns-in-Ok c =
-    let now : Rest = record { parser = c.decl.new.self; source = c.args.self.rest.source } in
-    let reads : Reads decl_kind c.args.self.rest now c.in-Ok.item = record { same = refl; end = c.in-Ok.ensures.end; begun = sym c.begins_decl.ensures ∙ c.if-not-begins_decl.false; found = c.in-Ok.ensures.read; walked = c.in-Ok.ensures.walked } in
-    record { offers = item_took decl_kind from_constraints (decls_shrink the_limits) c.in-Ok.item c.args.self.rest now reads }
+    let reads : Reads decl_kind c.args.self.rest c.decl.new.self c.in-Ok.item = record { end = c.in-Ok.ensures.end; begun = sym c.begins_decl.ensures ∙ c.if-not-begins_decl.false; found = c.in-Ok.ensures.read; walked = c.in-Ok.ensures.walked } in
+    record { offers = item_took decl_kind from_constraints c.in-Ok.item c.args.self.rest c.decl.new.self (decls_shrink _) reads }
 
 pub returns : goal.returns
-returns c = record { offers = item_refused decl_kind from_constraints c.args.self.rest c.in-Err.refusal c.refused.result _ (sym c.begins_decl.ensures ∙ c.if-not-begins_decl.false) c.in-Err.ensures.read c.args.self.within (c.refused.ensures (c.in-Err.ensures.end ∙ c.args.self.within.ends)) }
+returns c = record { offers = item_refused decl_kind from_constraints c.args.self.rest c.in-Err.refusal c.refused.result _ (sym c.begins_decl.ensures ∙ c.if-not-begins_decl.false) c.in-Err.ensures.read c.args.self.within (c.refused.ensures c.args.self.within.short (c.in-Err.ensures.end ∙ c.args.self.within.ends)) }

@@ -1,12 +1,11 @@
-use Rattle.std.proofs.Common.{refl}
 use Rattle.fz_syntax.proofs.Offers.{all_left, all_within, too_long_refused}
 use Rattle.fz_syntax.proofs.reader.PredicateItems.new.Goals as goal
 
 pub invariant_of-result : goal.invariant_of-result
-invariant_of-result c = record { within = all_within c.args.source.now _ c.new.ensures.all c.new.ensures.source c.new.ensures.end c.if-source-gt-MOST_BYTES.false refl }
+invariant_of-result c = record { within = all_within _ c.new.ensures.all c.new.ensures.source c.new.ensures.end (rw c.bytes.ensures at c.if-source-bytes.false) }
 
 pub returns-clause-text : goal.returns-clause-text
-returns-clause-text c = λ r left. all_left c.args.source.now _ c.new.ensures.all refl r left
+returns-clause-text c = λ r left. all_left _ c.new.ensures.all r left
 
-pub returns-then-source-gt-MOST_BYTES-clause-refused : goal.returns-then-source-gt-MOST_BYTES-clause-refused
-returns-then-source-gt-MOST_BYTES-clause-refused c = too_long_refused c.args.source.now c.if-source-gt-MOST_BYTES.true
+pub returns-then-source-bytes-clause-refused : goal.returns-then-source-bytes-clause-refused
+returns-then-source-bytes-clause-refused c = too_long_refused c.args.limits c.args.source.now (rw c.bytes.ensures at c.if-source-bytes.true)

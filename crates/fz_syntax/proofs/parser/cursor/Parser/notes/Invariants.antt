@@ -4,14 +4,13 @@ use Rattle.fz_syntax.specs.Walk.{Walk, lexemes}
 use Rattle.fz_syntax.specs.Placed.{placed_notes}
 use Rattle.fz_tree.specs.View.{bare_notes}
 use Rattle.fz_syntax.specs.Reading.{any_number, note_at, notes_at}
-use Rattle.fz_tree.specs.Text.{the_limits}
 use Rattle.fz_syntax.proofs.Running.{Continues}
 use Rattle.fz_syntax.proofs.parser.cursor.Parser.notes.Given as goal
 
 abbrev pub invariant-loop-self : goal.invariant-loop-self
 invariant-loop-self l = record {
-  continues : Continues ColonColon (any_number (note_at the_limits 32)) (bare_notes l.notes.items)
-      (lexemes l.self) (notes_at the_limits (lexemes l.fn.self));
+  continues : Continues ColonColon (any_number (note_at l.limits l.limits.depth)) (bare_notes l.notes.items)
+      (lexemes l.self) (notes_at l.limits (lexemes l.fn.self));
   shorter : length (lexemes l.self) ≤ length (lexemes l.fn.self);
   same_end : l.self.end ≡ l.fn.self.end;
   walked : Walk l.fn.self l.self (placed_notes l.notes.items);

@@ -1,7 +1,6 @@
 use Rattle.fz_tree.specs.of_lex.declared.token.Mark.TheVariants.{Colon}
 use Rattle.fz_tree.specs.Tokens.{param_prefix_toks}
 use Rattle.fz_syntax.specs.Reading.{param_prefix_at}
-use Rattle.fz_tree.specs.Text.{the_limits}
 use Rattle.fz_syntax.proofs.TypeLaws.{param_prefix_takes}
 use Rattle.fz_syntax.proofs.ExprLaws.{same}
 use Rattle.fz_syntax.proofs.Walks.{mark_walk, walk_then, read_walk, var_walk}
@@ -9,4 +8,4 @@ use Rattle.fz_syntax.proofs.parser.cursor.Parser.param.Goals as goal
 
 pub returns-clause-walked : goal.returns-clause-walked
 returns-clause-walked c =
-    walk_then (walk_then (walk_then (walk_then (read_walk param_prefix_toks _ (param_prefix_at the_limits) (param_prefix_takes _ _ (same the_limits)) _ c.in_ok-array.ensures.walked c.in_ok-array.ensures.read) (var_walk _ c.eat_word-is_var.ensures.found c.eat_word-is_var.ensures.left c.eat_word-is_var.ensures.walked c.eat_word-is_var.ensures.kept)) c.in_ok-base.ensures.walked) (mark_walk Colon c.in_ok-expect.ensures.walked c.in_ok-expect.ensures.read)) c.in_ok-name.ensures.walked
+    walk_then (walk_then (walk_then (walk_then (read_walk param_prefix_toks _ (param_prefix_at c.args.limits.now) (param_prefix_takes _ _ (same c.args.limits.now)) _ c.in_ok-array.ensures.walked c.in_ok-array.ensures.read) (var_walk _ c.eat_word-is_var.ensures.found c.eat_word-is_var.ensures.left c.eat_word-is_var.ensures.walked c.eat_word-is_var.ensures.kept)) c.in_ok-base.ensures.walked) (mark_walk Colon c.in_ok-expect.ensures.walked c.in_ok-expect.ensures.read)) c.in_ok-name.ensures.walked

@@ -4,7 +4,6 @@ use Rattle.std.proofs.Common.{ℕ, ◌++◌, ◌∙◌, map, sym, ap}
 use Rattle.std.proofs.lemmas.List.{length-map}
 use Rattle.fz_tree.specs.Tokens.{array_word}
 use Rattle.fz_tree.specs.View.{bare_literal}
-use Rattle.fz_tree.specs.Text.{the_limits}
 use Rattle.fz_syntax.proofs.PrintedLaws.{index_sets_take}
 use Rattle.fz_syntax.proofs.ExprLaws.{same}
 use Rattle.fz_syntax.proofs.Walks.{mark_walk, walk_then}
@@ -16,4 +15,4 @@ returns-clause-walked c =
 
 pub returns-clause-worded : goal.returns-clause-worded
 returns-clause-worded c =
-    ap (λ (n : ℕ). placed_word (array_word n) ++ placed_between OpenParen CloseParen (placed_indexes c.in_ok-indexes.indexes.items ++ placed_elements c.in_ok-elements.elements.items)) (sym (length-map c.in_ok-indexes.indexes.items bare_literal) ∙ (index_sets_take _ _ (same the_limits) c.args.dimensions _ (map bare_literal c.in_ok-indexes.indexes.items, _) c.in_ok-indexes.ensures.read).fits.0)
+    ap (λ (n : ℕ). placed_word (array_word n) ++ placed_between OpenParen CloseParen (placed_indexes c.in_ok-indexes.indexes.items ++ placed_elements c.in_ok-elements.elements.items)) (sym (length-map c.in_ok-indexes.indexes.items bare_literal) ∙ (index_sets_take _ _ (same c.args.limits.now) c.args.dimensions _ (map bare_literal c.in_ok-indexes.indexes.items, _) c.in_ok-indexes.ensures.read).fits.0)

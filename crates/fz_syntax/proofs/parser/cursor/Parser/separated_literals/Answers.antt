@@ -5,7 +5,6 @@ use Rattle.fz_syntax.specs.Placed.{placed_basic}
 use Rattle.fz_syntax.proofs.Walks.{separated_first, separated_more, some_pushed, walk_as, walk_end, walk_kept, walk_still, ate}
 use Rattle.fz_tree.specs.View.{bare_expression}
 use Rattle.fz_syntax.specs.Reading.{at_most, begins_literal, literal_basic_at}
-use Rattle.fz_tree.specs.Text.{the_limits}
 use Rattle.fz_syntax.proofs.Separated.{separated_fails}
 use Rattle.fz_syntax.proofs.Running.{separated_init, keeps_on, stops, is_whole_list, grown, length_seen}
 use Rattle.fz_syntax.proofs.ExprLaws.{literals_shrink}
@@ -14,11 +13,11 @@ use Rattle.fz_syntax.proofs.parser.cursor.Parser.separated_literals.Goals as goa
 pub returns-in_err-listed_literal-clause-read : goal.returns-in_err-listed_literal-clause-read
 returns-in_err-listed_literal-clause-read c =
     let p = err_from_is_err_and c.from_residual.result c.from_residual.ensures.1 in
-    rw (p.1, p.2) (separated_fails c.in_err-listed_literal.field-0.0 (at_most the_limits.elements begins_literal (literal_basic_at the_limits)) _ _ c.in_err-listed_literal.ensures.read)
+    rw (p.1, p.2) (separated_fails c.in_err-listed_literal.field-0.0 (at_most c.args.limits.now.elements begins_literal (literal_basic_at c.args.limits.now)) _ _ c.in_err-listed_literal.ensures.read)
 
 pub loop-self-init : goal.loop-self-init
 loop-self-init c = record {
-  continues = separated_init (at_most the_limits.elements begins_literal (literal_basic_at the_limits)) _ _ _ _ _ (ap (map bare_expression) c.list-literals.ensures) (grown bare_expression _ _ _ c.in_ok-push.ensures.items) c.in_ok-listed_literal.ensures.read;
+  continues = separated_init (at_most c.args.limits.now.elements begins_literal (literal_basic_at c.args.limits.now)) _ _ _ _ _ (ap (map bare_expression) c.list-literals.ensures) (grown bare_expression _ _ _ c.in_ok-push.ensures.items) c.in_ok-listed_literal.ensures.read;
   shorter = omega arith;
   same_end = omega arith;
   walked = separated_first placed_basic _ _ _ c.list-literals.ensures c.in_ok-push.ensures.items (walk_as refl refl c.in_ok-listed_literal.ensures.walked);
@@ -28,11 +27,11 @@ loop-self-init c = record {
 pub returns-in_err-literal-clause-read : goal.returns-in_err-literal-clause-read
 returns-in_err-literal-clause-read c =
     let p = err_from_is_err_and c.from_residual-in_err-literal.result c.from_residual-in_err-literal.ensures.1 in
-    rw (p.1, p.2) (stops c.in_err-literal.field-0.0 Comma (at_most the_limits.elements begins_literal (literal_basic_at the_limits)) _ _ _ _ _ _ (c.len.ensures ∙ c.loop-self.literals.ok.0 ∙ length_seen bare_expression c.loop-self.literals.items) _ c.loop-self-test.true c.eat.ensures.found c.eat.ensures.left c.loop-self.invariant.continues c.in_err-literal.ensures.read)
+    rw (p.1, p.2) (stops c.in_err-literal.field-0.0 Comma (at_most c.args.limits.now.elements begins_literal (literal_basic_at c.args.limits.now)) _ _ _ _ _ _ (c.len.ensures ∙ c.loop-self.literals.ok.0 ∙ length_seen bare_expression c.loop-self.literals.items) _ c.loop-self-test.true c.eat.ensures.found c.eat.ensures.left c.loop-self.invariant.continues c.in_err-literal.ensures.read)
 
 pub loop-self-preserved : goal.loop-self-preserved
 loop-self-preserved c = record {
-  continues = keeps_on Comma (at_most the_limits.elements begins_literal (literal_basic_at the_limits)) (literals_shrink the_limits) _ _ _ _ _ _ _ _ (c.len.ensures ∙ c.loop-self.literals.ok.0 ∙ length_seen bare_expression c.loop-self.literals.items) (grown bare_expression _ _ _ c.in_ok-push-2.ensures.items) _ c.loop-self-test.true c.eat.ensures.found c.eat.ensures.left c.in_ok-literal.ensures.read c.loop-self.invariant.continues;
+  continues = keeps_on Comma (at_most c.args.limits.now.elements begins_literal (literal_basic_at c.args.limits.now)) (literals_shrink c.args.limits.now) _ _ _ _ _ _ _ _ (c.len.ensures ∙ c.loop-self.literals.ok.0 ∙ length_seen bare_expression c.loop-self.literals.items) (grown bare_expression _ _ _ c.in_ok-push-2.ensures.items) _ c.loop-self-test.true c.eat.ensures.found c.eat.ensures.left c.in_ok-literal.ensures.read c.loop-self.invariant.continues;
   shorter = omega arith;
   same_end = omega arith;
   walked = separated_more placed_basic _ _ _ c.loop-self.invariant.some c.in_ok-push-2.ensures.items c.loop-self.invariant.walked (ate Comma _ c.loop-self-test.true c.eat.ensures.found c.eat.ensures.left c.eat.ensures.walked) c.in_ok-literal.ensures.walked;
@@ -40,7 +39,7 @@ loop-self-preserved c = record {
 }
 
 pub returns-clause-read : goal.returns-clause-read
-returns-clause-read c = rw c.filled.ensures (is_whole_list Comma (at_most the_limits.elements begins_literal (literal_basic_at the_limits)) _ _ _ _ _ c.loop-self-test.false c.eat.ensures.found c.eat.ensures.left c.loop-self.invariant.continues)
+returns-clause-read c = rw c.filled.ensures (is_whole_list Comma (at_most c.args.limits.now.elements begins_literal (literal_basic_at c.args.limits.now)) _ _ _ _ _ c.loop-self-test.false c.eat.ensures.found c.eat.ensures.left c.loop-self.invariant.continues)
 
 pub returns-clause-walked : goal.returns-clause-walked
 returns-clause-walked c = rw c.filled.ensures (walk_end (walk_kept _ c.loop-self-test.false c.eat.ensures.kept c.loop-self.invariant.walked) (walk_still _ _ refl refl refl))
