@@ -5,7 +5,8 @@
 #                  (tests/corpus/slow.py) on random models, and with minizinc/, and inside MiniZinc,
 #                  where that is installed
 # make fuzz        runs it on random broken texts beside that checker, for SECONDS (600), by SEED
-# make bench       measures the built program beside the plain program in plain/ (some minutes)
+# make bench       measures the built program beside the plain program in plain/ (some minutes), or
+#                  with SIZE=500 on models of 500 MB
 # make quick       judges examples/first.fzn with NO proof, or MODEL=FILE [STREAM=FILE], with the
 #                  program's OPTIONS='--complete --explain'; with a MODEL and no STREAM it reads
 #                  standard input; it tells the program's status
@@ -66,7 +67,7 @@ fuzz: build/fzcheck
 bench: build/fzcheck
 	cargo build --release --offline --quiet --manifest-path plain/Cargo.toml \
 	  --target-dir build/plain
-	bench/run.py build/fzcheck build/plain/release/plain build/bench
+	bench/run.py build/fzcheck build/plain/release/plain build/bench $(addprefix --size ,$(SIZE))
 
 ifndef MODEL
 quick: MODEL := examples/first.fzn

@@ -2,9 +2,11 @@
 """Measures whole runs of the built fzcheck beside the plain program, and prints one table.
 
     run.py FZCHECK PLAIN FOLDER [MEGABYTES..]
+    run.py FZCHECK PLAIN FOLDER --size MEGABYTES
 
 FZCHECK is the built program, PLAIN the plain program of plain/, FOLDER where the files are
-made and unpacked, MEGABYTES the sizes of the made files, 1 4 16 where none is given. Both programs
+made and unpacked, MEGABYTES the sizes of the made files, 1 4 16 where none is given. With --size the
+rows are the real models, and copies of them that make one model of that size. Both programs
 are run in turn, all rows one after another, and all of that five times over, so that rows can be
 compared where the machine changes its speed. The least processor time of a row counts, as another
 load on the machine only ever adds to it, and the most memory. Where a program doesn't give the
@@ -28,10 +30,10 @@ NO_BLOCKS = 3
 class Row:
     """A line of the table: what both programs are run on, and the best that each of them did."""
 
-    def __init__(self, name, word, model, stream=None, piped=False, alone=False):
+    def __init__(self, name, word, model, stream=None, piped=False, alone=False, large=False):
         self.name = name
         self.alone = alone  # the plain program can't judge it
-        self.words = [word, model]
+        self.words = [word, *["--large"] * large, model]
         if stream and not piped:
             self.words.append(stream)
         self.input = stream if piped else os.devnull
@@ -98,6 +100,18 @@ def real(folder, name):
     yield Row(f"`check` {name}, all blocks", "check", base + ".fzn", base + ".out")
 
 
+def large_rows(folder, size):
+    """Two rows for each real model: itself, and a model of so many megabytes of copies of it."""
+    subprocess.run([os.path.join(HERE, "real", "unpack.py"), folder], check=True)
+    for name in REAL:
+        base = os.path.join(folder, name)
+        yield Row(f"`check` {name}, one block", "check", base + ".fzn", base + "-first.out")
+        if not os.path.exists(f"{base}-{size}.out"):
+            subprocess.run([os.path.join(HERE, "copies.py"), name, size, folder], check=True)
+        files = (f"{base}-{size}.fzn", f"{base}-{size}.out")
+        yield Row(f"`check --large` copies of {name}", "check", *files, large=True)
+
+
 def rows_of(folder, sizes):
     models = [made(folder, "model", size)[0] for size in sizes]
     rows = [Row("`show` model", "show", model) for model in models]
@@ -128,7 +142,8 @@ def machine():
 
 def main():
     fzcheck, plain, folder = map(os.path.abspath, sys.argv[1:4])
-    rows = rows_of(folder, sys.argv[4:] or ["1", "4", "16"])
+    sizes = sys.argv[4:] or ["1", "4", "16"]
+    rows = list(large_rows(folder, sizes[1])) if sizes[0] == "--size" else rows_of(folder, sizes)
     reports = [os.path.join(folder, f"{name}.txt") for name in ("fzcheck", "plain")]
     print(machine(), flush=True)
     for _ in range(TURNS):

@@ -25,7 +25,7 @@ expect() {
   fi
 }
 
-usage='usage: fzcheck show [--print-all] MODEL | check [--complete] [--cut] [--claims [--known STREAM]..] [--explain[=all] [--names FILE]] [--json] MODEL [STREAM]'
+usage='usage: fzcheck show [--large] [--print-all] MODEL | check [--large] [--complete] [--cut] [--claims [--known STREAM]..] [--explain[=all] [--names FILE]] [--json] MODEL [STREAM]'
 accepted=$'block 1: satisfied\naccepted: blocks 1'
 printf 'x = 1;\n----------\n' >"$folder/wrong.out"
 printf 'x = 3;\n' >"$folder/open.out"
@@ -58,7 +58,7 @@ for words in help --help -h 'help check' 'check --help' 'show -h'; do
   # shellcheck disable=SC2086
   expect "a request for help: $words" 5 "$page" "$usage" "$program" $words
 done
-for word in check show --complete --cut --claims --known --explain --names --json --print-all --version STREAM; do
+for word in check show --large --complete --cut --claims --known --explain --names --json --print-all --version STREAM; do
   expect "help names $word" 0 '' '' grep -q -- "$word" "$folder/page"
 done
 version="fzcheck $(sed -n 's/^## \([0-9][0-9.]*\).*/\1/p' CHANGELOG.md | head -1)"

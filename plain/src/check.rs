@@ -1,6 +1,6 @@
 //! Blocks: printed values, filling, judging.
 
-use crate::lex::{load8, small, Fault, FaultName, Lexer, MAX_LIST, T};
+use crate::lex::{load8, max_list, small, Fault, FaultName, Lexer, T};
 use crate::model::*;
 use crate::names::hash;
 use crate::parse::{Core, Stop, What, R};
@@ -501,7 +501,7 @@ impl<'a> Checker<'a> {
                             let d = self.many(core, kind, arr, &mut n);
                             differs |= d;
                         }
-                        if n >= MAX_LIST && core.starts_literal() {
+                        if n >= max_list() && core.starts_literal() {
                             return Err(core.stop_as(FaultName::TooMany));
                         }
                         let lit = core.literal()?;

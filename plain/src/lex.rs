@@ -5,12 +5,35 @@
 //! least `PAD` bytes may be read from every place up to `end`. The first byte that is no
 //! blank at or after `end` ends the text.
 
+use std::sync::atomic::{AtomicBool, Ordering::Relaxed};
+
 pub const PAD: usize = 32;
 
+static LARGE: AtomicBool = AtomicBool::new(false);
+
+/// From here on large texts are read.
+pub fn read_large() {
+    LARGE.store(true, Relaxed);
+}
+
 /// The greatest length of a model or of what a splitter holds.
-pub const MAX_BYTES: usize = 16_777_216;
+pub fn max_bytes() -> usize {
+    if LARGE.load(Relaxed) {
+        1_073_741_824
+    } else {
+        16_777_216
+    }
+}
+
 /// The greatest number of elements of a list in brackets or braces.
-pub const MAX_LIST: usize = 1_048_576;
+pub fn max_list() -> usize {
+    if LARGE.load(Relaxed) {
+        134_217_728
+    } else {
+        1_048_576
+    }
+}
+
 /// The greatest depth of an annotation.
 pub const MAX_DEPTH: usize = 32;
 

@@ -12,14 +12,14 @@ mod text;
 mod tree;
 
 use check::Checker;
-use lex::{Fault, FaultName, MAX_BYTES};
+use lex::{max_bytes, read_large, Fault, FaultName};
 use std::ffi::OsString;
 use std::fs::File;
 use std::io::{Read, Write};
 use std::process::exit;
 use stream::{load, pad, Answer, CheckError, Run};
 
-const USAGE: &str = "usage: plain show MODEL | check MODEL [STREAM]";
+const USAGE: &str = "usage: plain show [--large] MODEL | check [--large] MODEL [STREAM]";
 
 fn usage() -> ! {
     eprintln!("{USAGE}");
@@ -52,10 +52,10 @@ fn read_model(mut f: File) -> Result<Vec<u8>, CheckError> {
     let guess = f
         .metadata()
         .map_or(0, |m| m.len())
-        .min(MAX_BYTES as u64 + 1) as usize;
+        .min(max_bytes() as u64 + 1) as usize;
     v.reserve_exact(guess + 1 + 1 + lex::PAD);
     (&mut f)
-        .take(MAX_BYTES as u64 + 1)
+        .take(max_bytes() as u64 + 1)
         .read_to_end(&mut v)
         .map_err(|_| CheckError::Read)?;
     Ok(v)
@@ -91,7 +91,14 @@ fn check(model: &OsString, stream: Option<&OsString>) -> Result<u8, CheckError> 
 fn main() {
     let args: Vec<OsString> = std::env::args_os().skip(1).collect();
     let Some(word) = args.first() else { usage() };
-    let r = match (word.as_encoded_bytes(), &args[1..]) {
+    let mut files = &args[1..];
+    if let [first, others @ ..] = files {
+        if first == "--large" {
+            read_large();
+            files = others;
+        }
+    }
+    let r = match (word.as_encoded_bytes(), files) {
         (b"show", [model]) => show(model),
         (b"check", [model]) => check(model, None),
         (b"check", [model, stream]) => check(model, Some(stream)),

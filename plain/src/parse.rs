@@ -1,6 +1,6 @@
 //! The grammar, read in one pass; what is read is told to a `Sink`.
 
-use crate::lex::{Fault, FaultName, Lexer, MAX_DEPTH, MAX_LIST, T};
+use crate::lex::{max_list, Fault, FaultName, Lexer, MAX_DEPTH, T};
 
 #[derive(Clone, Copy, PartialEq, Eq, Debug)]
 pub struct Name {
@@ -255,7 +255,7 @@ impl<'a> Core<'a> {
                 if self.lex.tok != T::Whole {
                     return Err(self.stop());
                 }
-                if self.braces.len() == MAX_LIST {
+                if self.braces.len() == max_list() {
                     return Err(self.stop_as(FaultName::TooMany));
                 }
                 self.braces.push(self.lex.num);
@@ -488,7 +488,7 @@ impl<'a, S: Sink> Parser<'a, S> {
         if self.tok() != T::Whole || self.core.lex.num < 0 {
             return Err(self.core.stop());
         }
-        if self.core.lex.num > MAX_LIST as i64 {
+        if self.core.lex.num > max_list() as i64 {
             return Err(self.core.stop_as(FaultName::TooMany));
         }
         Ok(self.core.whole()? as usize)
@@ -673,7 +673,7 @@ impl<'a, S: Sink> Parser<'a, S> {
     /// Refuses an element past the limit; `n` elements stand before it.
     #[inline(always)]
     fn room(&mut self, n: usize) -> R<()> {
-        if n >= MAX_LIST {
+        if n >= max_list() {
             return Err(self.core.stop_as(FaultName::TooMany));
         }
         Ok(())

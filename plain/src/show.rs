@@ -1,6 +1,6 @@
 //! The canonical text of a model, by way of its tree.
 
-use crate::lex::{Fault, FaultName, MAX_BYTES};
+use crate::lex::{max_bytes, Fault, FaultName};
 use crate::model::Builder;
 use crate::parse::Parser;
 use crate::text::Text;
@@ -8,7 +8,7 @@ use crate::tree::{tell, Tree, TreeSink};
 
 /// Reads the tree in `src` up to `end`, looks its names up and writes its text.
 pub fn canonical(src: &[u8], end: usize) -> Result<Vec<u8>, Fault> {
-    if end > MAX_BYTES {
+    if end > max_bytes() {
         return Err(Fault {
             name: FaultName::TooLong,
             start: 0,

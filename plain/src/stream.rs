@@ -1,7 +1,7 @@
 //! The streaming check: the stream is read piece by piece, one block is held.
 
 use crate::check::{BlockFault, Checker, Verdict};
-use crate::lex::{find_lf, Fault, FaultName, MAX_BYTES, PAD};
+use crate::lex::{find_lf, max_bytes, Fault, FaultName, PAD};
 use crate::model::Builder;
 use crate::parse::Parser;
 use crate::text::push_num;
@@ -38,7 +38,7 @@ pub fn pad(mut bytes: Vec<u8>) -> (Vec<u8>, usize) {
 
 /// Reads a model: its syntax, then its names.
 pub fn load(src: &[u8], end: usize) -> Result<Builder<'_>, Fault> {
-    if end > MAX_BYTES {
+    if end > max_bytes() {
         return Err(Fault {
             name: FaultName::TooLong,
             start: 0,
@@ -214,7 +214,7 @@ impl<'a, 'w, W: Write> Run<'a, 'w, W> {
                     seen = filled;
                     break;
                 }
-                if lf + 1 - open.unwrap_or(line) > MAX_BYTES {
+                if lf + 1 - open.unwrap_or(line) > max_bytes() {
                     return Err(too_long());
                 }
                 self.one(&buf, line, lf, &mut open, base)?;
@@ -222,7 +222,7 @@ impl<'a, 'w, W: Write> Run<'a, 'w, W> {
                 seen = line;
             }
             let keep = open.unwrap_or(line);
-            if filled - keep > MAX_BYTES {
+            if filled - keep > max_bytes() {
                 return Err(too_long());
             }
             // More bytes.

@@ -1,8 +1,8 @@
 #!/usr/bin/env python3
 """Runs a built program where it is used badly: run.py PROGRAM [CALLS]
 
-Memory that is refused, reads and writes that fail, cuts, texts at the limits, closed and full
-descriptors, little stack and memory, and random texts beside the second checker. CALLS is the
+Memory that is refused, reads and writes that fail, cuts, texts at the limits and large ones, closed
+and full descriptors, little stack and memory, and random texts beside the second checker. CALLS is the
 program over the public calls, which calls.py runs. The last line is 'N passed, M failed'."""
 import os
 import sys
@@ -13,6 +13,7 @@ import devices
 import fronts
 import fuzz
 import growths
+import large
 import outside
 import running
 import sizes
@@ -37,6 +38,7 @@ def main():
     with Pool() as pool:
         for name, jobs in (
             ("sizes", sizes.jobs(program)),
+            ("large", large.jobs(program)),
             ("outside", outside.jobs(program)),
             ("devices", devices.jobs(program)),
             ("fronts", fronts.jobs(program)),

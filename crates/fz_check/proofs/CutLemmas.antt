@@ -10,9 +10,10 @@ use Rattle.fz_judge.specs.of_stream.declared.error.StreamError.TheVariants as st
 use Rattle.fz_judge.specs.of_stream.declared.line.LineKind.{LineKind}
 use Rattle.fz_judge.specs.of_stream.declared.line.LineKind.TheVariants.{Blank, Comment, Marker, Claim, Item}
 use Rattle.fz_judge.specs.of_stream.Broken.{BreaksAfter, CannotEnd, IsBrokenAtEndAfter}
-use Rattle.fz_judge.specs.of_stream.Parts.{Line, lines_of, onto_first, joined, kind_of, EndsWithFeed, IsFiller, IsFillerKind, IsInner, IsInnerKind, Frame, BlockFrame, ClaimFrame, StreamPart, frame_of, AreBlockLines, Closes, AreLinesOfFrame, AreLinesOf, Covers, IsFramed, IsStreamText}
+use Rattle.fz_judge.specs.of_stream.Parts.{Line, lines_of, onto_first, joined, kind_of, EndsWithFeed, IsFiller, IsFillerKind, IsInner, IsInnerKind, Frame, BlockFrame, ClaimFrame, StreamPart, frame_of, AreBlockLines, Closes, AreLinesOfFrame, AreLinesOf, Covers, IsFramed, IsStreamTextWithin}
 use Rattle.fz_judge.specs.of_stream.Splitting.{EndsLast}
 use Rattle.fz_judge.specs.of_stream.Telling.{IsNoneOrClaim, first_kind}
+use Rattle.fz_judge.specs.of_syntax.Limits.{Limits}
 use Rattle.fz_judge.proofs.of_stream.PartLemmas.{into_frames, two_parts}
 use Rattle.fz_judge.proofs.of_stream.SplitLemmas.{lines_up_to}
 use Rattle.fz_check.specs.declared.ending.Ending.{Ending}
@@ -71,14 +72,14 @@ front_ended : (bytes : List ℕ) (xs body last : List Line) → body ≢ []
 front_ended bytes xs [] last some e = absurd (some refl)
 front_ended bytes xs (y ∷ body) last some e = ended_before bytes xs y (body ++ last) e
 
-half_claim : (text : List ℕ) (last : List Line) → CannotEnd text last
+half_claim : {limits : Limits} → (text : List ℕ) (last : List Line) → CannotEnd limits text last
     → IsNoneOrClaim (first_kind last) → IsHalfClaim last
 half_claim text [] cannot claim = tt
 half_claim text (line ∷ []) cannot claim = (cannot.0, claim)
 half_claim text (line ∷ next ∷ lines) cannot claim = cannot
 
-module _ (given : List ℕ) (frames : List Frame) (span : Span)
-    (b : BreaksAfter CannotEnd given frames (stream.Unfinished span)) where
+module _ {limits : Limits} (given : List ℕ) (frames : List Frame) (span : Span)
+    (b : BreaksAfter limits CannotEnd given frames (stream.Unfinished span)) where
   abbrev before : List Line
   before = b.covers.covered ++ b.gap
 
@@ -208,9 +209,9 @@ cut_not_framed given front span frames cut framed =
     false≢true (sym closed ∙ still)
 
 -- where the last line ends a frame, no block is left open
-pub last_not_open : (given : List ℕ) (frames : List Frame) (frame : Frame) (span : Span)
+pub last_not_open : {limits : Limits} → (given : List ℕ) (frames : List Frame) (frame : Frame) (span : Span)
     → EndsLast given frames frame
-    → BreaksAfter CannotEnd given frames (stream.Unfinished span) → ⊥
+    → BreaksAfter limits CannotEnd given frames (stream.Unfinished span) → ⊥
 last_not_open given frames frame span ends broken =
     let cut = is_cut given frames span broken in
     let covers = into_frames ends.covers ends.line frame ends.closes in
@@ -219,9 +220,9 @@ last_not_open given frames frame span ends broken =
 
 -- ---- what is judged
 
-pub holds_at_end : (ending : Ending) (given : List ℕ) (parts : List StreamPart) (cut : Option Span)
-    (Holds : List ℕ → List Event → Type 0) → IsEndOf ending given parts cut
-    → ((front : List ℕ) → IsStreamText front parts → Holds front (cut_events cut))
+pub holds_at_end : {limits : Limits} → (ending : Ending) (given : List ℕ) (parts : List StreamPart) (cut : Option Span)
+    (Holds : List ℕ → List Event → Type 0) → IsEndOf limits ending given parts cut
+    → ((front : List ℕ) → IsStreamTextWithin limits front parts → Holds front (cut_events cut))
     → HoldsOfJudged ending given Holds
 holds_at_end Whole given parts None Holds end holds = holds given end
 holds_at_end Whole given parts (Some span) Holds end holds =
@@ -239,17 +240,17 @@ if_judged Cut given P Q f (inr p) = inr (p.0, p.1, p.2, f p.0 (CutOff p.1 ∷ []
 
 -- ---- why a stream is refused
 
-pub inside_by : (ending : Ending) (left : Option (List ℕ)) (given : List ℕ)
-    (parts : List StreamPart) (e : StreamError) → IsRefusedInside given parts e
-    → IsRefusedBy ending left given parts e
+pub inside_by : {limits : Limits} → (ending : Ending) (left : Option (List ℕ)) (given : List ℕ)
+    (parts : List StreamPart) (e : StreamError) → IsRefusedInside limits given parts e
+    → IsRefusedBy limits ending left given parts e
 inside_by Whole left given parts e h = inl h
 inside_by Cut left given parts (stream.Unfinished span) h = h
 inside_by Cut left given parts _ h = inl h
 
-pub after_by : (ending : Ending) (left : Option (List ℕ)) (given : List ℕ)
+pub after_by : {limits : Limits} → (ending : Ending) (left : Option (List ℕ)) (given : List ℕ)
     (parts : List StreamPart) (e : StreamError)
-    → ((span : Span) → e ≡ stream.Unfinished span → ⊥) → IsRefusedAfter left given parts e
-    → IsRefusedBy ending left given parts e
+    → ((span : Span) → e ≡ stream.Unfinished span → ⊥) → IsRefusedAfter limits left given parts e
+    → IsRefusedBy limits ending left given parts e
 after_by Whole left given parts e other h = h
 after_by Cut left given parts (stream.Unfinished span) other h = absurd (other span refl)
 after_by Cut left given parts _ other h = h

@@ -3,6 +3,7 @@ use Rattle.std.proofs.Common.{◌≡◌, ℕ, ℤ, false, true, List, [], ◌∷
 use Rattle.std.specs.Io.KnownBytes.{Consumes, IsAtEnd}
 use Rattle.fz_judge.specs.of_model.Meaning.{Aim, Model}
 use Rattle.fz_judge.specs.of_stream.Parts.{StreamPart, Frame}
+use Rattle.fz_judge.specs.of_syntax.Limits.{Limits}
 use Rattle.fz_judge.specs.declared.completion.Completion.{Completion}
 use Rattle.fz_judge.specs.Judged.{JudgeState, IsJudged}
 use Rattle.fz_judge.specs.Solutions.{Block}
@@ -16,18 +17,18 @@ use Rattle.fz_check.proofs.ClaimLemmas.{knows_more, outcome_of}
 use Rattle.fz_check.proofs.ReaderLemmas.{read_more}
 
 -- Parts of the bytes that were read have ended, and what is known is still so.
-pub record Listening (s : ReaderState) (left : Option (List ℕ)) (m : Model) (j : JudgeState) (old now : Known) : Type 0 where
+pub record Listening (limits : Limits) (s : ReaderState) (left : Option (List ℕ)) (m : Model) (j : JudgeState) (old now : Known) : Type 0 where
   pub given : List ℕ
   pub parts : List StreamPart
-  pub stands : StandsAt s left given parts
+  pub stands : StandsAt limits s left given parts
   pub same_model : j.model ≡ m
   pub knows : Knows m old → Knows m now
 
-pub listening_first : (s : ReaderState) (left : Option (List ℕ)) (m : Model) (c : Completion)
-    (j : JudgeState) (reads : ℕ) (k : Known) → HasRead s [] []
+pub listening_first : {limits : Limits} → (s : ReaderState) (left : Option (List ℕ)) (m : Model) (c : Completion)
+    (j : JudgeState) (reads : ℕ) (k : Known) → HasRead limits s [] []
     → s.pieces ≡ record { pending = []; reads = reads; at_end = false }
     → j ≡ record { model = m; completion = c; before = None; found = None }
-    → Listening s left m j k k
+    → Listening limits s left m j k k
 listening_first s left m c j reads k read pieces is = record {
   given = [];
   parts = [];
@@ -36,16 +37,16 @@ listening_first s left m c j reads k read pieces is = record {
   knows = λ h. h;
 }
 
-module _ (s : ReaderState) (left : Option (List ℕ)) (m : Model) (j : JudgeState) (old now : Known) (l : Listening s left m j old now) where
+module _ {limits : Limits} (s : ReaderState) (left : Option (List ℕ)) (m : Model) (j : JudgeState) (old now : Known) (l : Listening limits s left m j old now) where
   pub knows_next : (now' : Known) → (Knows j.model now → Knows j.model now') → Knows m old
       → Knows m now'
   knows_next now' more h = subst (λ n. Knows n now') l.same_model (more (subst (λ n. Knows n now) (sym l.same_model) (l.knows h)))
 
   pub listening_next : (next : ReaderState) (j' : JudgeState) (now' : Known)
-      → ((left : Option (List ℕ)) (given : List ℕ) (parts : List StreamPart) → StandsAt s left given parts → (frame : Frame) × HasNext next left given parts frame)
-      → ((left : Option (List ℕ)) (given : List ℕ) (before : List StreamPart) (frame : Frame) → HasNext next left given before frame → (part : StreamPart) × StandsAt next left given (before ++ part ∷ []))
+      → ((left : Option (List ℕ)) (given : List ℕ) (parts : List StreamPart) → StandsAt limits s left given parts → (frame : Frame) × HasNext limits next left given parts frame)
+      → ((left : Option (List ℕ)) (given : List ℕ) (before : List StreamPart) (frame : Frame) → HasNext limits next left given before frame → (part : StreamPart) × StandsAt limits next left given (before ++ part ∷ []))
       → j'.model ≡ j.model → (Knows j.model now → Knows j.model now')
-      → Listening next left m j' old now'
+      → Listening limits next left m j' old now'
   listening_next next j' now' more read same knows =
       let f = more left l.given l.parts l.stands in
       let p = read left l.given l.parts f.0 f.1 in
@@ -58,10 +59,10 @@ module _ (s : ReaderState) (left : Option (List ℕ)) (m : Model) (j : JudgeStat
       }
 
   pub listening_read : (mid next : ReaderState) (left' : Option (List ℕ))
-      → ((left : Option (List ℕ)) (given : List ℕ) (parts : List StreamPart) → StandsAt s left given parts → (mid.pieces.pending ≡ []) × HasRead mid given parts)
+      → ((left : Option (List ℕ)) (given : List ℕ) (parts : List StreamPart) → StandsAt limits s left given parts → (mid.pieces.pending ≡ []) × HasRead limits mid given parts)
       → next.splitter ≡ mid.splitter
       → (next.pieces.at_end ≡ true → (next.pieces.pending ≡ []) × IsAtEnd left')
-      → Listening next left' m j old now
+      → Listening limits next left' m j old now
   listening_read mid next left' bytes same end =
       let b = bytes left l.given l.parts l.stands in
       record {

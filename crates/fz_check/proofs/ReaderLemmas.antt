@@ -9,8 +9,9 @@ use Rattle.fz_judge.specs.of_stream.declared.error.StreamError.TheVariants as st
 use Rattle.fz_judge.specs.of_stream.declared.splitter.Stage.TheVariants.{Running, Finished, Failed}
 use Rattle.fz_judge.specs.of_stream.Broken.{BreaksAfter, CannotGoOn, CannotEnd, IsBrokenAtEndAfter}
 use Rattle.fz_judge.specs.of_stream.Faults.{IsStreamFault, IsCuttingFault}
-use Rattle.fz_judge.specs.of_stream.Parts.{StreamPart, BlockPart, ClaimPart, Frame, frame_of, HasItems, Covers, IsStreamText}
+use Rattle.fz_judge.specs.of_stream.Parts.{StreamPart, BlockPart, ClaimPart, Frame, frame_of, HasItems, Covers, IsStreamTextWithin}
 use Rattle.fz_judge.specs.of_stream.Splitting.{SplitterState, Holds, Fits, PassesLimit, EndsLast, EndsWith, IsPartOfItems, frames_in, most_taken}
+use Rattle.fz_judge.specs.of_syntax.Limits.{Limits}
 use Rattle.fz_judge.proofs.of_stream.PartLemmas.{every_append, into_frames}
 use Rattle.fz_base.specs.declared.span.Span.{Span}
 use Rattle.fz_check.specs.declared.ending.Ending.{Ending}
@@ -38,7 +39,7 @@ none_is None n = refl
 none_is (Some x) n = absurd (n refl)
 
 -- what `feed` promises, from what the splitter's own promises
-module _ (old : ReaderState) (s : SplitterState) (p : PiecesState) (view : record { splitter = s; pieces = p } ≡ old) (new : ReaderState) (piece : List ℕ) (n : ℕ) (is : piece ≡ p.pending)
+module _ {limits : Limits} (old : ReaderState) (s : SplitterState) (p : PiecesState) (view : record { splitter = s; pieces = p } ≡ old) (new : ReaderState) (piece : List ℕ) (n : ℕ) (is : piece ≡ p.pending)
     (fed : (bytes : List ℕ) (frames : List Frame) → Fits s bytes frames → Fits new.splitter (bytes ++ take n piece) (frames ++ frames_in new.splitter.waits)) (taken : new.pieces.pending ≡ drop n p.pending) (most : new.splitter.taken ≤ most_taken) where
   pending : piece ≡ old.pieces.pending
   pending = is ∙ ap (λ (t : ReaderState). t.pieces.pending) view
@@ -46,7 +47,7 @@ module _ (old : ReaderState) (s : SplitterState) (p : PiecesState) (view : recor
   behind : new.pieces.pending ≡ drop n piece
   behind = taken ∙ ap (drop n) (sym is)
 
-  module _ (given : List ℕ) (parts : List StreamPart) (h : HasRead old given parts) where
+  module _ (given : List ℕ) (parts : List StreamPart) (h : HasRead limits old given parts) where
     fits_next : Fits new.splitter (h.taken ++ take n piece) (map frame_of parts ++ frames_in new.splitter.waits)
     fits_next = fed h.taken (map frame_of parts) (subst (λ t. Fits t h.taken (map frame_of parts)) (sym (ap (λ (t : ReaderState). t.splitter) view)) h.fits)
 
@@ -63,13 +64,14 @@ module _ (old : ReaderState) (s : SplitterState) (p : PiecesState) (view : recor
         let w = some_is new.splitter.waits some in
         (w.0, w.1, record { taken = h.taken ++ take n piece; whole = whole_next; fits = subst (λ o. Fits new.splitter (h.taken ++ take n piece) (map frame_of parts ++ frames_in o)) w.1 fits_next; short = short_next })
 
-    pub fed_none : (IsSome new.splitter.waits → ⊥)
+    pub fed_none : new.splitter.limits ≡ s.limits → (IsSome new.splitter.waits → ⊥)
         → (new.splitter.waits ≡ None → n ≡ length piece)
-        → (new.pieces.pending ≡ []) × HasRead new given parts
-    fed_none not_some all =
+        → (new.pieces.pending ≡ []) × HasRead limits new given parts
+    fed_none same not_some all =
         let none = none_is new.splitter.waits not_some in (
           behind ∙ drop_all n piece (omega (arith, all none)),
           record {
+            under = same ∙ ap (λ (t : ReaderState). t.splitter.limits) view ∙ h.under;
             taken = h.taken ++ take n piece;
             whole = whole_next;
             fits = subst (Fits new.splitter (h.taken ++ take n piece)) (append-nil (map frame_of parts)) (subst (λ o. Fits new.splitter (h.taken ++ take n piece) (map frame_of parts ++ frames_in o)) none fits_next);
@@ -79,22 +81,25 @@ module _ (old : ReaderState) (s : SplitterState) (p : PiecesState) (view : recor
         )
 
 -- or it refuses the stream inside the bytes
-module _ (old : ReaderState) (s : SplitterState) (p : PiecesState) (view : record { splitter = s; pieces = p } ≡ old) (piece : List ℕ) (is : piece ≡ p.pending) (given : List ℕ) (parts : List StreamPart) (h : HasRead old given parts) where
+module _ {limits : Limits} (old : ReaderState) (s : SplitterState) (p : PiecesState) (view : record { splitter = s; pieces = p } ≡ old) (piece : List ℕ) (is : piece ≡ p.pending) (given : List ℕ) (parts : List StreamPart) (h : HasRead limits old given parts) where
   fits_old : Fits s h.taken (map frame_of parts)
   fits_old = subst (λ t. Fits t h.taken (map frame_of parts)) (sym (ap (λ (t : ReaderState). t.splitter) view)) h.fits
 
   whole_old : given ≡ h.taken ++ piece
   whole_old = h.whole ∙ ap (λ l. h.taken ++ l) (sym (is ∙ ap (λ (t : ReaderState). t.pieces.pending) view))
 
+  under_old : s.limits ≡ limits
+  under_old = ap (λ (t : ReaderState). t.splitter.limits) view ∙ h.under
+
   pub fed_refused : (e : StreamError)
-      → (e ≢ stream.TooLong → (bytes : List ℕ) (frames : List Frame) → Fits s bytes frames → BreaksAfter CannotGoOn (bytes ++ piece) frames e)
-      → (e ≡ stream.TooLong → (bytes : List ℕ) (frames : List Frame) → Fits s bytes frames → PassesLimit bytes piece frames)
-      → IsRefusedInside given parts e
-  fed_refused stream.TooLong broken long = inl (refl, record { taken = h.taken; piece = piece; whole = whole_old; items = h.items; passes = long refl h.taken (map frame_of parts) fits_old })
-  fed_refused e broken long = inr (h.items, subst (λ l. BreaksAfter CannotGoOn l (map frame_of parts) e) (sym whole_old) (broken (λ q. cc) h.taken (map frame_of parts) fits_old))
+      → (e ≢ stream.TooLong → (bytes : List ℕ) (frames : List Frame) → Fits s bytes frames → BreaksAfter s.limits CannotGoOn (bytes ++ piece) frames e)
+      → (e ≡ stream.TooLong → (bytes : List ℕ) (frames : List Frame) → Fits s bytes frames → PassesLimit s.limits.bytes bytes piece frames)
+      → IsRefusedInside limits given parts e
+  fed_refused stream.TooLong broken long = inl (refl, record { taken = h.taken; piece = piece; whole = whole_old; items = h.items; passes = subst (λ (l : Limits). PassesLimit l.bytes h.taken piece (map frame_of parts)) under_old (long refl h.taken (map frame_of parts) fits_old) })
+  fed_refused e broken long = inr (h.items, subst₂ (λ (m : Limits) l. BreaksAfter m CannotGoOn l (map frame_of parts) e) under_old (sym whole_old) (broken (λ q. cc) h.taken (map frame_of parts) fits_old))
 
 -- what `finish` promises, from what the splitter's own promises
-module _ (old new : ReaderState) (s : SplitterState) (same : old.splitter ≡ s) (none : old.pieces.pending ≡ []) (given : List ℕ) (parts : List StreamPart) (h : HasRead old given parts) where
+module _ {limits : Limits} (old new : ReaderState) (s : SplitterState) (same : old.splitter ≡ s) (none : old.pieces.pending ≡ []) (given : List ℕ) (parts : List StreamPart) (h : HasRead limits old given parts) where
   all_fits : Fits s given (map frame_of parts)
   all_fits =
       let all : h.taken ≡ given = sym (h.whole ∙ ap (λ l. h.taken ++ l) none ∙ append-nil h.taken) in
@@ -107,16 +112,16 @@ module _ (old new : ReaderState) (s : SplitterState) (same : old.splitter ≡ s)
         let w = some_is new.splitter.waits some in
         (w.0, w.1, subst (λ o. EndsWith o given (map frame_of parts)) w.1 (ends given (map frame_of parts) all_fits))
 
-    pub ended_none : (IsSome new.splitter.waits → ⊥) → IsStreamText given parts
+    pub ended_none : (IsSome new.splitter.waits → ⊥) → IsStreamTextWithin limits given parts
     ended_none not_some = record {
       framed = subst (λ o. EndsWith o given (map frame_of parts)) (none_is new.splitter.waits not_some) (ends given (map frame_of parts) all_fits);
       items = h.items;
     }
 
   pub ended_broken : (e : StreamError)
-      → ((bytes : List ℕ) (frames : List Frame) → Fits s bytes frames → BreaksAfter CannotEnd bytes frames e)
-      → IsBrokenAtEndAfter given parts e
-  ended_broken e broken = (h.items, broken given (map frame_of parts) all_fits)
+      → ((bytes : List ℕ) (frames : List Frame) → Fits s bytes frames → BreaksAfter s.limits CannotEnd bytes frames e)
+      → IsBrokenAtEndAfter limits given parts e
+  ended_broken e broken = (h.items, subst (λ (m : Limits). BreaksAfter m CannotEnd given (map frame_of parts) e) (sym (ap (λ t. t.limits) same) ∙ h.under) (broken given (map frame_of parts) all_fits))
 
 pub cutting_fault : (e : StreamError) → IsCuttingFault e → IsStreamFault e
 cutting_fault (stream.Item f) h = absurd h
@@ -125,10 +130,10 @@ cutting_fault stream.Failed h = absurd h
 cutting_fault _ h = tt
 
 -- why the stream is refused, as it is told
-pub unread : (ending : Ending) (left : Option (List ℕ)) (given : List ℕ)
+pub unread : {limits : Limits} → (ending : Ending) (left : Option (List ℕ)) (given : List ℕ)
     (parts : List StreamPart) (e : StreamError) → (e ≢ stream.Memory → IsStreamFault e)
-    → (e ≢ stream.Memory → IsRefusedBy ending left given parts e)
-    → IsUnread ending left given parts (stream_refusal e)
+    → (e ≢ stream.Memory → IsRefusedBy limits ending left given parts e)
+    → IsUnread limits ending left given parts (stream_refusal e)
 unread ending left given parts stream.Memory fault why = tt
 unread ending left given parts stream.TooLong fault why =
     let n : stream.TooLong ≢ stream.Memory = λ m. cc in
@@ -153,10 +158,10 @@ if_err_is (Ok x) P f = tt
 if_err_is (Err e) P f = f e refl
 
 -- a stream that can't end as it is, is refused at its end
-pub ended_refused : (ending : Ending) (left : Option (List ℕ)) (given : List ℕ)
+pub ended_refused : {limits : Limits} → (ending : Ending) (left : Option (List ℕ)) (given : List ℕ)
     (parts : List StreamPart) (e : StreamError) → IsCuttingFault e × (e ≢ stream.TooLong)
-    → IsAtEnd left → IsBrokenAtEndAfter given parts e
-    → IfErr (broken_end ending e) (IsUnread ending left given parts)
+    → IsAtEnd left → IsBrokenAtEndAfter limits given parts e
+    → IfErr (broken_end ending e) (IsUnread limits ending left given parts)
 ended_refused Whole left given parts e fault end broken =
     unread Whole left given parts e (λ _. cutting_fault e fault.0) (λ _. inr (end, broken))
 ended_refused Cut left given parts (stream.Unfinished s) fault end broken = tt
@@ -165,18 +170,18 @@ ended_refused Cut left given parts stream.TooLong fault end broken = absurd (fau
 ended_refused Cut left given parts _ fault end broken = absurd fault.0
 
 -- or cut
-pub ended_cut : (ending : Ending) (given : List ℕ) (parts : List StreamPart)
-    (e : StreamError) → IsBrokenAtEndAfter given parts e → (cut : Option Span)
+pub ended_cut : {limits : Limits} → (ending : Ending) (given : List ℕ) (parts : List StreamPart)
+    (e : StreamError) → IsBrokenAtEndAfter limits given parts e → (cut : Option Span)
     → broken_end ending e ≡ Ok (End cut)
-    → IsEndOf ending given parts cut
+    → IsEndOf limits ending given parts cut
 ended_cut Whole given parts e broken cut is =
     absurd (let no : Err (stream_refusal e) ≡ Ok (End cut) = is in cc)
-ended_cut Cut given parts (stream.Unfinished s) broken cut is =
+ended_cut {limits} Cut given parts (stream.Unfinished s) broken cut is =
     let same : Some s ≡ cut = cc in
     let frames = map frame_of parts in
-    let text : IsStreamText (front_of given frames s broken.1) parts =
+    let text : IsStreamTextWithin limits (front_of given frames s broken.1) parts =
     record { framed = front_framed given frames s broken.1; items = broken.0 } in
-    subst (IsEndOf Cut given parts) same (refl, (_, is_cut given frames s broken.1, text))
+    subst (IsEndOf limits Cut given parts) same (refl, (_, is_cut given frames s broken.1, text))
 ended_cut Cut given parts e broken cut is =
     absurd (let no : Err (stream_refusal e) ≡ Ok (End cut) = is in cc)
 
@@ -190,53 +195,54 @@ ended_no_part Cut e is = (let no : Err (stream_refusal e) ≡ Ok Part = is in cc
 
 -- ---- where a reader stands
 
-pub running : (s : ReaderState) (given : List ℕ) (parts : List StreamPart) → HasRead s given parts
+pub running : {limits : Limits} → (s : ReaderState) (given : List ℕ) (parts : List StreamPart) → HasRead limits s given parts
     → s.splitter.stage ≢ Finished
 running s given parts h f = let no : Running ≡ Finished = sym h.fits.running ∙ f in cc
 
 -- one that has not ended stands where it has read
-pub stands_reading : (s : ReaderState) (left : Option (List ℕ)) (given : List ℕ)
-    (parts : List StreamPart) → s.splitter.stage ≢ Finished → StandsAt s left given parts
-    → HasRead s given parts
+pub stands_reading : {limits : Limits} → (s : ReaderState) (left : Option (List ℕ)) (given : List ℕ)
+    (parts : List StreamPart) → s.splitter.stage ≢ Finished → StandsAt limits s left given parts
+    → HasRead limits s given parts
 stands_reading s left given parts going st = ⊎_elim (λ h. h.0) (λ h. absurd (going h.1.finished)) st
 
 -- one that is at the end of the bytes
-pub stands_at_end : (s : ReaderState) (left : Option (List ℕ)) (given : List ℕ)
-    (parts : List StreamPart) → s.pieces.at_end ≡ true → StandsAt s left given parts → IsAtEnd left
+pub stands_at_end : {limits : Limits} → (s : ReaderState) (left : Option (List ℕ)) (given : List ℕ)
+    (parts : List StreamPart) → s.pieces.at_end ≡ true → StandsAt limits s left given parts → IsAtEnd left
 stands_at_end s left given parts e st = ⊎_elim (λ h. h.1 e) (λ h. h.0) st
 
 -- and one that has ended at the end of a text
-pub stands_ended : (s : ReaderState) (left : Option (List ℕ)) (given : List ℕ)
-    (parts : List StreamPart) → s.splitter.stage ≡ Finished → StandsAt s left given parts
-    → IsAtEnd left × IsStreamText given parts
-stands_ended s left given parts finished st =
+pub stands_ended : {limits : Limits} → (s : ReaderState) (left : Option (List ℕ)) (given : List ℕ)
+    (parts : List StreamPart) → s.splitter.stage ≡ Finished → StandsAt limits s left given parts
+    → IsAtEnd left × IsStreamTextWithin limits given parts
+stands_ended {limits} s left given parts finished st =
     ⊎_elim (λ h. absurd (running s given parts h.0 finished))
-    (λ (h : IsAtEnd left × HasEnded s given parts). (h.0, h.1.text)) st
+    (λ (h : IsAtEnd left × HasEnded limits s given parts). (h.0, h.1.text)) st
 
-pub read_inside : (s : ReaderState) (left : Option (List ℕ)) (given : List ℕ)
-    (parts : List StreamPart) → HasRead s given parts → EndInside left given parts
+pub read_inside : {limits : Limits} → (s : ReaderState) (left : Option (List ℕ)) (given : List ℕ)
+    (parts : List StreamPart) → HasRead limits s given parts → EndInside limits left given parts
 read_inside s left given parts h = inl (h.taken, s.pieces.pending, h.whole, (h.items, (s.splitter.held, h.fits.holds)))
 
-pub stands_inside : (s : ReaderState) (left : Option (List ℕ)) (given : List ℕ)
-    (parts : List StreamPart) → StandsAt s left given parts → EndInside left given parts
-stands_inside s left given parts st =
+pub stands_inside : {limits : Limits} → (s : ReaderState) (left : Option (List ℕ)) (given : List ℕ)
+    (parts : List StreamPart) → StandsAt limits s left given parts → EndInside limits left given parts
+stands_inside {limits} s left given parts st =
     ⊎_elim (λ h. read_inside s left given parts h.0)
-    (λ (h : IsAtEnd left × HasEnded s given parts). inr (h.0, h.1.text)) st
+    (λ (h : IsAtEnd left × HasEnded limits s given parts). inr (h.0, h.1.text)) st
 
 -- the splitter took all
-pub all_taken : (s : ReaderState) (given : List ℕ) (parts : List StreamPart)
-    → s.pieces.pending ≡ [] → HasRead s given parts → HasNoMore given parts
+pub all_taken : {limits : Limits} → (s : ReaderState) (given : List ℕ) (parts : List StreamPart)
+    → s.pieces.pending ≡ [] → HasRead limits s given parts → HasNoMore limits given parts
 all_taken s given parts none h =
     let all : h.taken ≡ given = sym (h.whole ∙ ap (λ l. h.taken ++ l) none ∙ append-nil h.taken) in
     (h.items, (s.splitter.held, subst (λ l. Holds l (map frame_of parts) s.splitter.held) all h.fits.holds))
 
 -- and more was read
-pub read_more : (s next : ReaderState) (given : List ℕ) (parts : List StreamPart)
-    → s.pieces.pending ≡ [] → next.splitter ≡ s.splitter → HasRead s given parts
-    → HasRead next (given ++ next.pieces.pending) parts
+pub read_more : {limits : Limits} → (s next : ReaderState) (given : List ℕ) (parts : List StreamPart)
+    → s.pieces.pending ≡ [] → next.splitter ≡ s.splitter → HasRead limits s given parts
+    → HasRead limits next (given ++ next.pieces.pending) parts
 read_more s next given parts none same h =
     let all : h.taken ≡ given = sym (h.whole ∙ ap (λ l. h.taken ++ l) none ∙ append-nil h.taken) in
     record {
+      under = ap (λ t. t.limits) same ∙ h.under;
       taken = given;
       whole = refl;
       fits = subst₂ (λ t l. Fits t l (map frame_of parts)) (sym same) all h.fits;
@@ -245,14 +251,14 @@ read_more s next given parts none same h =
     }
 
 -- the part that was read comes next
-module _ (s : ReaderState) (left : Option (List ℕ)) (given : List ℕ) (parts : List StreamPart) (frame : Frame) (n : HasNext s left given parts frame) where
-  module _ (part : StreamPart) (lent : Some (frame_of part) ≡ s.splitter.waits) (own : IsPartOfItems part) where
-    has_items : (p : StreamPart) → IsPartOfItems p → HasItems p
+module _ {limits : Limits} (s : ReaderState) (left : Option (List ℕ)) (given : List ℕ) (parts : List StreamPart) (frame : Frame) (n : HasNext limits s left given parts frame) where
+  module _ (part : StreamPart) (lent : Some (frame_of part) ≡ s.splitter.waits) (own : IsPartOfItems limits part) where
+    has_items : (p : StreamPart) → IsPartOfItems limits p → HasItems limits p
     has_items (BlockPart block) h = h.0
     has_items (ClaimPart kind) h = tt
 
-    items : AllByRecursion HasItems (parts ++ part ∷ [])
-    items = every_append HasItems parts (part ∷ []) n.items (has_items part own, tt)
+    items : AllByRecursion (HasItems limits) (parts ++ part ∷ [])
+    items = every_append (HasItems limits) parts (part ∷ []) n.items (has_items part own, tt)
 
     framed_same : map frame_of parts ++ frame ∷ [] ≡ map frame_of (parts ++ part ∷ [])
     framed_same =
@@ -260,11 +266,11 @@ module _ (s : ReaderState) (left : Option (List ℕ)) (given : List ℕ) (parts 
         let frames : frame ≡ frame_of part = cc in
         ap (λ f. map frame_of parts ++ f ∷ []) frames ∙ sym (map_push frame_of parts part)
 
-    pub stands_next : StandsAt s left given (parts ++ part ∷ [])
+    pub stands_next : StandsAt limits s left given (parts ++ part ∷ [])
     stands_next =
         ⊎_elim
         (λ (w : WaitsInside s given parts frame × (s.pieces.at_end ≡ true → IsAtEnd left)).
-        inl (record { taken = w.0.taken; whole = w.0.whole; fits = subst (Fits s.splitter w.0.taken) framed_same w.0.fits; items = items; short = w.0.short }, w.1))
+        inl (record { under = n.under; taken = w.0.taken; whole = w.0.whole; fits = subst (Fits s.splitter w.0.taken) framed_same w.0.fits; items = items; short = w.0.short }, w.1))
         (λ (w : IsAtEnd left × (s.splitter.stage ≡ Finished) × EndsLast given (map frame_of parts) frame).
         (let covers = into_frames w.2.covers w.2.line frame w.2.closes in
         inr (w.0, record { finished = w.1; text = record { framed = ([], subst₂ (λ l f. Covers l f [] []) (sym w.2.whole) framed_same covers); items = items } })))
@@ -273,28 +279,31 @@ module _ (s : ReaderState) (left : Option (List ℕ)) (given : List ℕ) (parts 
   -- or is refused
   pub refused_next : (t : SplitterState) → s.splitter ≡ t → (e : StreamError)
       → (e ≢ stream.Failed → IsStreamFault e) → (e ≡ stream.Failed → t.stage ≡ Failed)
-      → (e ≢ stream.Memory → e ≢ stream.Failed → (bytes more : List ℕ) (frames : List Frame) (frame : Frame) → Fits t bytes (frames ++ frame ∷ []) → BreaksAfter CannotGoOn (bytes ++ more) frames e)
-      → (e ≢ stream.Memory → e ≢ stream.Failed → (bytes : List ℕ) (frames : List Frame) → EndsWith t.waits bytes frames → BreaksAfter CannotEnd bytes frames e)
-      → (ending : Ending) → IsUnread ending left given parts (stream_refusal e)
+      → (e ≢ stream.Memory → e ≢ stream.Failed → (bytes more : List ℕ) (frames : List Frame) (frame : Frame) → Fits t bytes (frames ++ frame ∷ []) → BreaksAfter t.limits CannotGoOn (bytes ++ more) frames e)
+      → (e ≢ stream.Memory → e ≢ stream.Failed → (bytes : List ℕ) (frames : List Frame) → EndsWith t.waits bytes frames → BreaksAfter t.limits CannotEnd bytes frames e)
+      → (ending : Ending) → IsUnread limits ending left given parts (stream_refusal e)
   refused_next t same e fault failed broken broken_at_end ending =
       unread ending left given parts e (λ _. fault not_failed) why
     where
+      under : t.limits ≡ limits
+      under = sym (ap (λ u. u.limits) same) ∙ n.under
+
       not_failed : e ≢ stream.Failed
       not_failed q =
           ⊎_elim (λ w. let no : Running ≡ Failed = sym w.0.fits.running ∙ ap (λ u. u.stage) same ∙ failed q in cc) (λ w. let no : Finished ≡ Failed = sym w.1 ∙ ap (λ u. u.stage) same ∙ failed q in cc) n.ends
 
-      why : e ≢ stream.Memory → IsRefusedBy ending left given parts e
+      why : e ≢ stream.Memory → IsRefusedBy limits ending left given parts e
       why memory =
           ⊎_elim
           (λ (w : WaitsInside s given parts frame × (s.pieces.at_end ≡ true → IsAtEnd left)).
-          inside_by ending left given parts e (inr (n.items, subst (λ l. BreaksAfter CannotGoOn l (map frame_of parts) e) (sym w.0.whole) (broken memory not_failed w.0.taken s.pieces.pending (map frame_of parts) frame (subst (λ u. Fits u w.0.taken (map frame_of parts ++ frame ∷ [])) same w.0.fits)))))
+          inside_by ending left given parts e (inr (n.items, subst₂ (λ (m : Limits) l. BreaksAfter m CannotGoOn l (map frame_of parts) e) under (sym w.0.whole) (broken memory not_failed w.0.taken s.pieces.pending (map frame_of parts) frame (subst (λ u. Fits u w.0.taken (map frame_of parts ++ frame ∷ [])) same w.0.fits)))))
           (λ (w : IsAtEnd left × (s.splitter.stage ≡ Finished) × EndsLast given (map frame_of parts) frame).
           let frames = map frame_of parts in
           let waits = sym n.waits ∙ ap (λ u. u.waits) same in
           let ends = subst (λ o. EndsWith o given frames) waits w.2 in
-          let broken_here = broken_at_end memory not_failed given frames ends in
+          let broken_here = subst (λ (m : Limits). BreaksAfter m CannotEnd given frames e) under (broken_at_end memory not_failed given frames ends) in
           let closed : (span : Span) → e ≡ stream.Unfinished span → ⊥ = λ span is.
-          (let left_open = subst (BreaksAfter CannotEnd given frames) is broken_here in
+          (let left_open = subst (BreaksAfter limits CannotEnd given frames) is broken_here in
           last_not_open given frames frame span w.2 left_open) in
           after_by ending left given parts e closed (inr (w.0, (n.items, broken_here))))
           n.ends

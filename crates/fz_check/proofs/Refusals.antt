@@ -5,7 +5,8 @@ use Rattle.std.proofs.lemmas.Bool.{cases_lt}
 use Rattle.fz_judge.specs.of_syntax.SyntaxError.{SyntaxError}
 use Rattle.fz_judge.specs.of_syntax.SyntaxError.TheVariants as syntax
 use Rattle.fz_judge.specs.of_syntax.Lexing.{most_bytes}
-use Rattle.fz_judge.specs.of_syntax.Offering.{IsRefused}
+use Rattle.fz_judge.specs.of_syntax.Limits.{Limits}
+use Rattle.fz_judge.specs.of_syntax.Offering.{IsRefusedWithin}
 use Rattle.fz_judge.specs.of_stream.declared.error.StreamError.{StreamError}
 use Rattle.fz_judge.specs.of_stream.declared.error.StreamError.TheVariants as stream
 use Rattle.fz_judge.specs.of_stream.Faults.{IsStreamFault}
@@ -24,10 +25,10 @@ use Rattle.fz_check.specs.Telling.{stream_refusal}
 
 -- ---- texts
 
-pub text_fault : (model : List ℕ) (e : SyntaxError) → e ≢ syntax.Memory → IsRefused model e
-    → (e ≡ syntax.TooLong → most_bytes < length model)
-    → (most_bytes < length model → e ≡ syntax.TooLong) → HasTextFault model e
-text_fault model e other refused long too_long = record { no_tree = λ t text. other (refused.no_tree t text); too_long = (long, too_long); order = refused.order; place = refused.place; not_memory = other }
+pub text_fault : (limits : Limits) (model : List ℕ) (e : SyntaxError) → e ≢ syntax.Memory
+    → IsRefusedWithin limits model e → (e ≡ syntax.TooLong → limits.bytes < length model)
+    → (limits.bytes < length model → e ≡ syntax.TooLong) → HasTextFault limits model e
+text_fault limits model e other refused long too_long = record { no_tree = λ t text. other (refused.no_tree t text); too_long = (long, too_long); order = refused.order; place = refused.place; not_memory = other }
 
 -- ---- streams
 

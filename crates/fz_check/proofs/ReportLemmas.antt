@@ -4,7 +4,8 @@ use Rattle.std.specs.List.{AllByRecursion}
 use Rattle.fz_judge.specs.of_model.Located.{LocatedTree}
 use Rattle.fz_judge.specs.of_model.Meaning.{Model}
 use Rattle.fz_judge.specs.of_model.Names.{HasNoFault, model_of}
-use Rattle.fz_judge.specs.of_model.Texts.{IsLoadedFrom}
+use Rattle.fz_judge.specs.of_model.Texts.{IsLoadedFromWithin}
+use Rattle.fz_judge.specs.of_syntax.Limits.{Limits}
 use Rattle.fz_judge.proofs.of_model.Scope.{sound_aims}
 use Rattle.fz_judge.specs.Solutions.{Block}
 use Rattle.fz_judge.specs.declared.completion.Completion.{Completion}
@@ -17,12 +18,12 @@ use Rattle.fz_judge.proofs.Accepted.{accepted_solves}
 use Rattle.fz_judge.proofs.Completing.{accepted_judged}
 use Rattle.fz_judge.proofs.Each.{each_satisfied, each_violated, each_not_better}
 use Rattle.fz_judge.proofs.Places.{blocks_are_bare}
-use Rattle.fz_check.specs.Headline.{HasSolutions}
+use Rattle.fz_check.specs.Headline.{HasSolutionsWithin}
 use Rattle.fz_check.specs.declared.claims.Claims.{Claims}
 use Rattle.fz_check.specs.Claims.{HasReportWith, IsReportWith, IsTrueOf, ledger, no_ledger, verdicts_of}
-use Rattle.fz_check.specs.Report.{Event, IsReport, events_of}
+use Rattle.fz_check.specs.Report.{Event, IsReportWithin, events_of}
 use Rattle.fz_check.specs.Report.Event.{Answered}
-use Rattle.fz_check.specs.Reported.{HasReport, AreBorneOut}
+use Rattle.fz_check.specs.Reported.{HasReportWithin, AreBorneOut}
 use Rattle.fz_check.proofs.ClaimLemmas.{accepted_without, all_true}
 
 pub borne_out : (completion : Completion) (t : LocatedTree) (blocks : List Block)
@@ -34,7 +35,7 @@ borne_out completion t blocks vs sound are = record {
   not_better = λ i block f at found (now, before, e). each_not_better completion (model_of t) blocks vs i block now before are at (found ∙ ap (λ g. Some (Violated g)) e);
 }
 
-module _ (c : Completion) (model : List ℕ) (m : Model) (stream : List ℕ) (events : List Event) (answer : Answer) (loaded : IsLoadedFrom model m) (r : IsReport c m stream events answer) where
+module _ {limits : Limits} (c : Completion) (model : List ℕ) (m : Model) (stream : List ℕ) (events : List Event) (answer : Answer) (loaded : IsLoadedFromWithin limits model m) (r : IsReportWithin limits c m stream events answer) where
   are : AreVerdicts c (model_of loaded.tree) (map located_block r.have_verdicts.blocks) r.verdicts
   are = subst (λ n. AreVerdicts c n (map located_block r.have_verdicts.blocks) r.verdicts) loaded.is r.have_verdicts.are_verdicts
 
@@ -42,7 +43,7 @@ module _ (c : Completion) (model : List ℕ) (m : Model) (stream : List ℕ) (ev
   are_borne_out = subst (λ n. AreBorneOut n (map located_block r.have_verdicts.blocks) r.verdicts) (sym loaded.is) (borne_out c loaded.tree (map located_block r.have_verdicts.blocks) r.verdicts loaded.no_fault are)
 
   -- the report on the model of a text
-  pub report_of : HasReport c model stream events answer
+  pub report_of : HasReportWithin limits c model stream events answer
   report_of = record {
     m = m;
     loaded = loaded;
@@ -50,7 +51,7 @@ module _ (c : Completion) (model : List ℕ) (m : Model) (stream : List ℕ) (ev
   }
 
   -- an accepted stream has solutions
-  pub solutions_of : (count : ℕ) → answer ≡ Accepted count → HasSolutions model stream count
+  pub solutions_of : (count : ℕ) → answer ≡ Accepted count → HasSolutionsWithin limits model stream count
   solutions_of count accepted =
       let told = sym r.answer_is ∙ accepted in
       let (solutions, counted, some) = accepted_solves (model_of loaded.tree) (map located_block r.have_verdicts.blocks) r.verdicts count (sound_aims loaded.tree loaded.no_fault)
@@ -70,8 +71,8 @@ module _ (c : Completion) (model : List ℕ) (m : Model) (stream : List ℕ) (ev
 
 -- ---- with what is told of claims
 
-module _ (claims : Claims) (c : Completion) (model : List ℕ) (m : Model) (stream : List ℕ) (events : List Event) (answer : Answer) (loaded : IsLoadedFrom model m) (r : IsReportWith claims c m stream events answer) where
-  abbrev plain : IsReport c m stream (events_of 0 (verdicts_of r.outcomes) r.parts ++ Answered (answer_of (verdicts_of r.outcomes)) ∷ []) (answer_of (verdicts_of r.outcomes))
+module _ {limits : Limits} (claims : Claims) (c : Completion) (model : List ℕ) (m : Model) (stream : List ℕ) (events : List Event) (answer : Answer) (loaded : IsLoadedFromWithin limits model m) (r : IsReportWith limits claims c m stream events answer) where
+  abbrev plain : IsReportWithin limits c m stream (events_of 0 (verdicts_of r.outcomes) r.parts ++ Answered (answer_of (verdicts_of r.outcomes)) ∷ []) (answer_of (verdicts_of r.outcomes))
   plain = record {
     parts = r.parts;
     text_of_stream = r.text_of_stream;
@@ -81,7 +82,7 @@ module _ (claims : Claims) (c : Completion) (model : List ℕ) (m : Model) (stre
     events_are = refl;
   }
 
-  pub reported : HasReportWith claims c model stream events answer
+  pub reported : HasReportWith limits claims c model stream events answer
   reported = record {
     m = m;
     loaded = loaded;
@@ -93,7 +94,7 @@ module _ (claims : Claims) (c : Completion) (model : List ℕ) (m : Model) (stre
   }
 
   pub accepted_solutions : (count : ℕ) → answer ≡ Accepted count
-      → HasSolutions model stream count
+      → HasSolutionsWithin limits model stream count
   accepted_solutions count accepted =
       solutions_of c model m stream _ _ loaded plain count
       (accepted_without (ledger m.aim claims 0 no_ledger r.outcomes r.parts).refuted (answer_of (verdicts_of r.outcomes)) count (sym r.answer_is ∙ accepted))

@@ -1,8 +1,9 @@
 -- What is shown of a model.
 use Rattle.std.proofs.Common.{◌≡◌, ◌∙◌, ℕ, List, sym, ap, subst}
 use Rattle.fz_judge.specs.of_syntax.AnyLength.{LexesWithNumbersInLimit}
+use Rattle.fz_judge.specs.of_syntax.Limits.{Limits}
 use Rattle.fz_judge.specs.of_syntax.Print.{CanBeWritten, tree_text}
-use Rattle.fz_judge.specs.of_syntax.Text.{IsTextOfTree}
+use Rattle.fz_judge.specs.of_syntax.Text.{IsTextOfTreeWithin}
 use Rattle.fz_judge.specs.of_syntax.Tokens.{toks}
 use Rattle.fz_judge.specs.of_syntax.View.{bare}
 use Rattle.fz_judge.specs.of_syntax.declared.Ast as the_ast
@@ -17,28 +18,28 @@ use Rattle.fz_check.proofs.Same.{same_model}
 use Rattle.fz_check.proofs.Sound.{no_fault_still}
 use Rattle.fz_check.specs.Shown.{IsShown, IsShownPrintingAll}
 
-pub shown_of : (model shown : List ℕ) (a : the_ast.Ast) → IsTextOfTree model (bare a)
+pub shown_of : {limits : Limits} → (model shown : List ℕ) (a : the_ast.Ast) → IsTextOfTreeWithin limits model (bare a)
     → HasNoFault (located a) → shown ≡ tree_text (bare a)
-    → (CanBeWritten (bare a) → LexesWithNumbersInLimit shown (toks (bare a))) → IsShown model shown
-shown_of model shown a text sound layout back = record {
+    → (CanBeWritten (bare a) → LexesWithNumbersInLimit shown (toks (bare a))) → IsShown limits model shown
+shown_of {limits} model shown a text sound layout back = record {
   tree = located a;
-  text_of_model = subst (IsTextOfTree model) (sym (located_is_bare a)) text;
+  text_of_model = subst (IsTextOfTreeWithin limits model) (sym (located_is_bare a)) text;
   no_fault = sound;
   layout = layout ∙ ap tree_text (sym (located_is_bare a));
-  reads_back = subst (λ t. LexesWithNumbersInLimit shown (toks t)) (sym (located_is_bare a)) (back (read_can_be_written model (bare a) text));
+  reads_back = subst (λ t. LexesWithNumbersInLimit shown (toks t)) (sym (located_is_bare a)) (back (read_can_be_written limits model (bare a) text));
 }
 
 -- of a tree that was read, and of what became of it
-pub shown_printing_all : (model shown : List ℕ) (a b : the_ast.Ast) → IsTextOfTree model (bare a)
+pub shown_printing_all : {limits : Limits} → (model shown : List ℕ) (a b : the_ast.Ast) → IsTextOfTreeWithin limits model (bare a)
     → HasNoFault (located a) → located b ≡ with_all_printed (located a) → shown ≡ tree_text (bare b)
-    → (CanBeWritten (bare b) → LexesWithNumbersInLimit shown (toks (bare b))) → IsShownPrintingAll model shown
-shown_printing_all model shown a b text sound is layout back =
+    → (CanBeWritten (bare b) → LexesWithNumbersInLimit shown (toks (bare b))) → IsShownPrintingAll limits model shown
+shown_printing_all {limits} model shown a b text sound is layout back =
     let same : bare b ≡ bare_of (with_all_printed (located a)) = sym (located_is_bare b) ∙ ap bare_of is in
-    let read : CanBeWritten (bare_of (located a)) = subst CanBeWritten (sym (located_is_bare a)) (read_can_be_written model (bare a) text) in
+    let read : CanBeWritten (bare_of (located a)) = subst CanBeWritten (sym (located_is_bare a)) (read_can_be_written limits model (bare a) text) in
     let written : CanBeWritten (bare b) = subst CanBeWritten (sym same) (can_be_written (located a) read) in
     record {
       tree = located a;
-      text_of_model = subst (IsTextOfTree model) (sym (located_is_bare a)) text;
+      text_of_model = subst (IsTextOfTreeWithin limits model) (sym (located_is_bare a)) text;
       no_fault = sound;
       layout = layout ∙ ap tree_text same;
       reads_back = subst (λ t. LexesWithNumbersInLimit shown (toks t)) same (back written);

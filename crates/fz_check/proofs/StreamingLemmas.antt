@@ -5,13 +5,14 @@ use Rattle.std.proofs.lemmas.Grind.{flat_map-append}
 use Rattle.std.proofs.KnownBytes.{Appends-nil, Consumes-nil, Consumes-trans}
 use Rattle.std.specs.Io.KnownBytes.{Appends, Consumes, IsAtEnd}
 use Rattle.fz_judge.specs.of_model.Meaning.{Model}
-use Rattle.fz_judge.specs.of_model.Texts.{IsLoadedFrom}
+use Rattle.fz_judge.specs.of_model.Texts.{IsLoadedFromWithin}
 use Rattle.fz_judge.specs.of_stream.declared.splitter.Stage.TheVariants.{Running, Finished}
-use Rattle.fz_judge.specs.of_stream.Parts.{StreamPart, Frame, IsStreamText}
+use Rattle.fz_judge.specs.of_stream.Parts.{StreamPart, Frame, IsStreamTextWithin}
 use Rattle.fz_judge.specs.BlockView.{located_block}
 use Rattle.fz_judge.specs.declared.completion.Completion.{Completion}
 use Rattle.fz_judge.specs.Verdict.{answer_by}
 use Rattle.fz_judge.specs.Judged.{JudgeState}
+use Rattle.fz_judge.specs.of_syntax.Limits.{Limits}
 use Rattle.fz_base.specs.declared.span.Span.{Span}
 use Rattle.fz_check.specs.declared.ending.Ending.{Ending}
 use Rattle.fz_check.specs.declared.error.CheckError.{CheckError}
@@ -21,7 +22,7 @@ use Rattle.fz_check.specs.declared.tally.Tally.{Tally}
 use Rattle.fz_check.specs.declared.tally.Answer as the_tally
 use Rattle.fz_check.specs.declared.tally.Answer.TheVariants as answers
 use Rattle.fz_check.specs.Cutting.{HoldsOfJudged}
-use Rattle.fz_check.specs.Headline.{HasSolutions, HoldsOfStream}
+use Rattle.fz_check.specs.Headline.{HasSolutionsWithin, HoldsOfStream}
 use Rattle.fz_check.specs.Reading.{PiecesState, ReaderState, HasRead, HasNext, StandsAt, SpendsReads, is_going, piece_size, reads_without, steps_left}
 use Rattle.fz_check.specs.declared.claims.Claims.{Claims}
 use Rattle.fz_check.specs.declared.ledger.Ledger.{Ledger}
@@ -46,18 +47,18 @@ few_read false given more reads before all whole ended few fewer size none is = 
 
 -- The parts that have ended in what was read are told, and of their lines all but these are
 -- written.
-pub record Living (claims : Claims) (text : Event → List ℕ) (c : Completion) (m : Model) (reads : ℕ) (s : ReaderState) (j : Jury) (left left' w w' : Option (List ℕ)) (lines : List ℕ) : Type 0 where
+pub record Living (limits : Limits) (claims : Claims) (text : Event → List ℕ) (c : Completion) (m : Model) (reads : ℕ) (s : ReaderState) (j : Jury) (left left' w w' : Option (List ℕ)) (lines : List ℕ) : Type 0 where
   pub given : List ℕ
   pub consumes : Consumes left left' given
   pub few : length given + reads_without s.pieces * piece_size ≤ reads * piece_size
   pub parts : List StreamPart
-  pub stands : StandsAt s left' given parts
+  pub stands : StandsAt limits s left' given parts
   pub outcomes : List Outcome
   pub told : HasTold claims c m j parts outcomes
   pub gathered : Wrote w w' (text_of text (told_of m claims outcomes parts)) lines
   pub counted : s.splitter.stage ≡ Running → j.tally.blocks ≤ s.splitter.taken
 
-pub living_first : (text : Event → List ℕ) (s : ReaderState) (j : Jury) (reads : ℕ) (left w : Option (List ℕ)) (lines : List ℕ) → IsFresh j → HasRead s [] [] → s.pieces ≡ record { pending = []; reads = reads; at_end = false } → lines ≡ [] → Living j.claims text j.judge.completion j.judge.model reads s j left left w w lines
+pub living_first : {limits : Limits} → (text : Event → List ℕ) (s : ReaderState) (j : Jury) (reads : ℕ) (left w : Option (List ℕ)) (lines : List ℕ) → IsFresh j → HasRead limits s [] [] → s.pieces ≡ record { pending = []; reads = reads; at_end = false } → lines ≡ [] → Living limits j.claims text j.judge.completion j.judge.model reads s j left left w w lines
 living_first text s j reads left w lines fresh read pieces none = record {
   given = [];
   consumes = Consumes-nil left;
@@ -73,17 +74,17 @@ living_first text s j reads left w lines fresh read pieces none = record {
 -- ---- where a check ends
 
 -- a front of the lines was written
-pub stands_front : (ending : Ending) (claims : Claims) (text : Event → List ℕ) (c : Completion) (m : Model) (reads : ℕ)
+pub stands_front : {limits : Limits} → (ending : Ending) (claims : Claims) (text : Event → List ℕ) (c : Completion) (m : Model) (reads : ℕ)
     (left left' w w' next : Option (List ℕ)) (lines : List ℕ)
-    → Stands ending claims text c m reads left left' w w' lines → WritesFront w' next lines → WritesFrontOfEvents ending claims text c m left left' w next
+    → Stands limits ending claims text c m reads left left' w w' lines → WritesFront w' next lines → WritesFrontOfEvents limits ending claims text c m left left' w next
 stands_front ending claims text c m reads left left' w w' next lines h f =
     let g = h.front next f in
     record { given = h.given; reads = h.consumes; parts = h.parts; end_inside = h.end_inside; outcomes = h.outcomes; have_outcomes = h.have_outcomes; last = h.last; are_last = h.are_last; front = g.front; rest = g.rest; whole = g.whole; writes = g.appends }
 
 -- no more lines were written where a write failed, or memory ran out
-pub stops_unwritten : (ending : Ending) (claims : Claims) (text : Event → List ℕ) (c : Completion) (m : Model) (reads : ℕ)
+pub stops_unwritten : {limits : Limits} → (ending : Ending) (claims : Claims) (text : Event → List ℕ) (c : Completion) (m : Model) (reads : ℕ)
     (left left' w w' : Option (List ℕ)) (lines : List ℕ) (e : CheckError)
-    → Stands ending claims text c m reads left left' w w' lines → IsUnwritten e → StopsOnceWritten ending claims text c m left left' w w' lines e
+    → Stands limits ending claims text c m reads left left' w w' lines → IsUnwritten e → StopsOnceWritten limits ending claims text c m left left' w w' lines e
 stops_unwritten ending claims text c m reads left left' w w' lines errors.Write h u = λ next a. stands_front ending claims text c m reads left left' w w' next lines h (all_is_front w' next lines a)
 stops_unwritten ending claims text c m reads left left' w w' lines errors.Memory h u = λ next a. stands_front ending claims text c m reads left left' w w' next lines h (all_is_front w' next lines a)
 stops_unwritten ending claims text c m reads left left' w w' lines errors.Read h u = absurd u
@@ -92,24 +93,24 @@ stops_unwritten ending claims text c m reads left left' w w' lines (errors.Names
 stops_unwritten ending claims text c m reads left left' w w' lines (errors.Stream e) h u = absurd u
 stops_unwritten ending claims text c m reads left left' w w' lines (errors.Block n e) h u = absurd u
 
-module _ (ending : Ending) (claims : Claims) (text : Event → List ℕ) (c : Completion) (m : Model) (reads : ℕ) (j : Jury) (left left' w w' : Option (List ℕ)) (lines given : List ℕ) (consumes : Consumes left left' given)
+module _ {limits : Limits} (ending : Ending) (claims : Claims) (text : Event → List ℕ) (c : Completion) (m : Model) (reads : ℕ) (j : Jury) (left left' w w' : Option (List ℕ)) (lines given : List ℕ) (consumes : Consumes left left' given)
     (few : length given ≤ reads * piece_size) (parts : List StreamPart) (outcomes : List Outcome) (told : HasTold claims c m j parts outcomes) where
   -- all of the parts were told, with the lines that wait
-  module _ (last : List Event) (inside : EndInside left' given parts) (are_last : AreLast ending left' given parts (answer_told m claims outcomes parts) last) (gathered : Wrote w w' (text_of text (told_of m claims outcomes parts ++ last)) lines) where
-    pub stand : Stands ending claims text c m reads left left' w w' lines
+  module _ (last : List Event) (inside : EndInside limits left' given parts) (are_last : AreLast limits ending left' given parts (answer_told m claims outcomes parts) last) (gathered : Wrote w w' (text_of text (told_of m claims outcomes parts ++ last)) lines) where
+    pub stand : Stands limits ending claims text c m reads left left' w w' lines
     stand = record { given = given; consumes = consumes; few = few; parts = parts; end_inside = inside; outcomes = outcomes; have_outcomes = have_outcomes claims c m j parts outcomes told; last = last; are_last = are_last; front = λ next f. wrote_part w w' next _ lines gathered f }
 
-  module _ (inside : EndInside left' given parts) (gathered : Wrote w w' (text_of text (told_of m claims outcomes parts)) lines) where
-    pub stand_so_far : Stands ending claims text c m reads left left' w w' lines
+  module _ (inside : EndInside limits left' given parts) (gathered : Wrote w w' (text_of text (told_of m claims outcomes parts)) lines) where
+    pub stand_so_far : Stands limits ending claims text c m reads left left' w w' lines
     stand_so_far = stand [] inside (inl refl) (subst (λ es. Wrote w w' (text_of text es) lines) (sym (append-nil (told_of m claims outcomes parts))) gathered)
 
     stop : (next : Option (List ℕ)) → Appends w' next lines → (e : CheckError)
-        → EndsFor ending m left' given parts e → StopsAfterEvents ending claims text c m left left' w next e
+        → EndsFor limits ending m left' given parts e → StopsAfterEvents limits ending claims text c m left left' w next e
     stop next a e why = record { given = given; reads = consumes; parts = parts; outcomes = outcomes; have_outcomes = have_outcomes claims c m j parts outcomes told; writes = wrote_all w w' next _ lines gathered a; why = why }
 
     -- this is why no more are told
-    pub stops_for : (e : CheckError) → EndsFor ending m left' given parts e
-        → StopsOnceWritten ending claims text c m left left' w w' lines e
+    pub stops_for : (e : CheckError) → EndsFor limits ending m left' given parts e
+        → StopsOnceWritten limits ending claims text c m left left' w w' lines e
     stops_for errors.Write why = stops_unwritten ending claims text c m reads left left' w w' lines errors.Write stand_so_far tt
     stops_for errors.Memory why = stops_unwritten ending claims text c m reads left left' w w' lines errors.Memory stand_so_far tt
     stops_for errors.Read why = λ next a. stop next a errors.Read why
@@ -119,8 +120,8 @@ module _ (ending : Ending) (claims : Claims) (text : Event → List ℕ) (c : Co
     stops_for (errors.Names e) why = absurd why
 
 -- the stream is refused
-unread_ends : (ending : Ending) (m : Model) (left : Option (List ℕ)) (given : List ℕ) (parts : List StreamPart)
-    (e : CheckError) → IsUnread ending left given parts e → EndsFor ending m left given parts e
+unread_ends : {limits : Limits} → (ending : Ending) (m : Model) (left : Option (List ℕ)) (given : List ℕ) (parts : List StreamPart)
+    (e : CheckError) → IsUnread limits ending left given parts e → EndsFor limits ending m left given parts e
 unread_ends ending m left given parts (errors.Stream e) u = u
 unread_ends ending m left given parts errors.Memory u = tt
 unread_ends ending m left given parts errors.Read u = absurd u
@@ -130,12 +131,12 @@ unread_ends ending m left given parts (errors.Names e) u = u
 unread_ends ending m left given parts (errors.Block n e) u = absurd u
 
 -- the next part is
-untold_ends : (ending : Ending) (m : Model) (left : Option (List ℕ)) (given : List ℕ) (parts : List StreamPart)
-    (part : StreamPart) (e : CheckError) → EndInside left given (parts ++ part ∷ []) → IsUntold m parts part e → EndsFor ending m left given parts e
-untold_ends ending m left given parts part (errors.Block n e) inside u = record {
+untold_ends : {limits : Limits} → (ending : Ending) (m : Model) (left : Option (List ℕ)) (given : List ℕ) (parts : List StreamPart)
+    (part : StreamPart) (e : CheckError) → EndInside limits left given (parts ++ part ∷ []) → IsUntold m parts part e → EndsFor limits ending m left given parts e
+untold_ends {limits} ending m left given parts part (errors.Block n e) inside u = record {
   block = u.block;
   places = u.places;
-  next = subst (λ p. EndInside left given (parts ++ p ∷ [])) u.part_is inside;
+  next = subst (λ p. EndInside limits left given (parts ++ p ∷ [])) u.part_is inside;
   number_is = u.number_is;
   not_memory = u.not_memory;
   refused = u.refused;
@@ -147,49 +148,49 @@ untold_ends ending m left given parts part (errors.Model e) inside u = u
 untold_ends ending m left given parts part (errors.Names e) inside u = u
 untold_ends ending m left given parts part (errors.Stream e) inside u = absurd u
 
-module _ (ending : Ending) (claims : Claims) (text : Event → List ℕ) (c : Completion) (m : Model) (reads : ℕ) (s : ReaderState) (j : Jury) (left left' w w' : Option (List ℕ)) (lines : List ℕ) (l : Living claims text c m reads s j left left' w w' lines) where
+module _ {limits : Limits} (ending : Ending) (claims : Claims) (text : Event → List ℕ) (c : Completion) (m : Model) (reads : ℕ) (s : ReaderState) (j : Jury) (left left' w w' : Option (List ℕ)) (lines : List ℕ) (l : Living limits claims text c m reads s j left left' w w' lines) where
   so_few : length l.given ≤ reads * piece_size
   so_few = omega (arith, l.few)
 
-  inside : EndInside left' l.given l.parts
+  inside : EndInside limits left' l.given l.parts
   inside = stands_inside s left' l.given l.parts l.stands
 
-  pub living_stands : Stands ending claims text c m reads left left' w w' lines
+  pub living_stands : Stands limits ending claims text c m reads left left' w w' lines
   living_stands = stand_so_far ending claims text c m reads j left left' w w' lines l.given l.consumes so_few l.parts l.outcomes l.told inside l.gathered
 
   pub living_unread : (e : CheckError)
-      → ((left : Option (List ℕ)) (given : List ℕ) (parts : List StreamPart) → StandsAt s left given parts → IsUnread ending left given parts e)
-      → StopsOnceWritten ending claims text c m left left' w w' lines e
+      → ((left : Option (List ℕ)) (given : List ℕ) (parts : List StreamPart) → StandsAt limits s left given parts → IsUnread limits ending left given parts e)
+      → StopsOnceWritten limits ending claims text c m left left' w w' lines e
   living_unread e unread =
       stops_for ending claims text c m reads j left left' w w' lines l.given l.consumes so_few l.parts l.outcomes l.told inside l.gathered e (unread_ends ending m left' l.given l.parts e (unread left' l.given l.parts l.stands))
 
   -- one more part is told
   module _ (next : ReaderState) (going : s.splitter.stage ≢ Finished)
-      (more : (left : Option (List ℕ)) (given : List ℕ) (parts : List StreamPart) → StandsAt s left given parts → (frame : Frame) × HasNext next left given parts frame)
+      (more : (left : Option (List ℕ)) (given : List ℕ) (parts : List StreamPart) → StandsAt limits s left given parts → (frame : Frame) × HasNext limits next left given parts frame)
       (fewer : steps_left next < steps_left s) (same_reads : next.pieces.reads ≡ s.pieces.reads) (same_end : next.pieces.at_end ≡ s.pieces.at_end) where
     few_still : length l.given + reads_without next.pieces * piece_size ≤ reads * piece_size
     few_still = omega (arith, l.few, same_reads, ap {B = ℕ} (λ b. cond b 1 0) same_end)
 
     -- or not told
     pub living_untold : (e : CheckError) → LeavesNext next j e
-        → StopsOnceWritten ending claims text c m left left' w w' lines e
+        → StopsOnceWritten limits ending claims text c m left left' w w' lines e
     living_untold e leaves =
         let f = more left' l.given l.parts l.stands in
-        let why : EndsFor ending m left' l.given l.parts e =
+        let why : EndsFor limits ending m left' l.given l.parts e =
         ⊎_elim (unread_ends ending m left' l.given l.parts e) (λ p. untold_ends ending m left' l.given l.parts p.0 e (stands_inside next left' l.given (l.parts ++ p.0 ∷ []) p.1) p.2)
-        (leaves ending claims c m left' l.given l.parts f.0 l.outcomes f.1 l.told) in
+        (leaves limits ending claims c m left' l.given l.parts f.0 l.outcomes f.1 l.told) in
         stops_for ending claims text c m reads j left left' w w' lines l.given l.consumes so_few l.parts l.outcomes l.told inside l.gathered e why
 
     module _ (j' : Jury) (line : List ℕ) (tells : TellsNext text next j j' line) where
-      read_and_told : (part : StreamPart) × StandsAt next left' l.given (l.parts ++ part ∷ []) × TellsOneMore claims text c m j' l.parts l.outcomes part line
+      read_and_told : (part : StreamPart) × StandsAt limits next left' l.given (l.parts ++ part ∷ []) × TellsOneMore claims text c m j' l.parts l.outcomes part line
       read_and_told =
           let f = more left' l.given l.parts l.stands in
-          tells claims c m left' l.given l.parts f.0 l.outcomes f.1 l.told
+          tells limits claims c m left' l.given l.parts f.0 l.outcomes f.1 l.told
 
       abbrev part : StreamPart
       part = read_and_told.0
 
-      stands_next : StandsAt next left' l.given (l.parts ++ part ∷ [])
+      stands_next : StandsAt limits next left' l.given (l.parts ++ part ∷ [])
       stands_next = read_and_told.1
 
       one : TellsOneMore claims text c m j' l.parts l.outcomes part line
@@ -200,7 +201,7 @@ module _ (ending : Ending) (claims : Claims) (text : Event → List ℕ) (c : Co
 
       pub living_told : (w'' : Option (List ℕ)) (lines' : List ℕ) → Wrote w' w'' (lines ++ line) lines'
           → j'.tally.blocks ≤ j.tally.blocks + 1
-          → Living claims text c m reads next j' left left' w w'' lines'
+          → Living limits claims text c m reads next j' left left' w w'' lines'
       living_told w'' lines' wrote few_blocks = record {
         given = l.given;
         consumes = l.consumes;
@@ -218,7 +219,7 @@ module _ (ending : Ending) (claims : Claims) (text : Event → List ℕ) (c : Co
 
       -- but its line is not written
       pub living_ungathered : (w'' : Option (List ℕ)) (lines' : List ℕ)
-          → ((n : Option (List ℕ)) → WritesFront w'' n lines' → WritesFront w' n (lines ++ line)) → Stands ending claims text c m reads left left' w w'' lines'
+          → ((n : Option (List ℕ)) → WritesFront w'' n lines' → WritesFront w' n (lines ++ line)) → Stands limits ending claims text c m reads left left' w w'' lines'
       living_ungathered w'' lines' front = record {
         given = l.given;
         consumes = l.consumes;
@@ -236,7 +237,7 @@ module _ (ending : Ending) (claims : Claims) (text : Event → List ℕ) (c : Co
 
   -- a front of the lines that waited was written
   pub living_lost : (w'' : Option (List ℕ)) (rest : List ℕ) → WritesFront w' w'' lines → rest ≡ []
-      → Stands ending claims text c m reads left left' w w'' rest
+      → Stands limits ending claims text c m reads left left' w w'' rest
   living_lost w'' rest f none = record {
     given = l.given;
     consumes = l.consumes;
@@ -251,12 +252,12 @@ module _ (ending : Ending) (claims : Claims) (text : Event → List ℕ) (c : Co
   }
 
   module _ (now next : ReaderState) (w'' left'' : Option (List ℕ)) (rest : List ℕ) (written : Appends w' w'' lines) (all_written : rest ≡ [])
-      (bytes : (left : Option (List ℕ)) (given : List ℕ) (parts : List StreamPart) → StandsAt s left given parts → (now.pieces.pending ≡ []) × HasRead now given parts)
+      (bytes : (left : Option (List ℕ)) (given : List ℕ) (parts : List StreamPart) → StandsAt limits s left given parts → (now.pieces.pending ≡ []) × HasRead limits now given parts)
       (same : next.splitter ≡ now.splitter) (consumes : Consumes left' left'' next.pieces.pending) where
     abbrev given : List ℕ
     given = l.given ++ next.pieces.pending
 
-    read_all : HasRead next given l.parts
+    read_all : HasRead limits next given l.parts
     read_all = (let b = bytes left' l.given l.parts l.stands in read_more now next l.given l.parts b.0 same b.1)
 
     gave_all : Consumes left left'' given
@@ -270,15 +271,15 @@ module _ (ending : Ending) (claims : Claims) (text : Event → List ℕ) (c : Co
       few_now : length given ≤ reads * piece_size
       few_now = omega (arith, so_few, ap length still, length-append l.given next.pieces.pending)
 
-      pub living_unread_stands : Stands ending claims text c m reads left left'' w w'' rest
+      pub living_unread_stands : Stands limits ending claims text c m reads left left'' w w'' rest
       living_unread_stands = stand_so_far ending claims text c m reads j left left'' w w'' rest given gave_all few_now l.parts l.outcomes l.told (read_inside next left'' given l.parts read_all) wrote
 
-      pub living_no_bytes : StopsOnceWritten ending claims text c m left left'' w w'' rest errors.Read
+      pub living_no_bytes : StopsOnceWritten limits ending claims text c m left left'' w w'' rest errors.Read
       living_no_bytes = stops_for ending claims text c m reads j left left'' w w'' rest given gave_all few_now l.parts l.outcomes l.told (read_inside next left'' given l.parts read_all) wrote errors.Read (all_taken next given l.parts still read_all)
 
     pub living_read : next.pieces.reads + 1 ≡ s.pieces.reads → length next.pieces.pending ≤ piece_size
         → (next.pieces.at_end ≡ true → (next.pieces.pending ≡ []) × IsAtEnd left'') → s.splitter.stage ≢ Finished
-        → Living claims text c m reads next j left left'' w w'' rest
+        → Living limits claims text c m reads next j left left'' w w'' rest
     living_read fewer size end going = record {
       given = given;
       consumes = gave_all;
@@ -297,8 +298,8 @@ module _ (ending : Ending) (claims : Claims) (text : Event → List ℕ) (c : Co
 
   module _ (cut : Option Span)
       (ended : (left : Option (List ℕ)) (given : List ℕ) (parts : List StreamPart)
-      → StandsAt s left given parts → IsAtEnd left × IsEndOf ending given parts cut) where
-    at_end : IsAtEnd left' × IsEndOf ending l.given l.parts cut
+      → StandsAt limits s left given parts → IsAtEnd left × IsEndOf limits ending given parts cut) where
+    at_end : IsAtEnd left' × IsEndOf limits ending l.given l.parts cut
     at_end = ended left' l.given l.parts l.stands
 
     module _ (answer : the_tally.Answer)
@@ -319,20 +320,20 @@ module _ (ending : Ending) (claims : Claims) (text : Event → List ℕ) (c : Co
             let more = flat_map-append text (told_of m claims l.outcomes l.parts) last in
             wrote_longer w w' _ lines _ lines' (text_of text last) l.gathered more added
 
-        are_last : AreLast ending left' l.given l.parts (answer_told m claims l.outcomes l.parts) last
+        are_last : AreLast limits ending left' l.given l.parts (answer_told m claims l.outcomes l.parts) last
         are_last = inr (
           at_end.0,
-          holds_at_end ending l.given l.parts cut (λ front before. IsStreamText front l.parts
+          holds_at_end ending l.given l.parts cut (λ front before. IsStreamTextWithin limits front l.parts
               × (last ≡ before ++ Answered (answer_told m claims l.outcomes l.parts) ∷ [])) at_end.1
               (λ front t. (t, ap (λ a. cut_events cut ++ Answered a ∷ []) answered)),
         )
 
-        answered_stands : Stands ending claims text c m reads left left' w w' lines'
+        answered_stands : Stands limits ending claims text c m reads left left' w w' lines'
         answered_stands = stand ending claims text c m reads j left left' w w' lines' l.given l.consumes
             so_few l.parts l.outcomes l.told last inside are_last gathered_all
 
-        told_here : (front : List ℕ) → IsStreamText front l.parts
-            → IsToldWith claims (cut_events cut) text c m front w w' lines' (answer_view answer)
+        told_here : (front : List ℕ) → IsStreamTextWithin limits front l.parts
+            → IsToldWith limits claims (cut_events cut) text c m front w w' lines' (answer_view answer)
         told_here front t = record {
           events = told_of m claims l.outcomes l.parts;
           report = record {
@@ -346,7 +347,7 @@ module _ (ending : Ending) (claims : Claims) (text : Event → List ℕ) (c : Co
           writes = λ next a. wrote_all w w' next _ lines' gathered_all a;
         }
 
-        answers_then : s.pieces.at_end ≡ true → AnswersOnceWritten ending claims text c m reads left left' w w'
+        answers_then : s.pieces.at_end ≡ true → AnswersOnceWritten limits ending claims text c m reads left left' w w'
             lines' (answer_view answer)
         answers_then found = record {
           given = l.given;
@@ -354,36 +355,36 @@ module _ (ending : Ending) (claims : Claims) (text : Event → List ℕ) (c : Co
           end = at_end.0;
           few = omega (arith, l.few, ap {B = ℕ} (λ b. cond b 1 0) found);
           report = holds_at_end ending l.given l.parts cut
-              (λ front before. IsToldWith claims before text c m front w w' lines' (answer_view answer))
+              (λ front before. IsToldWith limits claims before text c m front w w' lines' (answer_view answer))
               at_end.1 told_here;
         }
 
       -- the answer is told, or memory ran out
       pub living_ended : (r : Result the_tally.Answer CheckError)
           → OnOk r (lines' ≡ lines ++ text_of text last) → OnErr r (lines' ≡ lines)
-          → Stands ending claims text c m reads left left' w w' lines'
+          → Stands limits ending claims text c m reads left left' w w' lines'
       living_ended (Ok a) told same = answered_stands told
       living_ended (Err e) told same =
-          subst (Stands ending claims text c m reads left left' w w') (sym same) living_stands
+          subst (Stands limits ending claims text c m reads left left' w w') (sym same) living_stands
 
       pub living_answered : (r : Result the_tally.Answer CheckError)
           → OnOk r (lines' ≡ lines ++ text_of text last) → IfOk r (λ a. a ≡ answer)
           → s.pieces.at_end ≡ true
-          → IfOk r (λ a. AnswersOnceWritten ending claims text c m reads left left' w w' lines' (answer_view a))
-      living_answered (Ok a) told same found = subst (λ b. AnswersOnceWritten ending claims text c m reads left left' w w' lines' (answer_view b)) (sym same) (answers_then told found)
+          → IfOk r (λ a. AnswersOnceWritten limits ending claims text c m reads left left' w w' lines' (answer_view a))
+      living_answered (Ok a) told same found = subst (λ b. AnswersOnceWritten limits ending claims text c m reads left left' w w' lines' (answer_view b)) (sym same) (answers_then told found)
       living_answered (Err e) told same found = tt
 
       pub living_unanswered : (r : Result the_tally.Answer CheckError)
           → OnOk r (lines' ≡ lines ++ text_of text last) → OnErr r (lines' ≡ lines)
           → IfErr r (λ e. e ≡ errors.Memory)
-          → IfErr r (StopsOnceWritten ending claims text c m left left' w w' lines')
+          → IfErr r (StopsOnceWritten limits ending claims text c m left left' w w' lines')
       living_unanswered (Ok a) told same kinds = tt
       living_unanswered (Err e) told same kinds = stops_unwritten ending claims text c m reads left left' w w' lines' e (living_ended (Err e) told same) (subst IsUnwritten (sym kinds) tt)
 
 -- ---- once the lines that are left are written, of the model of a text
 
-ended_by : (ending : Ending) (claims : Claims) (text : Event → List ℕ) (c : Completion) (model : List ℕ) (m : Model)
-    (left left' w w' : Option (List ℕ)) (e : CheckError) → IsLoadedFrom model m → IsStopped ending claims text c m left left' w w' e → IsEndedBy ending claims text c model left left' w w' e
+ended_by : {limits : Limits} → (ending : Ending) (claims : Claims) (text : Event → List ℕ) (c : Completion) (model : List ℕ) (m : Model)
+    (left left' w w' : Option (List ℕ)) (e : CheckError) → IsLoadedFromWithin limits model m → IsStopped limits ending claims text c m left left' w w' e → IsEndedBy limits ending claims text c model left left' w w' e
 ended_by ending claims text c model m left left' w w' (errors.Model e) loaded h = absurd h.why
 ended_by ending claims text c model m left left' w w' (errors.Names e) loaded h = absurd h.why
 ended_by ending claims text c model m left left' w w' errors.Memory loaded h = inr (record { m = m; loaded = loaded; holds = h })
@@ -392,34 +393,34 @@ ended_by ending claims text c model m left left' w w' errors.Read loaded h = rec
 ended_by ending claims text c model m left left' w w' (errors.Stream e) loaded h = record { m = m; loaded = loaded; holds = h }
 ended_by ending claims text c model m left left' w w' (errors.Block n e) loaded h = record { m = m; loaded = loaded; holds = h }
 
-module _ (ending : Ending) (claims : Claims) (text : Event → List ℕ) (c : Completion) (model : List ℕ) (m : Model) (reads : ℕ) (left left' w w' w'' : Option (List ℕ)) (lines : List ℕ) (loaded : IsLoadedFrom model m) (j : JudgeState) (same : j ≡ record { model = m; completion = c; before = None; found = None }) (k : Claims) (same_claims : k ≡ claims) where
+module _ {limits : Limits} (ending : Ending) (claims : Claims) (text : Event → List ℕ) (c : Completion) (model : List ℕ) (m : Model) (reads : ℕ) (left left' w w' w'' : Option (List ℕ)) (lines : List ℕ) (loaded : IsLoadedFromWithin limits model m) (j : JudgeState) (same : j ≡ record { model = m; completion = c; before = None; found = None }) (k : Claims) (same_claims : k ≡ claims) where
   -- what holds of the judge's model and way of judging, and of what is known of claims
   at : (P : Claims → Completion → Model → Type 0) → P k j.completion j.model → P claims c m
   at P h = subst₂ (λ l (i : JudgeState). P l i.completion i.model) same_claims same h
 
   -- but for some that can't be
-  pub unwritten_then : Stands ending k text j.completion j.model reads left left' w w' lines
+  pub unwritten_then : Stands limits ending k text j.completion j.model reads left left' w w' lines
       → WritesFront w' w'' lines
-      → IsEndedBy ending claims text c model left left' w w'' errors.Write
+      → IsEndedBy limits ending claims text c model left left' w w'' errors.Write
   unwritten_then stands f =
-      let here : Stands ending claims text c m reads left left' w w' lines =
-      at (λ l d n. Stands ending l text d n reads left left' w w' lines) stands in
+      let here : Stands limits ending claims text c m reads left left' w w' lines =
+      at (λ l d n. Stands limits ending l text d n reads left left' w w' lines) stands in
       let holds = stands_front ending claims text c m reads left left' w w' w'' lines here f in
       record { m = m; loaded = loaded; holds = holds }
 
   module _ (r : Result the_tally.Answer CheckError) where
-    module _ (answered : IfOk r (λ a. AnswersOnceWritten ending k text j.completion j.model reads left left' w w' lines (answer_view a))) where
-      now : IfOk r (λ a. AnswersOnceWritten ending claims text c m reads left left' w w' lines (answer_view a))
-      now = at (λ l d n. IfOk r (λ a. AnswersOnceWritten ending l text d n reads left left' w w' lines (answer_view a))) answered
+    module _ (answered : IfOk r (λ a. AnswersOnceWritten limits ending k text j.completion j.model reads left left' w w' lines (answer_view a))) where
+      now : IfOk r (λ a. AnswersOnceWritten limits ending claims text c m reads left left' w w' lines (answer_view a))
+      now = at (λ l d n. IfOk r (λ a. AnswersOnceWritten limits ending l text d n reads left left' w w' lines (answer_view a))) answered
 
       pub accepted_then : IfOk r (λ a. (count : ℕ) → a ≡ answers.Accepted count
           → HoldsOfStream left left'
-          (λ given. HoldsOfJudged ending given (λ front _. HasSolutions model front count)))
+          (λ given. HoldsOfJudged ending given (λ front _. HasSolutionsWithin limits model front count)))
       accepted_then = if_ok _ _ r (λ a h count is. record {
         given = h.given;
         reads = h.consumes;
         end = h.end;
-        holds = if_judged ending h.given (λ front cut. IsToldWith claims cut text c m front w w' lines (answer_view a)) (λ front _. HasSolutions model front count)
+        holds = if_judged ending h.given (λ front cut. IsToldWith limits claims cut text c m front w w' lines (answer_view a)) (λ front _. HasSolutionsWithin limits model front count)
             (λ front cut t. accepted_solutions claims c model m front t.events (answer_view a) loaded t.report count (ap answer_view is)) h.report;
       }) now
 
@@ -429,16 +430,16 @@ module _ (ending : Ending) (claims : Claims) (text : Event → List ℕ) (c : Co
       -- the lines that were left are written
       pub reported_then : Appends w' w'' lines
           → IfOk r (λ a. HoldsOfStream left left' (λ given. HoldsOfJudged ending given
-          (λ front cut. IsReportedWith claims cut text c model front w w'' (answer_view a))))
+          (λ front cut. IsReportedWith limits claims cut text c model front w w'' (answer_view a))))
       reported_then appends = if_ok _ _ r (λ a h. record {
         given = h.given;
         reads = h.consumes;
         end = h.end;
-        holds = if_judged ending h.given (λ front cut. IsToldWith claims cut text c m front w w' lines (answer_view a)) (λ front cut. IsReportedWith claims cut text c model front w w'' (answer_view a))
+        holds = if_judged ending h.given (λ front cut. IsToldWith limits claims cut text c m front w w' lines (answer_view a)) (λ front cut. IsReportedWith limits claims cut text c model front w w'' (answer_view a))
             (λ front cut t. record { events = t.events; has_report = reported claims c model m front t.events (answer_view a) loaded t.report; writes = t.writes w'' appends }) h.report;
       }) now
 
     pub refused_then : Appends w' w'' lines
-        → IfErr r (StopsOnceWritten ending k text j.completion j.model left left' w w' lines)
-        → IfErr r (IsEndedBy ending claims text c model left left' w w'')
-    refused_then appends h = if_err _ _ r (λ e stops. ended_by ending claims text c model m left left' w w'' e loaded (stops w'' appends)) (at (λ l d n. IfErr r (StopsOnceWritten ending l text d n left left' w w' lines)) h)
+        → IfErr r (StopsOnceWritten limits ending k text j.completion j.model left left' w w' lines)
+        → IfErr r (IsEndedBy limits ending claims text c model left left' w w'')
+    refused_then appends h = if_err _ _ r (λ e stops. ended_by ending claims text c model m left left' w w'' e loaded (stops w'' appends)) (at (λ l d n. IfErr r (StopsOnceWritten limits ending l text d n left left' w w' lines)) h)

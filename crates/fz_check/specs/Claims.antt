@@ -3,11 +3,12 @@
 use Rattle.std.specs.Prelude.{◌≡◌, ℕ, suc, ℤ, Bool, true, false, cond, List, [], ◌∷◌, ◌++◌, map, Option, Some, None, IfSome, int_lt, nat_le, ◌+◌, length, option_map, ⊤}
 use Rattle.std.specs.List.{AllByRecursion}
 use Rattle.std.specs.Option.{option_or}
+use Rattle.fz_judge.specs.of_syntax.Limits.{Limits}
 use Rattle.fz_judge.specs.of_model.Meaning.{Aim, Model, Partial, Assignment, IsSolution, objective, whole}
 use Rattle.fz_judge.specs.of_model.Meaning.Aim.{Satisfy, Minimize, Maximize}
 use Rattle.fz_judge.specs.of_stream.declared.line.ClaimKind.{ClaimKind}
 use Rattle.fz_judge.specs.of_stream.declared.line.ClaimKind.TheVariants.{Complete, Unsatisfiable}
-use Rattle.fz_judge.specs.of_stream.Parts.{StreamPart, BlockPart, ClaimPart, IsStreamText}
+use Rattle.fz_judge.specs.of_stream.Parts.{StreamPart, BlockPart, ClaimPart, IsStreamTextWithin}
 use Rattle.fz_judge.specs.BlockView.{located_block}
 use Rattle.fz_judge.specs.Solutions.{Block, Extends}
 use Rattle.fz_judge.specs.declared.completion.Completion.{Completion}
@@ -28,7 +29,7 @@ use Rattle.fz_check.specs.declared.claims.Claims.TheVariants.{NotJudged, Judged 
 use Rattle.fz_check.specs.declared.ledger.Ledger.{Ledger}
 use Rattle.fz_check.specs.Report.{Event, HaveVerdicts, events_of}
 use Rattle.fz_check.specs.Report.Event.{Judged, Claimed, Refuted, Answered}
-use Rattle.fz_check.specs.Reported.{AreBorneOut, HoldsOfModel}
+use Rattle.fz_check.specs.Reported.{AreBorneOut, HoldsOfModelWithin}
 
 -- ---- what a claim says, and when that is false
 
@@ -242,11 +243,11 @@ answer_told m c os ps =
 
 -- ---- the report
 
--- The report as `IsReport` has it, with what is told of refuted claims.
-pub record IsReportWith (claims : Claims) (c : Completion) (m : Model) (stream : List ℕ)
-    (events : List Event) (answer : Answer) : Type 0 where
+-- The report as `IsReportWithin` has it, with what is told of refuted claims.
+pub record IsReportWith (limits : Limits) (claims : Claims) (c : Completion) (m : Model)
+    (stream : List ℕ) (events : List Event) (answer : Answer) : Type 0 where
   pub parts : List StreamPart
-  pub text_of_stream : IsStreamText stream parts
+  pub text_of_stream : IsStreamTextWithin limits stream parts
   pub outcomes : List Outcome
   pub have_outcomes : HaveOutcomes c m parts outcomes
   pub answer_is : answer ≡ answer_told m claims outcomes parts
@@ -264,9 +265,10 @@ KnowsOf m (ClaimsJudged k) = Knows m k
 
 -- The events are the report of the tree's model on the stream, its verdicts are borne out, and each
 -- claim that it tells as refuted is false.
-abbrev pub HasReportWith : Claims → Completion → List ℕ → List ℕ → List Event → Answer → Type 0
-HasReportWith claims c model stream events answer = HoldsOfModel model
-    (λ m. (r : IsReportWith claims c m stream events answer)
+abbrev pub HasReportWith : Limits → Claims → Completion → List ℕ → List ℕ → List Event → Answer
+    → Type 0
+HasReportWith limits claims c model stream events answer = HoldsOfModelWithin limits model
+    (λ m. (r : IsReportWith limits claims c m stream events answer)
     × AreBorneOut m (map located_block r.have_outcomes.have_verdicts.blocks)
     (verdicts_of r.outcomes)
     × (KnowsOf m claims → AllByRecursion (IsTrueOf m) events))

@@ -2,9 +2,10 @@
 -- profile).
 use Rattle.std.specs.Prelude.{◌≡◌, ◌≢◌, ℕ, ◌+◌, List, [], ◌∷◌, ◌++◌, ◌⊎◌, ⊤, length}
 use Rattle.fz_base.specs.declared.span.Span.{Span}
+use Rattle.fz_judge.specs.of_syntax.Limits.{Limits}
 use Rattle.fz_judge.specs.of_stream.declared.line.ClaimKind.{ClaimKind}
 use Rattle.fz_judge.specs.of_stream.declared.line.LineKind.TheVariants.{Claim}
-use Rattle.fz_judge.specs.of_stream.Parts.{Line, lines_of, joined, kind_of, EndsWithFeed, AreBlockLines, StreamPart, IsStreamText}
+use Rattle.fz_judge.specs.of_stream.Parts.{Line, lines_of, joined, kind_of, EndsWithFeed, AreBlockLines, StreamPart, IsStreamTextWithin}
 use Rattle.fz_check.specs.declared.ending.Ending.{Ending}
 use Rattle.fz_check.specs.declared.ending.Ending.TheVariants.{Whole, Cut}
 use Rattle.fz_check.specs.Report.{Event}
@@ -39,7 +40,8 @@ HoldsOfJudged Cut given Holds = Holds given []
     ⊎ ((front : List ℕ) × (span : Span) × IsCutOff given front span
     × Holds front (CutOff span ∷ []))
 
--- what is cut off is part of no text
+-- what is cut off is part of no text, whatever the limits
 abbrev pub IsCutOnlyWhereOpen : Type 0
-IsCutOnlyWhereOpen = (given front : List ℕ) (span : Span) (parts : List StreamPart)
-    → IsCutOff given front span → IsStreamText given parts → ⊥
+IsCutOnlyWhereOpen =
+    (limits : Limits) (given front : List ℕ) (span : Span) (parts : List StreamPart)
+    → IsCutOff given front span → IsStreamTextWithin limits given parts → ⊥

@@ -1,7 +1,9 @@
 -- What an accepted stream has (this project's profile).
 use Rattle.std.specs.Prelude.{◌≡◌, ℕ, ◌≤◌, List, length, map, Option}
-use Rattle.fz_judge.specs.of_syntax.Text.{IsTextOfTree}
-use Rattle.fz_judge.specs.of_stream.Parts.{StreamPart, IsStreamText, blocks_in}
+use Rattle.fz_judge.specs.of_syntax.Lexing.{standard_limits}
+use Rattle.fz_judge.specs.of_syntax.Limits.{Limits}
+use Rattle.fz_judge.specs.of_syntax.Text.{IsTextOfTreeWithin}
+use Rattle.fz_judge.specs.of_stream.Parts.{StreamPart, IsStreamTextWithin, blocks_in}
 use Rattle.fz_judge.specs.of_model.Located.{LocatedTree, bare_of}
 use Rattle.fz_judge.specs.of_model.Names.{HasNoFault}
 use Rattle.fz_judge.specs.Solutions.{Block, bare_of_block, HaveSolutions}
@@ -14,18 +16,24 @@ pub record HoldsOfStream (left left' : Option (List ℕ)) (Holds : List ℕ → 
   pub end : IsAtEnd left'
   pub holds : Holds given
 
--- The model's bytes are a text of a tree without faults; the stream's bytes are a text of parts, of
--- which `count` are blocks, at least one; and for these blocks there are assignments, one per
--- block, each of which extends its block, lies inside all declared domains, satisfies every
--- definition and constraint, and has an objective strictly better than the block before it.
-pub record HasSolutions (model stream : List ℕ) (count : ℕ) : Type 0 where
+-- Within the limits the model's bytes are a text of a tree without faults; the stream's bytes are a
+-- text of parts, of which `count` are blocks, at least one; and for these blocks there are
+-- assignments, one per block, each of which extends its block, lies inside all declared domains,
+-- satisfies every definition and constraint, and has an objective strictly better than the block
+-- before it.
+pub record HasSolutionsWithin (limits : Limits) (model stream : List ℕ)
+    (count : ℕ) : Type 0 where
   pub tree : LocatedTree
-  pub text_of_model : IsTextOfTree model (bare_of tree)
+  pub text_of_model : IsTextOfTreeWithin limits model (bare_of tree)
   pub no_fault : HasNoFault tree
   pub parts : List StreamPart
-  pub text_of_stream : IsStreamText stream parts
+  pub text_of_stream : IsStreamTextWithin limits stream parts
   pub blocks : List Block
   pub blocks_are : map bare_of_block blocks ≡ blocks_in parts
   pub counted : length blocks ≡ count
   pub at_least_one : 1 ≤ count
   pub solutions : HaveSolutions tree blocks
+
+-- at the standard limits
+abbrev pub HasSolutions : List ℕ → List ℕ → ℕ → Type 0
+HasSolutions = HasSolutionsWithin standard_limits

@@ -4,12 +4,13 @@
 use Rattle.std.specs.Prelude.{◌≡◌, ℕ, Bool, true, cond, ◌+◌, ◌*◌, ◌≤◌, List, [], ◌∷◌, ◌++◌, length, map, Option, Some, ◌⊎◌}
 use Rattle.std.specs.List.{AllByRecursion}
 use Rattle.std.specs.Io.KnownBytes.{Consumes, IsAtEnd}
+use Rattle.fz_judge.specs.of_syntax.Limits.{Limits}
 use Rattle.fz_judge.specs.of_stream.declared.error.StreamError.{StreamError}
 use Rattle.fz_judge.specs.of_stream.declared.error.StreamError.TheVariants.{TooLong, Unfinished}
 use Rattle.fz_judge.specs.of_stream.declared.splitter.Stage.{Stage}
 use Rattle.fz_judge.specs.of_stream.declared.splitter.Stage.TheVariants.{Running, Finished, Failed}
 use Rattle.fz_judge.specs.of_stream.Broken.{IsBrokenAfter, IsBrokenAtEndAfter}
-use Rattle.fz_judge.specs.of_stream.Parts.{StreamPart, Frame, frame_of, HasItems, IsStreamText}
+use Rattle.fz_judge.specs.of_stream.Parts.{StreamPart, Frame, frame_of, HasItems, IsStreamTextWithin}
 use Rattle.fz_judge.specs.of_stream.Splitting.{SplitterState, Holds, Fits, EndsLast, PassesLimit, most_taken}
 use Rattle.fz_check.specs.declared.ending.Ending.{Ending}
 use Rattle.fz_check.specs.declared.ending.Ending.TheVariants.{Whole, Cut}
@@ -26,23 +27,28 @@ pub record ReaderState : Type 0 where
   pub splitter : SplitterState
   pub pieces : PiecesState
 
--- These bytes were read, and in those of them that the splitter took these parts have ended.
-pub record HasRead (s : ReaderState) (given : List ℕ) (parts : List StreamPart) : Type 0 where
+-- These bytes were read, and in those of them that the splitter took, under these limits, these
+-- parts have ended.
+pub record HasRead (limits : Limits) (s : ReaderState) (given : List ℕ)
+    (parts : List StreamPart) : Type 0 where
+  pub under : s.splitter.limits ≡ limits
   pub taken : List ℕ
   pub whole : given ≡ taken ++ s.pieces.pending
   pub fits : Fits s.splitter taken (map frame_of parts)
-  pub items : AllByRecursion HasItems parts
+  pub items : AllByRecursion (HasItems limits) parts
   pub short : length taken ≤ most_taken
 
 -- The stream has ended: these are all of its bytes, and they are a text of these parts.
-pub record HasEnded (s : ReaderState) (given : List ℕ) (parts : List StreamPart) : Type 0 where
+pub record HasEnded (limits : Limits) (s : ReaderState) (given : List ℕ)
+    (parts : List StreamPart) : Type 0 where
   pub finished : s.splitter.stage ≡ Finished
-  pub text : IsStreamText given parts
+  pub text : IsStreamTextWithin limits given parts
 
 -- These bytes were read and these parts have ended in them, where the reader has these bytes left.
-abbrev pub StandsAt : ReaderState → Option (List ℕ) → List ℕ → List StreamPart → Type 0
-StandsAt s left given parts = (HasRead s given parts × (s.pieces.at_end ≡ true → IsAtEnd left))
-    ⊎ (IsAtEnd left × HasEnded s given parts)
+abbrev pub StandsAt : Limits → ReaderState → Option (List ℕ) → List ℕ → List StreamPart → Type 0
+StandsAt limits s left given parts =
+    (HasRead limits s given parts × (s.pieces.at_end ≡ true → IsAtEnd left))
+    ⊎ (IsAtEnd left × HasEnded limits s given parts)
 
 -- These bytes were read, and in those of them that the splitter took these parts have ended and one
 -- more frame, which waits to be read.
@@ -55,43 +61,48 @@ pub record WaitsInside (s : ReaderState) (given : List ℕ) (parts : List Stream
 
 -- Behind these parts, which were read, one more frame has ended and waits, where the reader has
 -- these bytes left: inside the bytes, or at their end.
-pub record HasNext (s : ReaderState) (left : Option (List ℕ)) (given : List ℕ)
+pub record HasNext (limits : Limits) (s : ReaderState) (left : Option (List ℕ)) (given : List ℕ)
     (parts : List StreamPart) (frame : Frame) : Type 0 where
+  pub under : s.splitter.limits ≡ limits
   pub waits : s.splitter.waits ≡ Some frame
-  pub items : AllByRecursion HasItems parts
+  pub items : AllByRecursion (HasItems limits) parts
   pub ends : (WaitsInside s given parts frame × (s.pieces.at_end ≡ true → IsAtEnd left))
       ⊎ (IsAtEnd left × (s.splitter.stage ≡ Finished) × EndsLast given (map frame_of parts) frame)
 
 -- Of the bytes the parts have ended, and no others.
-abbrev pub HasNoMore : List ℕ → List StreamPart → Type 0
-HasNoMore given parts =
-    AllByRecursion HasItems parts × ((held : List ℕ) × Holds given (map frame_of parts) held)
+abbrev pub HasNoMore : Limits → List ℕ → List StreamPart → Type 0
+HasNoMore limits given parts =
+    AllByRecursion (HasItems limits) parts × ((held : List ℕ) × Holds given (map frame_of parts) held)
 
 -- With some of the bytes, in which the parts have ended and no others, a splitter holds or has
 -- taken as many as may be, and there is one more.
-pub record PassesLimitIn (given : List ℕ) (parts : List StreamPart) : Type 0 where
+pub record PassesLimitIn (limits : Limits) (given : List ℕ)
+    (parts : List StreamPart) : Type 0 where
   pub taken : List ℕ
   pub piece : List ℕ
   pub whole : given ≡ taken ++ piece
-  pub items : AllByRecursion HasItems parts
-  pub passes : PassesLimit taken piece (map frame_of parts)
+  pub items : AllByRecursion (HasItems limits) parts
+  pub passes : PassesLimit limits.bytes taken piece (map frame_of parts)
 
 -- Why a stream is refused while it goes on, of which these bytes were read and these parts have
 -- ended: it is too long, or it is broken after the parts, whatever may follow.
-abbrev pub IsRefusedInside : List ℕ → List StreamPart → StreamError → Type 0
-IsRefusedInside given parts e =
-    ((e ≡ TooLong) × PassesLimitIn given parts) ⊎ IsBrokenAfter given parts e
+abbrev pub IsRefusedInside : Limits → List ℕ → List StreamPart → StreamError → Type 0
+IsRefusedInside limits given parts e =
+    ((e ≡ TooLong) × PassesLimitIn limits given parts) ⊎ IsBrokenAfter limits given parts e
 
 -- Or its bytes have ended, and are broken at their end.
-abbrev pub IsRefusedAfter : Option (List ℕ) → List ℕ → List StreamPart → StreamError → Type 0
-IsRefusedAfter left given parts e =
-    IsRefusedInside given parts e ⊎ (IsAtEnd left × IsBrokenAtEndAfter given parts e)
+abbrev pub IsRefusedAfter : Limits → Option (List ℕ) → List ℕ → List StreamPart → StreamError
+    → Type 0
+IsRefusedAfter limits left given parts e =
+    IsRefusedInside limits given parts e ⊎ (IsAtEnd left × IsBrokenAtEndAfter limits given parts e)
 
 -- Where cutting is on, a block that the end leaves open is no reason.
-abbrev pub IsRefusedBy : Ending → Option (List ℕ) → List ℕ → List StreamPart → StreamError → Type 0
-IsRefusedBy Whole left given parts e = IsRefusedAfter left given parts e
-IsRefusedBy Cut left given parts (Unfinished span) = IsRefusedInside given parts (Unfinished span)
-IsRefusedBy Cut left given parts e = IsRefusedAfter left given parts e
+abbrev pub IsRefusedBy : Limits → Ending → Option (List ℕ) → List ℕ → List StreamPart → StreamError
+    → Type 0
+IsRefusedBy limits Whole left given parts e = IsRefusedAfter limits left given parts e
+IsRefusedBy limits Cut left given parts (Unfinished span) =
+    IsRefusedInside limits given parts (Unfinished span)
+IsRefusedBy limits Cut left given parts e = IsRefusedAfter limits left given parts e
 
 -- the most bytes of one read
 abbrev pub piece_size : ℕ

@@ -1,12 +1,13 @@
 -- What holds where a check is refused (this project's profile).
 use Rattle.std.specs.Prelude.{◌≡◌, ◌≢◌, ◌↔◌, ℕ, ◌+◌, ◌<◌, ◌≤◌, List, ◌∷◌, ◌++◌, length, map, None, ⊤}
 use Rattle.std.specs.List.{AllByRecursion}
-use Rattle.fz_judge.specs.of_syntax.Lexing.{most_bytes}
+use Rattle.fz_judge.specs.of_syntax.Limits.{Limits}
+use Rattle.fz_judge.specs.of_syntax.Lexing.{most_bytes, standard_limits}
 use Rattle.fz_judge.specs.of_syntax.Places.{IsPlacedWithin}
 use Rattle.fz_judge.specs.of_syntax.SyntaxError.{SyntaxError}
 use Rattle.fz_judge.specs.of_syntax.SyntaxError.TheVariants.{TooLong as TextTooLong, Memory as TextMemory}
-use Rattle.fz_judge.specs.of_syntax.Text.{IsTextOfTree}
-use Rattle.fz_judge.specs.of_syntax.Refusals.{IsRefusalOf}
+use Rattle.fz_judge.specs.of_syntax.Text.{IsTextOfTreeWithin}
+use Rattle.fz_judge.specs.of_syntax.Refusals.{IsRefusalWithin}
 use Rattle.fz_judge.specs.of_syntax.Tree.{Tree}
 use Rattle.fz_judge.specs.of_stream.Broken.{StopsAfter}
 use Rattle.fz_judge.specs.of_stream.Faults.{IsStreamFault}
@@ -16,7 +17,7 @@ use Rattle.fz_judge.specs.of_stream.declared.block.Block as the_block
 use Rattle.fz_judge.specs.of_stream.declared.error.StreamError.{StreamError}
 use Rattle.fz_judge.specs.of_stream.declared.error.StreamError.TheVariants as stream
 use Rattle.fz_judge.specs.of_model.Meaning.{Model}
-use Rattle.fz_judge.specs.of_model.Texts.{IsNameFault}
+use Rattle.fz_judge.specs.of_model.Texts.{IsNameFaultWithin}
 use Rattle.fz_judge.specs.of_model.declared.ModelError.{ModelError}
 use Rattle.fz_judge.specs.of_model.declared.ModelError.TheVariants.{Memory as NameMemory}
 use Rattle.fz_judge.specs.BlockFaults.{block_fault}
@@ -28,20 +29,20 @@ use Rattle.fz_check.specs.declared.error.CheckError.{CheckError}
 use Rattle.fz_check.specs.declared.error.CheckError.TheVariants as errors
 use Rattle.fz_check.specs.Reported.{HoldsOfModel}
 
--- The model's bytes are not a text of any tree. The fault is `TooLong` exactly where they are too
--- many. It comes in the order of faults, one of the lexer before one of the grammar, and its byte
--- range is within them.
-pub record HasTextFault (model : List ℕ) (e : SyntaxError) : Type 0 where
-  pub no_tree : (t : Tree) → IsTextOfTree model t → ⊥
-  pub too_long : (e ≡ TextTooLong) ↔ (most_bytes < length model)
-  pub order : IsRefusalOf model e
+-- Within the limits the model's bytes are not a text of any tree. The fault is `TooLong` exactly
+-- where they are too many. It comes in the order of faults, one of the lexer before one of the
+-- grammar, and its byte range is within them.
+pub record HasTextFault (limits : Limits) (model : List ℕ) (e : SyntaxError) : Type 0 where
+  pub no_tree : (t : Tree) → IsTextOfTreeWithin limits model t → ⊥
+  pub too_long : (e ≡ TextTooLong) ↔ (limits.bytes < length model)
+  pub order : IsRefusalWithin limits model e
   pub place : IsPlacedWithin (length model) e
   pub not_memory : e ≢ TextMemory
 
--- The model's bytes are a text of a tree whose names and literals have their byte ranges in it, and
--- this is the tree's first fault.
-pub record HasNameFault (model : List ℕ) (e : ModelError) : Type 0 where
-  pub fault : IsNameFault model e
+-- Within the limits the model's bytes are a text of a tree whose names and literals have their byte
+-- ranges in it, and this is the tree's first fault.
+pub record HasNameFault (limits : Limits) (model : List ℕ) (e : ModelError) : Type 0 where
+  pub fault : IsNameFaultWithin limits model e
   pub not_memory : e ≢ NameMemory
 
 -- The stream's bytes are not too many, and not a text of parts. The fault is that of the first
@@ -84,11 +85,11 @@ pub record HasBlockFault (m : Model) (stream : List ℕ) (number : ℕ) (e : Blo
   pub first : IsFirstFault m blocks number e
 
 -- the refusals of a model's text: of its bytes, and of its names; or memory ran out
-abbrev pub IsModelRefusal : List ℕ → CheckError → Type 0
-IsModelRefusal model (errors.Model e) = HasTextFault model e
-IsModelRefusal model (errors.Names e) = HasNameFault model e
-IsModelRefusal model errors.Memory = ⊤
-IsModelRefusal model _ = ⊥
+abbrev pub IsModelRefusal : Limits → List ℕ → CheckError → Type 0
+IsModelRefusal limits model (errors.Model e) = HasTextFault limits model e
+IsModelRefusal limits model (errors.Names e) = HasNameFault limits model e
+IsModelRefusal limits model errors.Memory = ⊤
+IsModelRefusal limits model _ = ⊥
 
 -- and those of a stream that is read whole, where the model has no fault: first of the stream, then
 -- of its blocks
@@ -96,4 +97,4 @@ abbrev pub IsRefusal : List ℕ → List ℕ → CheckError → Type 0
 IsRefusal model stream (errors.Stream e) = HoldsOfModel model (λ _. HasStreamFault stream e)
 IsRefusal model stream (errors.Block n e) =
     HoldsOfModel model (λ m. HasBlockFault m stream n e)
-IsRefusal model stream e = IsModelRefusal model e
+IsRefusal model stream e = IsModelRefusal standard_limits model e

@@ -4,12 +4,14 @@ use Rattle.std.specs.Prelude.{◌≡◌, ℕ, suc, List, [], ◌∷◌, ◌++◌
 use Rattle.std.specs.List.{AllByRecursion}
 use Rattle.std.specs.Fmt.{signed_decimal}
 use Rattle.fz_base.specs.declared.span.Span.{Span}
+use Rattle.fz_judge.specs.of_syntax.Limits.{Limits}
+use Rattle.fz_judge.specs.of_syntax.Lexing.{standard_limits}
 use Rattle.fz_judge.specs.of_model.Meaning.{Model}
 use Rattle.fz_judge.specs.of_stream.declared.block.Block as the_block
 use Rattle.fz_judge.specs.of_stream.declared.line.ClaimKind.{ClaimKind}
 use Rattle.fz_judge.specs.of_stream.declared.line.ClaimKind.TheVariants.{Complete, Unsatisfiable, Unknown, Unbounded, UnsatOrUnbounded, Error}
 use Rattle.fz_judge.specs.of_stream.Found.{HasPlaces, block_of}
-use Rattle.fz_judge.specs.of_stream.Parts.{blocks_in, StreamPart, BlockPart, ClaimPart, IsStreamText}
+use Rattle.fz_judge.specs.of_stream.Parts.{blocks_in, StreamPart, BlockPart, ClaimPart, IsStreamTextWithin}
 use Rattle.fz_judge.specs.BlockView.{located_block}
 use Rattle.fz_judge.specs.declared.completion.Completion.{Completion}
 use Rattle.fz_judge.specs.Completed.{AreVerdicts}
@@ -49,16 +51,19 @@ pub record HaveVerdicts (c : Completion) (m : Model) (parts : List StreamPart)
   pub places : AllByRecursion HasPlaces blocks
   pub are_verdicts : AreVerdicts c m (map located_block blocks) verdicts
 
--- The stream's bytes are a text of parts. The report tells of each part in order, of a block with
--- its verdict, and then the answer on these verdicts.
-pub record IsReport (c : Completion) (m : Model) (stream : List ℕ) (events : List Event)
-    (answer : Answer) : Type 0 where
+-- The stream's bytes are a text of parts within the limits. The report tells of each part in order,
+-- of a block with its verdict, and then the answer on these verdicts.
+pub record IsReportWithin (limits : Limits) (c : Completion) (m : Model) (stream : List ℕ)
+    (events : List Event) (answer : Answer) : Type 0 where
   pub parts : List StreamPart
-  pub text_of_stream : IsStreamText stream parts
+  pub text_of_stream : IsStreamTextWithin limits stream parts
   pub verdicts : List Verdict
   pub have_verdicts : HaveVerdicts c m parts verdicts
   pub answer_is : answer ≡ answer_of verdicts
   pub events_are : events ≡ events_of 0 verdicts parts ++ Answered answer ∷ []
+
+abbrev pub IsReport : Completion → Model → List ℕ → List Event → Answer → Type 0
+IsReport = IsReportWithin standard_limits
 
 -- ---- the text
 

@@ -1,11 +1,13 @@
 -- What holds of a report (this project's profile).
 use Rattle.std.specs.Prelude.{◌≡◌, ℕ, suc, ℤ, List, map, Some}
 use Rattle.std.specs.List.{slice_get}
+use Rattle.fz_judge.specs.of_syntax.Lexing.{standard_limits}
+use Rattle.fz_judge.specs.of_syntax.Limits.{Limits}
 use Rattle.fz_judge.specs.of_model.Located.{LocatedTree}
 use Rattle.fz_judge.specs.of_model.Meaning.{Model, Assignment, IsSolution}
 use Rattle.fz_judge.specs.of_model.States.{IsKnownSolution}
 use Rattle.fz_judge.specs.of_model.Names.{HasNoFault, model_of}
-use Rattle.fz_judge.specs.of_model.Texts.{IsLoadedFrom}
+use Rattle.fz_judge.specs.of_model.Texts.{IsLoadedFromWithin}
 use Rattle.fz_judge.specs.of_stream.Parts.{StreamPart}
 use Rattle.fz_judge.specs.declared.completion.Completion.{Completion}
 use Rattle.fz_judge.specs.Solutions.{Block, Extends, Improves}
@@ -13,13 +15,18 @@ use Rattle.fz_judge.specs.Verdict.{Answer, Verdict, Fault}
 use Rattle.fz_judge.specs.BlockView.{located_block}
 use Rattle.fz_judge.specs.Verdict.Verdict.{Satisfied, Violated}
 use Rattle.fz_judge.specs.Verdict.Fault.{NotBetter}
-use Rattle.fz_check.specs.Report.{Event, HaveVerdicts, IsReport}
+use Rattle.fz_check.specs.Report.{Event, HaveVerdicts, IsReportWithin}
 
--- The model's bytes are a text of a tree without faults, and this holds of its model.
-pub record HoldsOfModel (model : List ℕ) (Holds : Model → Type 0) : Type 0 where
+-- Within the limits the model's bytes are a text of a tree without faults, and this holds of its
+-- model.
+pub record HoldsOfModelWithin (limits : Limits) (model : List ℕ)
+    (Holds : Model → Type 0) : Type 0 where
   pub m : Model
-  pub loaded : IsLoadedFrom model m
+  pub loaded : IsLoadedFromWithin limits model m
   pub holds : Holds m
+
+abbrev pub HoldsOfModel : List ℕ → (Model → Type 0) → Type 0
+HoldsOfModel = HoldsOfModelWithin standard_limits
 
 -- ---- what the verdicts of a report say of solutions
 
@@ -55,10 +62,13 @@ pub record AreBorneOut (m : Model) (blocks : List Block) (verdicts : List Verdic
 
 -- The events are the report of the tree's model on the stream, with a search for values that were
 -- left out or without one, and its verdicts are borne out.
-abbrev pub HasReport : Completion → List ℕ → List ℕ → List Event → Answer → Type 0
-HasReport c model stream events answer = HoldsOfModel model
-    (λ m. (r : IsReport c m stream events answer)
+abbrev pub HasReportWithin : Limits → Completion → List ℕ → List ℕ → List Event → Answer → Type 0
+HasReportWithin limits c model stream events answer = HoldsOfModelWithin limits model
+    (λ m. (r : IsReportWithin limits c m stream events answer)
     × AreBorneOut m (map located_block r.have_verdicts.blocks) r.verdicts)
+
+abbrev pub HasReport : Completion → List ℕ → List ℕ → List Event → Answer → Type 0
+HasReport = HasReportWithin standard_limits
 
 -- The verdicts of lines that were written are borne out, also where the stream is refused behind
 -- them.

@@ -3,6 +3,7 @@
 use Rattle.std.specs.Prelude.{◌≡◌, ◌≢◌, ℕ, suc, ◌+◌, ◌*◌, ◌≤◌, List, [], ◌∷◌, ◌++◌, length, map, Option, Some, None, Result, Ok, Err, ⊤, ◌⊎◌}
 use Rattle.std.specs.List.{AllByRecursion}
 use Rattle.std.specs.Io.KnownBytes.{Appends, Consumes, IsAtEnd}
+use Rattle.fz_judge.specs.of_syntax.Limits.{Limits}
 use Rattle.fz_judge.specs.of_model.Meaning.{Model}
 use Rattle.fz_judge.specs.of_stream.declared.block.Block as the_block
 use Rattle.fz_judge.specs.of_stream.declared.error.StreamError.{StreamError}
@@ -10,7 +11,7 @@ use Rattle.fz_judge.specs.of_stream.declared.error.StreamError.TheVariants as st
 use Rattle.fz_judge.specs.of_stream.declared.error.StreamError.TheVariants.{Memory as StreamMemory}
 use Rattle.fz_judge.specs.of_stream.Faults.{IsStreamFault}
 use Rattle.fz_judge.specs.of_stream.Found.{EndsWithin, HasPlaces, block_of}
-use Rattle.fz_judge.specs.of_stream.Parts.{blocks_in, StreamPart, BlockPart, Frame, IsStreamText}
+use Rattle.fz_judge.specs.of_stream.Parts.{blocks_in, StreamPart, BlockPart, Frame, IsStreamTextWithin}
 use Rattle.fz_judge.specs.Solutions.{Block}
 use Rattle.fz_judge.specs.BlockView.{located_block}
 use Rattle.fz_judge.specs.declared.completion.Completion.{Completion}
@@ -49,10 +50,10 @@ broken_end Cut (stream.Unfinished span) = Ok (End (Some span))
 broken_end Cut e = Err (stream_refusal e)
 
 -- the parts are those of the bytes that are judged, where this is cut off
-abbrev pub IsEndOf : Ending → List ℕ → List StreamPart → Option Span → Type 0
-IsEndOf ending given parts None = IsStreamText given parts
-IsEndOf ending given parts (Some span) = (ending ≡ Cut)
-    × ((front : List ℕ) × IsCutOff given front span × IsStreamText front parts)
+abbrev pub IsEndOf : Limits → Ending → List ℕ → List StreamPart → Option Span → Type 0
+IsEndOf limits ending given parts None = IsStreamTextWithin limits given parts
+IsEndOf limits ending given parts (Some span) = (ending ≡ Cut)
+    × ((front : List ℕ) × IsCutOff given front span × IsStreamTextWithin limits front parts)
 
 -- what is told of it
 abbrev pub cut_events : Option Span → List Event
@@ -135,29 +136,29 @@ IsUntold m parts part errors.Memory = ⊤
 IsUntold m parts part _ = ⊥
 
 -- the stream is refused behind these parts of the bytes that were given, or memory ran out
-abbrev pub IsUnread : Ending → Option (List ℕ) → List ℕ → List StreamPart → CheckError → Type 0
-IsUnread ending left given parts (errors.Stream e) =
-    IsStreamFault e × (e ≢ StreamMemory) × IsRefusedBy ending left given parts e
-IsUnread ending left given parts errors.Memory = ⊤
-IsUnread ending left given parts _ = ⊥
+abbrev pub IsUnread : Limits → Ending → Option (List ℕ) → List ℕ → List StreamPart → CheckError → Type 0
+IsUnread limits ending left given parts (errors.Stream e) =
+    IsStreamFault e × (e ≢ StreamMemory) × IsRefusedBy limits ending left given parts e
+IsUnread limits ending left given parts errors.Memory = ⊤
+IsUnread limits ending left given parts _ = ⊥
 
 -- Where a frame waits behind parts that were told, it is read as a part, which is told too.
 abbrev pub TellsNext : (Event → List ℕ) → ReaderState → Jury → Jury → List ℕ → Type 0
 TellsNext text s j j' line =
-    (claims : Claims) (c : Completion) (m : Model) (left : Option (List ℕ)) (given : List ℕ)
+    (limits : Limits) (claims : Claims) (c : Completion) (m : Model) (left : Option (List ℕ)) (given : List ℕ)
     (parts : List StreamPart) (frame : Frame) (outcomes : List Outcome)
-    → HasNext s left given parts frame → HasTold claims c m j parts outcomes
-    → (part : StreamPart) × StandsAt s left given (parts ++ part ∷ [])
+    → HasNext limits s left given parts frame → HasTold claims c m j parts outcomes
+    → (part : StreamPart) × StandsAt limits s left given (parts ++ part ∷ [])
     × TellsOneMore claims text c m j' parts outcomes part line
 
 -- there it can't be read, or is read and not told
 abbrev pub LeavesNext : ReaderState → Jury → CheckError → Type 0
 LeavesNext s j e =
-    (ending : Ending) (claims : Claims) (c : Completion) (m : Model) (left : Option (List ℕ))
+    (limits : Limits) (ending : Ending) (claims : Claims) (c : Completion) (m : Model) (left : Option (List ℕ))
     (given : List ℕ) (parts : List StreamPart) (frame : Frame) (outcomes : List Outcome)
-    → HasNext s left given parts frame
-    → HasTold claims c m j parts outcomes → IsUnread ending left given parts e
-    ⊎ ((part : StreamPart) × StandsAt s left given (parts ++ part ∷ []) × IsUntold m parts part e)
+    → HasNext limits s left given parts frame
+    → HasTold claims c m j parts outcomes → IsUnread limits ending left given parts e
+    ⊎ ((part : StreamPart) × StandsAt limits s left given (parts ++ part ∷ []) × IsUntold m parts part e)
 
 -- a failed write, or out of memory
 abbrev pub IsUnwritten : CheckError → Type 0
@@ -167,38 +168,38 @@ IsUnwritten _ = ⊥
 
 -- How a check stands that has told of these parts, whether it goes on or not: these bytes were read,
 -- in at most so many reads, and once a front of the lines that wait is written, it is one of all.
-pub record Stands (ending : Ending) (claims : Claims) (text : Event → List ℕ) (c : Completion)
+pub record Stands (limits : Limits) (ending : Ending) (claims : Claims) (text : Event → List ℕ) (c : Completion)
     (m : Model) (reads : ℕ) (left left' written written' : Option (List ℕ))
     (lines : List ℕ) : Type 0 where
   pub given : List ℕ
   pub consumes : Consumes left left' given
   pub few : length given ≤ reads * piece_size
   pub parts : List StreamPart
-  pub end_inside : EndInside left' given parts
+  pub end_inside : EndInside limits left' given parts
   pub outcomes : List Outcome
   pub have_outcomes : HaveOutcomes c m parts outcomes
   pub last : List Event
-  pub are_last : AreLast ending left' given parts (answer_told m claims outcomes parts) last
+  pub are_last : AreLast limits ending left' given parts (answer_told m claims outcomes parts) last
   pub front : (next : Option (List ℕ)) → WritesFront written' next lines
       → WritesFront written next (text_of text (told_of m claims outcomes parts ++ last))
 
 -- the check ends with this error, once all of the lines that wait are written
-abbrev pub StopsOnceWritten : Ending → Claims → (Event → List ℕ) → Completion → Model
+abbrev pub StopsOnceWritten : Limits → Ending → Claims → (Event → List ℕ) → Completion → Model
     → Option (List ℕ) → Option (List ℕ) → Option (List ℕ) → Option (List ℕ) → List ℕ → CheckError → Type 0
-StopsOnceWritten ending claims text c m left left' written written' lines e = (next : Option (List ℕ))
-    → Appends written' next lines → IsStopped ending claims text c m left left' written next e
+StopsOnceWritten limits ending claims text c m left left' written written' lines e = (next : Option (List ℕ))
+    → Appends written' next lines → IsStopped limits ending claims text c m left left' written next e
 
 -- there is a report on the bytes, which is written then, with this told before the answer
-pub record IsToldWith (claims : Claims) (cut : List Event) (text : Event → List ℕ)
+pub record IsToldWith (limits : Limits) (claims : Claims) (cut : List Event) (text : Event → List ℕ)
     (c : Completion) (m : Model) (bytes : List ℕ) (written written' : Option (List ℕ))
     (lines : List ℕ) (answer : Answer) : Type 0 where
   pub events : List Event
-  pub report : IsReportWith claims c m bytes events answer
+  pub report : IsReportWith limits claims c m bytes events answer
   pub writes : (next : Option (List ℕ)) → Appends written' next lines
       → Appends written next (text_of text (events ++ (cut ++ Answered answer ∷ [])))
 
 -- and the answer is the report's
-pub record AnswersOnceWritten (ending : Ending) (claims : Claims) (text : Event → List ℕ)
+pub record AnswersOnceWritten (limits : Limits) (ending : Ending) (claims : Claims) (text : Event → List ℕ)
     (c : Completion) (m : Model) (reads : ℕ) (left left' written written' : Option (List ℕ))
     (lines : List ℕ) (answer : Answer) : Type 0 where
   pub given : List ℕ
@@ -206,4 +207,4 @@ pub record AnswersOnceWritten (ending : Ending) (claims : Claims) (text : Event 
   pub end : IsAtEnd left'
   pub few : length given + piece_size ≤ reads * piece_size
   pub report : HoldsOfJudged ending given
-      (λ front cut. IsToldWith claims cut text c m front written written' lines answer)
+      (λ front cut. IsToldWith limits claims cut text c m front written written' lines answer)

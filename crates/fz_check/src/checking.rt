@@ -2,10 +2,10 @@
 
 ghost use Rattle.std.specs.Prelude.{◌≡◌, ◌≤◌, ℕ, List, length, map, IfOk, IfErr};
 ghost use Rattle.std.specs.List.{AllByRecursion};
-ghost use Rattle.fz_judge.specs.of_syntax.Offering.{IsTextOfAll, items_of_tree};
+ghost use Rattle.fz_judge.specs.of_syntax.Offering.{IsTextOfAllWithin, items_of_tree};
 ghost use Rattle.fz_judge.specs.of_syntax.Lexing.{most_bytes};
 ghost use Rattle.fz_judge.specs.of_model.Names.{HasNoFault};
-ghost use Rattle.fz_judge.specs.of_model.Texts.{IsLoadedFrom};
+ghost use Rattle.fz_judge.specs.of_model.Texts.{IsLoadedFromWithin};
 ghost use Rattle.fz_judge.specs.of_model.View.{located};
 ghost use Rattle.fz_judge.specs.of_stream.Found.{EndsWithin, HasPlaces, IsReadAs, block_of};
 ghost use Rattle.fz_check.specs.declared.tally.Answer.TheVariants.{Accepted};
@@ -25,20 +25,24 @@ use crate::report::{Entry, Report};
 use fz_judge::Completion;
 use fz_judge::fz_model::{LoadError, Model, ModelError, load, load_text};
 use fz_judge::fz_stream::{Block, Claim, Stream, blocks};
-use fz_judge::fz_syntax::{Ast, SyntaxError, parse, to_text};
+use fz_judge::fz_syntax::{Ast, Limits, SyntaxError, parse_within, to_text};
 use std::alloc::{AllocError, Global};
 
-/// The model of a text.
+/// The model of a text that is within the limits.
 ///
 /// # Errors
 ///
 /// `Model` where the bytes are not a text of any tree, `Names` with the first fault of its names,
 /// and `Memory` where memory runs out.
-pub fn read_model<'a>(alloc: Global, source: &'a [u8]) -> Result<Model<'a>, CheckError>
-    ensures loaded { IfOk result (IsLoadedFrom source.now) }
-    ensures refused { IfErr result (IsModelRefusal source.now) }
+pub fn read_model<'a>(
+    alloc: Global,
+    source: &'a [u8],
+    limits: Limits,
+) -> Result<Model<'a>, CheckError>
+    ensures loaded { IfOk result (IsLoadedFromWithin limits source.now) }
+    ensures refused { IfErr result (IsModelRefusal limits source.now) }
 {
-    match load_text(alloc, source) {
+    match load_text(alloc, source, limits) {
         Ok(model) => Ok(model),
         Err(LoadError::Text(SyntaxError::Memory)) => Err(CheckError::Memory),
         Err(LoadError::Text(error)) => Err(CheckError::Model(error)),
@@ -48,11 +52,11 @@ pub fn read_model<'a>(alloc: Global, source: &'a [u8]) -> Result<Model<'a>, Chec
 }
 
 /// The tree of a model's text.
-fn read_tree<'a>(alloc: Global, source: &'a [u8]) -> Result<Ast<'a>, CheckError>
-    ensures text { IfOk result (λ a. IsTextOfAll source.now (items_of_tree a)) }
-    ensures refused { IfErr result (IsModelRefusal source.now) }
+fn read_tree<'a>(alloc: Global, source: &'a [u8], limits: Limits) -> Result<Ast<'a>, CheckError>
+    ensures text { IfOk result (λ a. IsTextOfAllWithin limits source.now (items_of_tree a)) }
+    ensures refused { IfErr result (IsModelRefusal limits source.now) }
 {
-    match parse(alloc, source) {
+    match parse_within(alloc, source, limits) {
         Ok(ast) => Ok(ast),
         Err(SyntaxError::Memory) => Err(CheckError::Memory),
         Err(error) => Err(CheckError::Model(error)),
@@ -60,12 +64,16 @@ fn read_tree<'a>(alloc: Global, source: &'a [u8]) -> Result<Ast<'a>, CheckError>
 }
 
 /// The tree of a model's text, whose names have no fault.
-fn read_sound_tree<'a>(alloc: Global, source: &'a [u8]) -> Result<Ast<'a>, CheckError>
-    ensures text { IfOk result (λ a. IsTextOfAll source.now (items_of_tree a)) }
+fn read_sound_tree<'a>(
+    alloc: Global,
+    source: &'a [u8],
+    limits: Limits,
+) -> Result<Ast<'a>, CheckError>
+    ensures text { IfOk result (λ a. IsTextOfAllWithin limits source.now (items_of_tree a)) }
     ensures no_fault { IfOk result (λ a. HasNoFault (located a)) }
-    ensures refused { IfErr result (IsModelRefusal source.now) }
+    ensures refused { IfErr result (IsModelRefusal limits source.now) }
 {
-    let ast = match read_tree(alloc, source) {
+    let ast = match read_tree(alloc, source, limits) {
         Ok(ast) => ast,
         Err(error) => return Err(error),
     };
@@ -168,7 +176,7 @@ pub fn check<'a>(alloc: Global, model: &'a [u8], stream: &[u8]) -> Result<Report
     // too many or not a text of parts; a block only with the first fault.
     ensures refused { IfErr result (IsRefusal model.now stream.now) }
 {
-    let loaded = match read_model(alloc, model) {
+    let loaded = match read_model(alloc, model, Limits::STANDARD) {
         Ok(loaded) => loaded,
         Err(error) => return Err(error),
     };
@@ -179,21 +187,21 @@ pub fn check<'a>(alloc: Global, model: &'a [u8], stream: &[u8]) -> Result<Report
     judge_blocks(alloc, &loaded, &found.blocks, &found.claims)
 }
 
-/// The canonical text of a model, one line for each item, as `to_text` writes it. The names of the
-/// model are looked up first.
+/// The canonical text of a model that is within the limits, one line for each item, as `to_text`
+/// writes it. The names of the model are looked up first.
 ///
 /// # Errors
 ///
 /// `Model` where the bytes are not a text of any tree, `Names` with the first fault of its
 /// names, and `Memory` where memory runs out.
-pub fn show(alloc: Global, model: &[u8]) -> Result<Vec<u8>, CheckError>
+pub fn show(alloc: Global, model: &[u8], limits: Limits) -> Result<Vec<u8>, CheckError>
     // The bytes are a text of a tree without faults, and the result is that tree's text.
-    ensures shown { IfOk result (λ text. IsShown model.now text.items) }
+    ensures shown { IfOk result (λ text. IsShown limits model.now text.items) }
     // It is refused only where the bytes are not a text of any tree, or with the first fault of
     // its names.
-    ensures refused { IfErr result (IsModelRefusal model.now) }
+    ensures refused { IfErr result (IsModelRefusal limits model.now) }
 {
-    let ast = match read_sound_tree(alloc, model) {
+    let ast = match read_sound_tree(alloc, model, limits) {
         Ok(ast) => ast,
         Err(error) => return Err(error),
     };
@@ -208,16 +216,16 @@ pub fn show(alloc: Global, model: &[u8]) -> Result<Vec<u8>, CheckError>
 /// # Errors
 ///
 /// As `show`.
-pub fn show_printing_all(alloc: Global, model: &[u8]) -> Result<Vec<u8>, CheckError>
+pub fn show_printing_all(alloc: Global, model: &[u8], limits: Limits) -> Result<Vec<u8>, CheckError>
     // The bytes are a text of a tree without faults, and the result is that tree's text, with the
     // annotation at each scalar variable. It is a text of the same model, with the same names,
     // domains, constraints and objective.
-    ensures shown { IfOk result (λ text. IsShownPrintingAll model.now text.items) }
+    ensures shown { IfOk result (λ text. IsShownPrintingAll limits model.now text.items) }
     // It is refused only where the bytes are not a text of any tree, or with the first fault of
     // its names.
-    ensures refused { IfErr result (IsModelRefusal model.now) }
+    ensures refused { IfErr result (IsModelRefusal limits model.now) }
 {
-    let ast = match read_sound_tree(alloc, model) {
+    let ast = match read_sound_tree(alloc, model, limits) {
         Ok(ast) => ast,
         Err(error) => return Err(error),
     };

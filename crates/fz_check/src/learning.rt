@@ -2,6 +2,7 @@
 
 ghost use Rattle.std.specs.Prelude.{◌≡◌, ℕ, List, [], ◌∷◌, ◌++◌, Option, OnOk, IsSome};
 ghost use Rattle.fz_judge.specs.of_stream.Parts.{Frame, StreamPart};
+ghost use Rattle.fz_judge.specs.of_syntax.Limits.{Limits};
 ghost use Rattle.fz_check.specs.Claims.{Knows};
 ghost use Rattle.fz_check.specs.Reading.{HasNext, StandsAt};
 
@@ -12,6 +13,7 @@ use crate::pieces::ReadFailed;
 use crate::reader::{PartReader, Step};
 use fz_judge::fz_model::Model;
 use fz_judge::fz_stream::{Block, Part};
+use fz_judge::fz_syntax::Limits;
 use fz_judge::{BlockError, Completion, Judge, Verdict};
 use std::alloc::Global;
 use std::io::Read;
@@ -62,9 +64,9 @@ fn learn_next<'k, L: Listener>(
     requires waits { IsSome parts.now.splitter.waits }
     ensures same_model { judge.new.model ≡ judge.old.model }
     ensures knows { Knows judge.old.model known.old → Knows judge.old.model known.new }
-    ensures read { OnOk result ((left : Option (List ℕ)) (given : List ℕ)
-        (before : List StreamPart) (frame : Frame) → HasNext parts.now left given before frame
-        → (part : StreamPart) × StandsAt parts.now left given (before ++ part ∷ [])) }
+    ensures read { OnOk result ((limits : Limits) (left : Option (List ℕ)) (given : List ℕ)
+        (before : List StreamPart) (frame : Frame) → HasNext limits parts.now left given before frame
+        → (part : StreamPart) × StandsAt limits parts.now left given (before ++ part ∷ [])) }
 {
     let part = match parts.take() {
         Ok(part) => part,
@@ -81,7 +83,8 @@ fn learn_next<'k, L: Listener>(
 /// objective; a block that isn't satisfied, or doesn't fit the model, changes nothing. One block at
 /// a time is in memory. With completion on, what is found counts, since it is judged.
 ///
-/// `file` is the stream's name, and `is_only` says that it needn't be told.
+/// `file` is the stream's name, and `is_only` says that it needn't be told. The limits are those of
+/// the text of a block.
 ///
 /// # Errors
 ///
@@ -97,11 +100,12 @@ pub fn learn<'k, R: Read, L: Listener>(
     file: &'k [u8],
     is_only: bool,
     known: &mut Known<'k>,
+    limits: Limits,
 ) -> Result<(), CheckError>
     // What is known stays so: there are such solutions.
     ensures knows { Knows model.now known.old → Knows model.now known.new }
 {
-    let mut parts = PartReader::new(alloc, reads);
+    let mut parts = PartReader::new(alloc, reads, limits);
     let mut judge = Judge::new(model, completion);
     let mut source = Source {
         file,

@@ -37,7 +37,7 @@ pub use event::{Event, Judged, Taker, TextTaker};
 pub use fz_base::Span;
 pub use fz_judge::fz_model::{Model, ModelError};
 pub use fz_judge::fz_stream::{ClaimKind, StreamError};
-pub use fz_judge::fz_syntax::SyntaxError;
+pub use fz_judge::fz_syntax::{Limits, SyntaxError};
 pub use fz_judge::{BlockError, Completion, Fault, Judge, Reason, Verdict, fill, fill_with_steps};
 pub use learning::{Listener, learn};
 pub use line::{block_text, claim_text};

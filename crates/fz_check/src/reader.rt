@@ -1,6 +1,7 @@
 ghost use Rattle.std.specs.Prelude.{◌≡◌, ◌≢◌, ℕ, Option, ◌+◌, ◌<◌, ◌≤◌, List, [], ◌∷◌, ◌++◌, length, map, Ok, Some, IfOk, IfSome, OnOk, OnErr, IfErr, IsSome, true, false};
 ghost use Rattle.std.specs.Io.KnownBytes.{Consumes, IsAtEnd};
-ghost use Rattle.fz_judge.specs.of_stream.Parts.{StreamPart, Frame, frame_of, IsStreamText};
+ghost use Rattle.fz_judge.specs.of_stream.Parts.{StreamPart, Frame, frame_of};
+ghost use Rattle.fz_judge.specs.of_syntax.Limits.{Limits};
 ghost use Rattle.fz_judge.specs.of_stream.Splitting.{EndsLast, most_taken};
 ghost use Rattle.fz_check.specs.Reading.{HasNext, HasRead, StandsAt, WaitsInside, piece_size, steps_left};
 ghost use Rattle.fz_check.specs.Telling.{IsEndOf, IsUnread, broken_end};
@@ -10,6 +11,7 @@ use crate::error::{CheckError, stream_refusal};
 use crate::pieces::{Pieces, ReadFailed};
 use fz_base::Span;
 use fz_judge::fz_stream::{Part, Splitter, StreamError};
+use fz_judge::fz_syntax::Limits;
 use std::alloc::Global;
 use std::io::Read;
 use std::marker::Model;
@@ -66,12 +68,12 @@ impl PartReader {
     ghost use Rattle.fz_judge.specs.of_stream.Lending.{part_of, HasPlacesOfItems, PartEndsWithin};
 
     /// Nothing is read yet, and at most so many reads will be made.
-    pub(crate) fn new(alloc: Global, reads: u64) -> PartReader
-        ensures nothing { HasRead result [] [] }
+    pub(crate) fn new(alloc: Global, reads: u64, limits: Limits) -> PartReader
+        ensures nothing { HasRead limits result [] [] }
         ensures pieces { result.pieces ≡ record { pending = []; reads = reads; at_end = false } }
     {
         PartReader {
-            splitter: Splitter::new(alloc),
+            splitter: Splitter::new(alloc, limits),
             pieces: Pieces::new(reads),
             has_ended: false,
         }
@@ -84,20 +86,21 @@ impl PartReader {
         ensures going { OnOk result (self.new.splitter.stage ≡ Running) }
         ensures reads { self.new.pieces.reads ≡ self.old.pieces.reads }
         ensures at_end { self.new.pieces.at_end ≡ self.old.pieces.at_end }
+        ensures limits { self.new.splitter.limits ≡ self.old.splitter.limits }
         ensures waits { result ≡ Ok Step.Part → IsSome self.new.splitter.waits }
-        ensures fewer { result ≡ Ok Step.Part → (given : List ℕ) (parts : List StreamPart)
-            → HasRead self.old given parts
+        ensures fewer { result ≡ Ok Step.Part → (limits : Limits) (given : List ℕ) (parts : List StreamPart)
+            → HasRead limits self.old given parts
             → length self.new.pieces.pending < length self.old.pieces.pending }
-        ensures more { result ≡ Ok Step.Part → (given : List ℕ) (parts : List StreamPart)
-            → HasRead self.old given parts → (frame : Frame)
+        ensures more { result ≡ Ok Step.Part → (limits : Limits) (given : List ℕ) (parts : List StreamPart)
+            → HasRead limits self.old given parts → (frame : Frame)
             × (self.new.splitter.waits ≡ Some frame) × WaitsInside self.new given parts frame }
-        ensures none { result ≡ Ok Step.Bytes → (given : List ℕ) (parts : List StreamPart)
-            → HasRead self.old given parts
-            → (self.new.pieces.pending ≡ []) × HasRead self.new given parts }
+        ensures none { result ≡ Ok Step.Bytes → (limits : Limits) (given : List ℕ) (parts : List StreamPart)
+            → HasRead limits self.old given parts
+            → (self.new.pieces.pending ≡ []) × HasRead limits self.new given parts }
         ensures not_end { (cut : Option SpanData) → result ≢ Ok (Step.End cut) }
-        ensures refused { IfErr result (λ e. (ending : Ending) (left : Option (List ℕ))
-            (given : List ℕ) (parts : List StreamPart) → HasRead self.old given parts
-            → IsUnread ending left given parts e) }
+        ensures refused { IfErr result (λ e. (limits : Limits) (ending : Ending)
+            (left : Option (List ℕ)) (given : List ℕ) (parts : List StreamPart) → HasRead limits self.old given parts
+            → IsUnread limits ending left given parts e) }
     {
         let PartReader {
             splitter,
@@ -120,18 +123,19 @@ impl PartReader {
         requires at_end { self.old.pieces.at_end ≡ true }
         requires going { self.old.splitter.stage ≢ Finished }
         ensures same { self.new.pieces ≡ self.old.pieces }
+        ensures limits { self.new.splitter.limits ≡ self.old.splitter.limits }
         ensures ended { result ≡ Ok Step.Part → self.new.splitter.stage ≡ Finished }
         ensures waits { result ≡ Ok Step.Part → IsSome self.new.splitter.waits }
-        ensures more { result ≡ Ok Step.Part → (given : List ℕ) (parts : List StreamPart)
-            → HasRead self.old given parts → (frame : Frame)
+        ensures more { result ≡ Ok Step.Part → (limits : Limits) (given : List ℕ) (parts : List StreamPart)
+            → HasRead limits self.old given parts → (frame : Frame)
             × (self.new.splitter.waits ≡ Some frame) × EndsLast given (map frame_of parts) frame }
-        ensures end { (cut : Option SpanData) → result ≡ Ok (Step.End cut) → (given : List ℕ)
-            (parts : List StreamPart) → HasRead self.old given parts
-            → IsEndOf ending given parts cut }
+        ensures end { (cut : Option SpanData) → result ≡ Ok (Step.End cut) → (limits : Limits) (given : List ℕ)
+            (parts : List StreamPart) → HasRead limits self.old given parts
+            → IsEndOf limits ending given parts cut }
         ensures not_bytes { result ≢ Ok Step.Bytes }
-        ensures refused { IfErr result (λ e. (left : Option (List ℕ)) (given : List ℕ)
-            (parts : List StreamPart) → HasRead self.old given parts → IsAtEnd left
-            → IsUnread ending left given parts e) }
+        ensures refused { IfErr result (λ e. (limits : Limits) (left : Option (List ℕ)) (given : List ℕ)
+            (parts : List StreamPart) → HasRead limits self.old given parts → IsAtEnd left
+            → IsUnread limits ending left given parts e) }
     {
         match self.splitter.finish() {
             Ok(()) => {}
@@ -150,30 +154,30 @@ impl PartReader {
     ///
     /// The stream's first fault, or `Memory` where memory runs out.
     pub(crate) fn advance(&mut self, ending: Ending) -> Result<Step, CheckError>
-        ensures part { result ≡ Ok Step.Part → (left : Option (List ℕ)) (given : List ℕ)
-            (parts : List StreamPart) → StandsAt self.old left given parts
-            → (frame : Frame) × HasNext self.new left given parts frame }
+        ensures part { result ≡ Ok Step.Part → (limits : Limits) (left : Option (List ℕ)) (given : List ℕ)
+            (parts : List StreamPart) → StandsAt limits self.old left given parts
+            → (frame : Frame) × HasNext limits self.new left given parts frame }
         ensures waits { result ≡ Ok Step.Part → IsSome self.new.splitter.waits }
-        ensures fewer { result ≡ Ok Step.Part → (left : Option (List ℕ)) (given : List ℕ)
-            (parts : List StreamPart) → StandsAt self.old left given parts
+        ensures fewer { result ≡ Ok Step.Part → (limits : Limits) (left : Option (List ℕ)) (given : List ℕ)
+            (parts : List StreamPart) → StandsAt limits self.old left given parts
             → steps_left self.new < steps_left self.old }
-        ensures bytes { result ≡ Ok Step.Bytes → (left : Option (List ℕ)) (given : List ℕ)
-            (parts : List StreamPart) → StandsAt self.old left given parts
-            → (self.new.pieces.pending ≡ []) × HasRead self.new given parts }
+        ensures bytes { result ≡ Ok Step.Bytes → (limits : Limits) (left : Option (List ℕ)) (given : List ℕ)
+            (parts : List StreamPart) → StandsAt limits self.old left given parts
+            → (self.new.pieces.pending ≡ []) × HasRead limits self.new given parts }
         ensures open { result ≡ Ok Step.Bytes → self.new.pieces.at_end ≡ false }
         // The bytes have ended, and are a text of the parts so far, but for what is cut off.
         ensures end { (cut : Option SpanData) → result ≡ Ok (Step.End cut)
-            → (left : Option (List ℕ)) (given : List ℕ) (parts : List StreamPart)
-            → StandsAt self.old left given parts
-            → IsAtEnd left × IsEndOf ending given parts cut }
+            → (limits : Limits) (left : Option (List ℕ)) (given : List ℕ) (parts : List StreamPart)
+            → StandsAt limits self.old left given parts
+            → IsAtEnd left × IsEndOf limits ending given parts cut }
         ensures found_end { (cut : Option SpanData) → result ≡ Ok (Step.End cut)
             → self.old.pieces.at_end ≡ true }
         ensures ended { self.old.splitter.stage ≡ Finished → result ≡ Ok (Step.End None) }
         ensures reads { self.new.pieces.reads ≡ self.old.pieces.reads }
         ensures at_end { self.new.pieces.at_end ≡ self.old.pieces.at_end }
-        ensures refused { IfErr result (λ e. (left : Option (List ℕ)) (given : List ℕ)
-            (parts : List StreamPart) → StandsAt self.old left given parts
-            → IsUnread ending left given parts e) }
+        ensures refused { IfErr result (λ e. (limits : Limits) (left : Option (List ℕ)) (given : List ℕ)
+            (parts : List StreamPart) → StandsAt limits self.old left given parts
+            → IsUnread limits ending left given parts e) }
     {
         if self.has_ended {
             return Ok(Step::End(None));
@@ -216,12 +220,12 @@ impl PartReader {
         ensures places { IfOk result HasPlacesOfItems }
         ensures within { IfOk result (PartEndsWithin most_taken) }
         // It comes next, whatever was read before.
-        ensures part { IfOk result (λ part. (left : Option (List ℕ)) (given : List ℕ)
-            (parts : List StreamPart) (frame : Frame) → HasNext self.now left given parts frame
-            → StandsAt self.now left given (parts ++ part_of part ∷ [])) }
-        ensures refused { IfErr result (λ e. (ending : Ending) (left : Option (List ℕ))
-            (given : List ℕ) (parts : List StreamPart) (frame : Frame)
-            → HasNext self.now left given parts frame → IsUnread ending left given parts e) }
+        ensures part { IfOk result (λ part. (limits : Limits) (left : Option (List ℕ)) (given : List ℕ)
+            (parts : List StreamPart) (frame : Frame) → HasNext limits self.now left given parts frame
+            → StandsAt limits self.now left given (parts ++ part_of part ∷ [])) }
+        ensures refused { IfErr result (λ e. (limits : Limits) (ending : Ending)
+            (left : Option (List ℕ)) (given : List ℕ) (parts : List StreamPart) (frame : Frame)
+            → HasNext limits self.now left given parts frame → IsUnread limits ending left given parts e) }
     {
         match self.splitter.take() {
             Ok(Some(part)) => Ok(part),

@@ -3,10 +3,10 @@
 
 ghost use Rattle.std.specs.Prelude.{◌≡◌, ℕ, [], IfOk, IfErr};
 ghost use Rattle.fz_check.specs.Cutting.{HoldsOfJudged};
-ghost use Rattle.fz_check.specs.Headline.{HasSolutions, HoldsOfStream};
+ghost use Rattle.fz_check.specs.Headline.{HasSolutions, HasSolutionsWithin, HoldsOfStream};
 ghost use Rattle.fz_check.specs.Reading.{SpendsReads};
 ghost use Rattle.fz_check.specs.Report.{event_line};
-ghost use Rattle.fz_check.specs.Streaming.{IsEnded, IsEndedBy, IsReportedTo, IsReportedWith, most_reads};
+ghost use Rattle.fz_check.specs.Streaming.{IsEnded, IsEndedBy, IsEndedWithin, IsReportedTo, IsReportedWith, IsReportedWithin, most_reads};
 ghost use Rattle.fz_check.specs.Telling.{AnswersOnceWritten, IsFresh, Stands, StopsOnceWritten};
 ghost use Rattle.fz_check.specs.View.{answer_view};
 
@@ -22,6 +22,7 @@ use crate::tally::Answer;
 use crate::telling::{gather, tell_end, tell_next};
 use crate::writing::{WriteFailed, write_lines};
 use fz_judge::Completion;
+use fz_judge::fz_syntax::Limits;
 use std::alloc::Global;
 use std::io::{Read, Write};
 
@@ -35,22 +36,23 @@ fn tell_parts<R: Read, W: Write, T: Taker>(
     taker: &mut T,
     reads: u64,
     ending: Ending,
+    limits: Limits,
     lines: &mut Vec<u8>,
 ) -> Result<Answer, CheckError>
     requires fresh { IsFresh jury }
     requires none { lines.old.items ≡ [] }
-    ensures stands { Stands ending jury.entry.claims T.text jury.entry.judge.completion jury.entry.judge.model reads
+    ensures stands { Stands limits ending jury.entry.claims T.text jury.entry.judge.completion jury.entry.judge.model reads
         (R.remaining reader.old) (R.remaining reader.new) (W.contents writer.old)
         (W.contents writer.new) lines.new.items }
-    ensures answered { IfOk result (λ a. AnswersOnceWritten ending jury.entry.claims
+    ensures answered { IfOk result (λ a. AnswersOnceWritten limits ending jury.entry.claims
         T.text jury.entry.judge.completion jury.entry.judge.model reads (R.remaining reader.old)
         (R.remaining reader.new) (W.contents writer.old) (W.contents writer.new) lines.new.items
         (answer_view a)) }
-    ensures refused { IfErr result (StopsOnceWritten ending jury.entry.claims T.text jury.entry.judge.completion
+    ensures refused { IfErr result (StopsOnceWritten limits ending jury.entry.claims T.text jury.entry.judge.completion
         jury.entry.judge.model (R.remaining reader.old) (R.remaining reader.new)
         (W.contents writer.old) (W.contents writer.new) lines.new.items) }
 {
-    let mut parts = PartReader::new(alloc, reads);
+    let mut parts = PartReader::new(alloc, reads, limits);
     // A line is made apart, so that running out of memory in its midst leaves whole lines.
     let mut line = Vec::new(alloc);
     loop {
@@ -85,7 +87,8 @@ fn tell_parts<R: Read, W: Write, T: Taker>(
 
 /// Judges each block of the stream that a reader gives, and writes what the taker says of each event,
 /// with at most `reads` reads of 4,096 bytes. What is to be written for all that was read so far is
-/// written before the next read, and before any answer. One block at a time is in memory.
+/// written before the next read, and before any answer. One block at a time is in memory. The limits
+/// are those of the model's text, and of the text of a block with the line after it.
 ///
 /// Where completion is on, a block is judged by its second filling, and values are searched for that
 /// the solver left out. What is found is judged as the filling is: it makes no block violated. It can
@@ -113,20 +116,22 @@ pub fn check_events<R: Read, W: Write, T: Taker>(
     completion: Completion,
     ending: Ending,
     claims: Claims<'_>,
+    limits: Limits,
 ) -> Result<Answer, CheckError>
     // What is accepted has solutions.
     ensures accepted { IfOk result (λ a. (count : ℕ) → a ≡ Answer.Accepted count
         → HoldsOfStream (R.remaining reader.old) (R.remaining reader.new)
-        (λ given. HoldsOfJudged ending given (λ front _. HasSolutions model.now front count))) }
+        (λ given. HoldsOfJudged ending given
+        (λ front _. HasSolutionsWithin limits model.now front count))) }
     // The writer got the report on all that the reader gave up to its end, but for what is cut off,
     // which is told, and nothing else.
     ensures report { IfOk result (λ a. HoldsOfStream (R.remaining reader.old)
         (R.remaining reader.new) (λ given. HoldsOfJudged ending given
-        (λ front cut. IsReportedWith claims.entry cut T.text completion model.now front
+        (λ front cut. IsReportedWith limits claims.entry cut T.text completion model.now front
         (W.contents writer.old) (W.contents writer.new) (answer_view a)))) }
     // The model, the stream or a block is refused only for its first fault. What was told of the
     // parts before it was written, and nothing else.
-    ensures refused { IfErr result (IsEndedBy ending claims.entry T.text completion model.now
+    ensures refused { IfErr result (IsEndedBy limits ending claims.entry T.text completion model.now
         (R.remaining reader.old) (R.remaining reader.new) (W.contents writer.old)
         (W.contents writer.new)) }
     // No more bytes were read than so many reads of 4,096 bytes can bring, and where there is an
@@ -135,14 +140,14 @@ pub fn check_events<R: Read, W: Write, T: Taker>(
     ensures end_read { IfOk result
         (λ _. SpendsReads reads 1 (R.remaining reader.old) (R.remaining reader.new)) }
 {
-    let loaded = match read_model(alloc, model) {
+    let loaded = match read_model(alloc, model, limits) {
         Ok(loaded) => loaded,
         Err(error) => return Err(error),
     };
     let jury = Jury::new(&loaded, completion, claims);
     let mut lines = Vec::new(alloc);
     let outcome = tell_parts(
-        alloc, jury, reader, writer, taker, reads, ending, &mut lines,
+        alloc, jury, reader, writer, taker, reads, ending, limits, &mut lines,
     );
     match write_lines(writer, &mut lines) {
         Ok(()) => outcome,
@@ -163,14 +168,15 @@ pub fn check_stream_up_to<R: Read, W: Write>(
     reads: u64,
     completion: Completion,
     claims: Claims<'_>,
+    limits: Limits,
 ) -> Result<Answer, CheckError>
     ensures accepted { IfOk result (λ a. (count : ℕ) → a ≡ Answer.Accepted count
         → HoldsOfStream (R.remaining reader.old) (R.remaining reader.new)
-        (λ given. HasSolutions model.now given count)) }
+        (λ given. HasSolutionsWithin limits model.now given count)) }
     ensures report { IfOk result (λ a. HoldsOfStream (R.remaining reader.old)
-        (R.remaining reader.new) (λ given. IsReportedTo claims.entry event_line completion model.now given
+        (R.remaining reader.new) (λ given. IsReportedWithin limits claims.entry event_line completion model.now given
         (W.contents writer.old) (W.contents writer.new) (answer_view a))) }
-    ensures refused { IfErr result (IsEnded claims.entry event_line completion model.now
+    ensures refused { IfErr result (IsEndedWithin limits claims.entry event_line completion model.now
         (R.remaining reader.old) (R.remaining reader.new) (W.contents writer.old)
         (W.contents writer.new)) }
     ensures reads { SpendsReads reads 0 (R.remaining reader.old) (R.remaining reader.new) }
@@ -180,15 +186,15 @@ pub fn check_stream_up_to<R: Read, W: Write>(
     let mut taker = TextTaker;
     let ending = Ending::Whole;
     check_events(
-        alloc, model, reader, writer, &mut taker, reads, completion, ending, claims,
+        alloc, model, reader, writer, &mut taker, reads, completion, ending, claims, limits,
     )
 }
 
 /// The most reads that `check_stream` makes.
 pub const MOST_READS: u64 = 4_294_967_296;
 
-/// As `check_stream_up_to`, with at most 4,294,967,296 reads, and without a search for values that
-/// the solver left out.
+/// As `check_stream_up_to` at the standard limits, with at most 4,294,967,296 reads, and without a
+/// search for values that the solver left out.
 ///
 /// # Errors
 ///
@@ -220,5 +226,6 @@ pub fn check_stream<R: Read, W: Write>(
         MOST_READS,
         Completion::Off,
         Claims::NotJudged,
+        Limits::STANDARD,
     )
 }

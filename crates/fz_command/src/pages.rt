@@ -2,9 +2,9 @@
 
 /// The line on standard error where the command line is wrong, or asks for help.
 pub const USAGE: &str = "\
-usage: fzcheck show [--print-all] MODEL \
-| check [--complete] [--cut] [--claims [--known STREAM]..] [--explain[=all] [--names FILE]] \
-[--json] MODEL [STREAM]";
+usage: fzcheck show [--large] [--print-all] MODEL \
+| check [--large] [--complete] [--cut] [--claims [--known STREAM]..] \
+[--explain[=all] [--names FILE]] [--json] MODEL [STREAM]";
 
 /// The answer to `--version`: the program and its version.
 pub const VERSION: &str = "fzcheck 0.4.0";
@@ -13,11 +13,13 @@ pub const VERSION: &str = "fzcheck 0.4.0";
 pub const HELP: &str = "\
 fzcheck: checks the output of a FlatZinc solver against its model
 
-fzcheck check [--complete] [--cut] [--claims [--known STREAM]..]
+fzcheck check [--large] [--complete] [--cut] [--claims [--known STREAM]..]
         [--explain[=all] [--names FILE]] [--json] MODEL [STREAM]
     Judges each solution block of the file STREAM, or of standard input where it is left out,
     against the model in the file MODEL. There is a line for each block and claim, and then the
     answer.
+    --large     takes a model of up to 1,073,741,824 bytes, in the place of 16,777,216, lists of up to
+                134,217,728 elements, in the place of 1,048,576, and blocks as large as the model
     --complete  looks for values that the solver left out, and judges what it finds
     --cut       where the stream ends inside a block, as that of a solver does that was killed,
                 judges what comes before that block, and tells the byte range of what it left out
@@ -36,8 +38,9 @@ fzcheck check [--complete] [--cut] [--claims [--known STREAM]..]
     --json      writes the report, with what is explained, as JSON: an object on each line
     For example: fzcheck check examples/knapsack/model.fzn examples/knapsack/stream.txt
 
-fzcheck show [--print-all] MODEL
+fzcheck show [--large] [--print-all] MODEL
     Prints the canonical text of the model, one line an item.
+    --large      takes a large model, as check does
     --print-all  adds output_var to each variable without it: a solver prints them all then
     For example: fzcheck show --print-all model.fzn > all.fzn
                  solver all.fzn | fzcheck check all.fzn

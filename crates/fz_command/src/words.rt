@@ -12,6 +12,7 @@ pub enum Request<'a> {
     Show {
         model: &'a str,
         printing: Printing,
+        size: Size,
     },
     /// Check the stream in a file, or on standard input, against the model in a file.
     Check {
@@ -32,6 +33,13 @@ pub enum Printing {
     All,
 }
 
+/// How large a model, and a block of a stream, may be.
+#[derive(Clone, Copy, Debug, PartialEq, Eq)]
+pub enum Size {
+    Standard,
+    Large,
+}
+
 /// The options of `check`.
 #[derive(Clone, Copy)]
 pub struct CheckOptions {
@@ -43,6 +51,7 @@ pub struct CheckOptions {
     pub judges_claims: bool,
     pub explains: Explaining,
     pub form: Form,
+    pub size: Size,
 }
 
 /// What the report is written as.
@@ -120,6 +129,7 @@ fn request_of<'a>(alloc: Global, matches: &ArgMatches<'a>) -> Result<Request<'a>
         Some(("show", given)) => Ok(Request::Show {
             model: model_of(given)?,
             printing: printing_of(given),
+            size: size_of(given),
         }),
         Some(("check", given)) => Ok(Request::Check {
             model: model_of(given)?,
@@ -132,6 +142,7 @@ fn request_of<'a>(alloc: Global, matches: &ArgMatches<'a>) -> Result<Request<'a>
                 judges_claims: given.get_flag("claims"),
                 explains: explaining_of(given),
                 form: form_of(given),
+                size: size_of(given),
             },
         }),
         _ => Err(Refused::Help),
@@ -171,6 +182,14 @@ fn explaining_of(given: &ArgMatches<'_>) -> Explaining {
     }
 }
 
+fn size_of(given: &ArgMatches<'_>) -> Size {
+    if given.get_flag("large") {
+        Size::Large
+    } else {
+        Size::Standard
+    }
+}
+
 fn form_of(given: &ArgMatches<'_>) -> Form {
     if given.get_flag("json") {
         Form::Json
@@ -184,9 +203,11 @@ fn file_word<'a>(alloc: Global, id: &'a str) -> Arg<'a> {
     Arg::new(alloc, id).action(ArgAction::Set)
 }
 
-/// A command that requires the file of a model.
+/// A command that requires the file of a model, which may be a large one.
 fn over_model<'a>(alloc: Global, name: &'a str) -> Result<Command<'a>, AllocError> {
-    Command::new(alloc, name).arg(file_word(alloc, "MODEL").required(true))
+    Command::new(alloc, name)
+        .arg(file_word(alloc, "MODEL").required(true))?
+        .arg(flag(alloc, "large"))
 }
 
 /// An option without a value.

@@ -4,7 +4,7 @@ use crate::message::{Message, Text};
 use crate::verdict::{Reading, verdict_message, verdict_place};
 use fz_judge::fz_model::Model;
 use fz_judge::fz_stream::Block;
-use fz_judge::fz_syntax::{Ast, parse};
+use fz_judge::fz_syntax::{Ast, Limits, parse_within};
 use fz_judge::{Completion, Verdict, fill_with_steps};
 use fz_places::NameTable;
 use std::alloc::{AllocError, Global};
@@ -39,11 +39,11 @@ impl<'a, 'n> Explainer<'a, 'n> {
         }
     }
 
-    /// Parses the text of the model, where that wasn't done before. The text was loaded, so only
-    /// memory can be lacking for it.
+    /// Parses the text of the model, where that wasn't done before. The text was loaded, under limits
+    /// that these are no less than, so only memory can be lacking for it.
     fn parse(&mut self, alloc: Global) -> Result<(), AllocError> {
         if self.ast.is_none() {
-            match parse(alloc, self.text.bytes) {
+            match parse_within(alloc, self.text.bytes, Limits::LARGE) {
                 Ok(ast) => self.ast = Some(ast),
                 Err(_) => return Err(AllocError),
             }

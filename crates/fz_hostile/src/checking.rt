@@ -2,8 +2,8 @@
 
 use crate::outside::{file, is_given, tell, tell_error, tell_text};
 use fz_check::{
-    CheckError, Report, check, refusal_fault, refusal_text, report_text, show, show_printing_all,
-    status,
+    CheckError, Limits, Report, check, refusal_fault, refusal_text, report_text, show,
+    show_printing_all, status,
 };
 
 /// Makes a call on the text of a model and, where it takes one, on a stream.
@@ -23,8 +23,8 @@ pub fn make_call(rt: &HostRuntime, call: &str, operands: &[String]) -> Option<()
 
 fn show_lacks_memory(rt: &HostRuntime, call: &str, model: &[u8]) -> bool {
     let shown = match call {
-        "show" => show(rt.alloc(), model),
-        _ => show_printing_all(rt.alloc(), model),
+        "show" => show(rt.alloc(), model, Limits::STANDARD),
+        _ => show_printing_all(rt.alloc(), model, Limits::STANDARD),
     };
     match shown {
         Ok(text) => {

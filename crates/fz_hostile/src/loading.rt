@@ -10,7 +10,7 @@ use fz_model::{
     Found, LoadError, Model, ModelError, Partial, Scalar, Term, What, forced, load, load_text,
     state,
 };
-use fz_syntax::{Ast, parse};
+use fz_syntax::{Ast, Limits, parse};
 
 /// Makes a call on a model.
 pub fn make_call(rt: &HostRuntime, call: &str, operands: &[String]) -> Option<()> {
@@ -73,7 +73,7 @@ fn is_memory(rt: &HostRuntime, error: ModelError) -> bool {
 }
 
 fn load_text_lacks_memory(rt: &HostRuntime, source: &[u8]) -> bool {
-    match load_text(rt.alloc(), source) {
+    match load_text(rt.alloc(), source, Limits::STANDARD) {
         Ok(model) => {
             tell_model(rt, &model);
             false

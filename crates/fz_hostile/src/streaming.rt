@@ -1,7 +1,7 @@
 //! Checks over a reader and a writer, either of which may fail.
 
 use crate::outside::{file, number, tell};
-use fz_check::{Answer, CheckError, Claims, Completion, check_stream, check_stream_up_to};
+use fz_check::{Answer, CheckError, Claims, Completion, Limits, check_stream, check_stream_up_to};
 use std::alloc::Global;
 use std::io::{self, ErrorKind, Read, Stdout, Write};
 
@@ -117,6 +117,7 @@ fn answer(
                 most as u64,
                 completion,
                 claims,
+                Limits::STANDARD,
             )
         }
         None => check_stream(alloc, model, reader, writer),

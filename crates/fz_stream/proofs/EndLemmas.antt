@@ -10,6 +10,7 @@ use Rattle.fz_stream.specs.declared.held.Held.{Held}
 use Rattle.fz_stream.specs.Parts.{Line, joined, kind_of, Frame, BlockFrame, Closes}
 use Rattle.fz_stream.specs.Step.{step_of, begun_of}
 use Rattle.fz_stream.specs.Keeping.{HasLine, BreaksBlock}
+use Rattle.fz_syntax.specs.Limits.{Limits}
 use Rattle.fz_stream.proofs.PartLemmas.{joined-push, one_more, into_gap, into_body}
 use Rattle.fz_stream.proofs.StepLemmas.{opened_at, Does, does}
 use Rattle.fz_stream.proofs.StopLemmas.{breaks_claim}
@@ -65,7 +66,7 @@ module _ (h : Held) (lines : List Line) (frames : List Frame) (line : Line) (l :
   ends_with_block n d = (d.0, l.before, ap (take h.line) l.bytes ∙ take_at (joined l.body) line h.line (sym l.place))
 
   -- the line is a claim inside an open block
-  pub breaks_with_claim : (n : ℕ) → Does (Breaks n) h.before l.body line → (span : Span)
+  pub breaks_with_claim : (limits : Limits) (n : ℕ) → Does (Breaks n) h.before l.body line → (span : Span)
       → span.start ≡ n → span.end ≡ h.before + h.line
-      → BreaksBlock lines frames line (Unfinished span)
-  breaks_with_claim n d span from upto = breaks_claim lines frames l.gap l.body l.covers line n h.before l.before d span from (upto ∙ ap (λ k. h.before + k) l.place)
+      → BreaksBlock limits lines frames line (Unfinished span)
+  breaks_with_claim limits n d span from upto = breaks_claim limits lines frames l.gap l.body l.covers line n h.before l.before d span from (upto ∙ ap (λ k. h.before + k) l.place)

@@ -4,8 +4,9 @@ use Rattle.fz_syntax.specs.declared.Printed.{Printed}
 use Rattle.fz_syntax.specs.Places.{IsPlacedWithin}
 use Rattle.fz_syntax.specs.SyntaxError.{SyntaxError}
 use Rattle.fz_syntax.specs.SyntaxError.TheVariants.{TooLong as TextTooLong, Memory as TextMemory}
-use Rattle.fz_syntax.specs.Refusals.{IsValue, IsRefusalOf}
-use Rattle.fz_syntax.specs.Text.{IsTextOfItems}
+use Rattle.fz_syntax.specs.Limits.{Limits}
+use Rattle.fz_syntax.specs.Refusals.{IsValue, IsRefusalWithin}
+use Rattle.fz_syntax.specs.Text.{IsTextOfItemsWithin}
 use Rattle.fz_syntax.specs.Tree.{Printed as Plain}
 use Rattle.fz_syntax.specs.View.{bare_items}
 use Rattle.fz_stream.specs.declared.error.StreamError.{StreamError}
@@ -42,20 +43,20 @@ placed_fault offset n TextMemory h = tt
 placed_fault offset n _ h = (omega (arith, h.0), omega (arith, h.1))
 
 -- what a refusal of a text tells of it
-pub tells_text : (offset : ℕ) (text : List ℕ) (e : SyntaxError) → e ≢ TextTooLong
-    → ((items : List Plain) → IsTextOfItems text items → IsValue {X = Vec Printed Global} (λ given. bare_items given.items) (Err e) items)
-    → IsRefusalOf text e → IsPlacedWithin (length text) e → TellsOfText offset text (item_fault offset e)
-tells_text offset text TextTooLong short only order h = absurd (short refl)
-tells_text offset text TextMemory short only order h = tt
-tells_text offset text e short only order h = (e, record { no_items = only; order = order; kind = ((λ q. cc), short); place = h }, refl)
+pub tells_text : (limits : Limits) (offset : ℕ) (text : List ℕ) (e : SyntaxError) → e ≢ TextTooLong
+    → ((items : List Plain) → IsTextOfItemsWithin limits text items → IsValue {X = Vec Printed Global} (λ given. bare_items given.items) (Err e) items)
+    → IsRefusalWithin limits text e → IsPlacedWithin (length text) e → TellsOfText limits offset text (item_fault offset e)
+tells_text limits offset text TextTooLong short only order h = absurd (short refl)
+tells_text limits offset text TextMemory short only order h = tt
+tells_text limits offset text e short only order h = (e, record { no_items = only; order = order; kind = ((λ q. cc), short); place = h }, refl)
 
 -- what it says where a marker comes after the text
-pub tells_before_marker : (offset : ℕ) (text : List ℕ) (behind : Option LineKind) (e : StreamError)
-    → behind ≡ Some Marker → TellsOfText offset text e → TellsOf offset text behind e
-tells_before_marker offset text behind (Item f) marker h = (marker, h)
-tells_before_marker offset text behind (DuplicateName span) marker h = (marker, h)
-tells_before_marker offset text behind Memory marker h = tt
-tells_before_marker offset text behind _ marker h = absurd h
+pub tells_before_marker : (limits : Limits) (offset : ℕ) (text : List ℕ) (behind : Option LineKind) (e : StreamError)
+    → behind ≡ Some Marker → TellsOfText limits offset text e → TellsOf limits offset text behind e
+tells_before_marker limits offset text behind (Item f) marker h = (marker, h)
+tells_before_marker limits offset text behind (DuplicateName span) marker h = (marker, h)
+tells_before_marker limits offset text behind Memory marker h = tt
+tells_before_marker limits offset text behind _ marker h = absurd h
 
 -- what a text is refused as is a fault of a line, where the text isn't too long
 pub block_fault : (offset : ℕ) (e : SyntaxError) → e ≢ TextTooLong

@@ -1,5 +1,6 @@
 -- What `feed` and `finish` promise, from what their parts do.
 use Rattle.std.proofs.Common.{◌≡◌, ℕ, ◌+◌, ◌≤◌, Option, Some, None, List, [], ◌++◌, length, take, refl, sym, ap, ◌∙◌, subst, arith, append-nil, length-append, length-take, IsSome, true, false}
+use Rattle.fz_syntax.specs.Limits.{Limits}
 use Rattle.fz_stream.specs.Parts.{lines_of, joined, Frame, Covers}
 use Rattle.fz_stream.specs.declared.splitter.Stage.{Stage}
 use Rattle.fz_stream.specs.declared.splitter.Stage.TheVariants.{Running}
@@ -36,28 +37,30 @@ stands_for s h held line taken bytes frames f =
     }
 
 -- a splitter's state by its parts
-abbrev pub made_state : Held → Option Ended → Stage → SplitterState
-made_state held ended stage = record {
+abbrev pub made_state : Held → Option Ended → Stage → Limits → SplitterState
+made_state held ended stage limits = record {
   held = held_while ended held.buffer.items;
   line = line_while ended held.line;
   taken = held.before + length held.buffer.items;
   waits = waiting_of ended held.before (take held.line held.buffer.items);
   stage = stage;
+  limits = limits;
 }
 
-pub fed : (old new : Held) (piece : List ℕ) (n : ℕ) (stage : Stage) → stage ≡ Running
+pub fed : (old new : Held) (piece : List ℕ) (n : ℕ) (stage : Stage) (limits : Limits)
+    → stage ≡ Running
     → n ≤ length piece
     → new.before + length new.buffer.items ≡ old.before + length old.buffer.items + n → (ended : Option Ended) (bytes : List ℕ) (frames : List Frame) → Stands old bytes frames → AfterBytes ended new (bytes ++ take n piece) frames
-    → Fits (made_state new ended stage) (bytes ++ take n piece) (frames ++ frames_in (waiting_of ended new.before (take new.line new.buffer.items)))
-fed old new piece n stage running within count None bytes frames s k =
-    subst (Fits (made_state new None stage) (bytes ++ take n piece)) (sym (append-nil frames)) (record {
+    → Fits (made_state new ended stage limits) (bytes ++ take n piece) (frames ++ frames_in (waiting_of ended new.before (take new.line new.buffer.items)))
+fed old new piece n stage limits running within count None bytes frames s k =
+    subst (Fits (made_state new None stage limits) (bytes ++ take n piece)) (sym (append-nil frames)) (record {
       running = running;
       taken = omega (arith, count, taken_of old bytes frames s, length-append bytes (take n piece), length-take n piece, within);
       holds = holds_of new _ frames k;
       line = k.has_line.place;
       waits = tt;
     })
-fed old new piece n stage running within count (Some e) bytes frames s k = record {
+fed old new piece n stage limits running within count (Some e) bytes frames s k = record {
   running = running;
   taken = omega (arith, count, taken_of old bytes frames s, length-append bytes (take n piece), length-take n piece, within);
   holds = record { lines = lines_of (bytes ++ take n piece); gap = []; body = []; current = []; covers = k.covers; whole = sym (append-nil _ ∙ joined-lines_of _); ended = k.ended; goes_on = tt; held_are = refl };

@@ -1,5 +1,6 @@
 -- How the end of a stream changes the state of a splitter.
 use Rattle.std.proofs.Common.{◌≡◌, ℕ, ◌+◌, ◌<◌, List, [], ◌∷◌, ◌++◌, length, take, Some, None, refl, sym, ap, ◌∙◌, subst, append-nil, length-append, arith}
+use Rattle.fz_syntax.specs.Limits.{Limits}
 use Rattle.fz_syntax.specs.Span.{Span}
 use Rattle.fz_stream.specs.declared.held.Ended.{Ended}
 use Rattle.fz_stream.specs.declared.held.Held.{Held}
@@ -53,12 +54,12 @@ module _ (h : Held) (bytes : List ℕ) (frames : List Frame) (s : Stands h bytes
         record { lines = s.lines; gap = l.gap; body = l.body; line = s.current; whole = lines_are; covers = l.covers; unended = no_end s.current s.goes_on; closes = ends _ _ _ l }
 
     -- the last line isn't allowed there
-    pub ends_broken : (fault : StreamError)
-        → ((lines : List Line) (frames : List Frame) (line : Line) → HasLine h lines frames line → BreaksBlock lines frames line fault)
-        → BreaksAfter CannotEnd bytes frames fault
-    ends_broken fault breaks =
+    pub ends_broken : (limits : Limits) (fault : StreamError)
+        → ((lines : List Line) (frames : List Frame) (line : Line) → HasLine h lines frames line → BreaksBlock limits lines frames line fault)
+        → BreaksAfter limits CannotEnd bytes frames fault
+    ends_broken limits fault breaks =
         let b = breaks _ _ _ s.has_line in
-        breaks_at CannotEnd bytes s.lines frames s.current [] fault lines_are b (no_end s.current s.goes_on, b.cannot)
+        breaks_at limits CannotEnd bytes s.lines frames s.current [] fault lines_are b (no_end s.current s.goes_on, b.cannot)
 
 module _ (h : Held) (bytes : List ℕ) (frames : List Frame) (l : HasLine h (lines_of bytes) frames []) where
   -- no block is left open
@@ -68,10 +69,10 @@ module _ (h : Held) (bytes : List ℕ) (frames : List Frame) (l : HasLine h (lin
       (l.gap, subst (Covers (lines_of bytes) frames l.gap) none l.covers)
 
   -- a block is left open
-  pub ends_left_open : 0 < h.line → (span : Span) → span.start ≡ h.before
+  pub ends_left_open : (limits : Limits) → 0 < h.line → (span : Span) → span.start ≡ h.before
       → span.end ≡ h.before + length h.buffer.items
-      → BreaksAfter CannotEnd bytes frames (Unfinished span)
-  ends_left_open some span from upto = record {
+      → BreaksAfter limits CannotEnd bytes frames (Unfinished span)
+  ends_left_open limits some span from upto = record {
     lines = lines_of bytes;
     gap = l.gap;
     body = l.body;

@@ -4,13 +4,14 @@ use Rattle.std.proofs.Common.{◌≡◌, ◌≢◌, ℕ, ◌+◌, Option, Some, 
 use Rattle.std.specs.List.{AllByRecursion}
 use Rattle.fz_syntax.specs.Tree.{Printed}
 use Rattle.fz_syntax.proofs.More.{one_list_of_items}
-use Rattle.fz_syntax.specs.Text.{IsTextOfItems}
+use Rattle.fz_syntax.specs.Limits.{Limits}
+use Rattle.fz_syntax.specs.Text.{IsTextOfItemsWithin}
 use Rattle.fz_stream.specs.declared.error.StreamError.{StreamError}
 use Rattle.fz_stream.specs.declared.line.LineKind.{LineKind}
 use Rattle.fz_stream.specs.declared.line.LineKind.TheVariants.{Blank, Comment, Marker, Claim}
 use Rattle.fz_stream.specs.declared.step.Step.{Step}
 use Rattle.fz_stream.specs.declared.step.Step.TheVariants.{GoesOn, EndsBlock, Claims, Breaks}
-use Rattle.fz_stream.specs.Parts.{Line, lines_of, joined, kind_of, IsFiller, IsFillerKind, IsInner, IsInnerKind, SolutionBlock, StreamPart, BlockPart, ClaimPart, Frame, BlockFrame, ClaimFrame, frame_of, IsBlockText, HasItems, AreBlockLines, Closes, AreLinesOfFrame, AreLinesOf, Covers, IsFramed, IsStreamText}
+use Rattle.fz_stream.specs.Parts.{Line, lines_of, joined, kind_of, IsFiller, IsFillerKind, IsInner, IsInnerKind, SolutionBlock, StreamPart, BlockPart, ClaimPart, Frame, BlockFrame, ClaimFrame, frame_of, IsBlockText, HasItems, AreBlockLines, Closes, AreLinesOfFrame, AreLinesOf, Covers, IsFramed, IsStreamTextWithin}
 use Rattle.fz_stream.specs.Broken.{CannotFollow, BreaksText, BreaksAfter}
 use Rattle.fz_stream.specs.Step.{step_of}
 use Rattle.fz_stream.proofs.PartLemmas.{two_parts}
@@ -142,32 +143,32 @@ somes_once (f ∷ fs) (g ∷ gs) e =
 abbrev block_from : ℕ → List ℕ → List Printed → SolutionBlock
 block_from o t i = record { offset = o; text = t; items = i }
 
-same_part : (part other : StreamPart) → HasItems part → HasItems other
+same_part : (a b : Limits) (part other : StreamPart) → HasItems a part → HasItems b other
     → frame_of other ≡ frame_of part → other ≡ part
-same_part (BlockPart b) (BlockPart c) h g e =
+same_part l m (BlockPart b) (BlockPart c) h g e =
     let offsets : c.offset ≡ b.offset = cc in
     let texts : c.text ≡ b.text = cc in
-    let items : c.items ≡ b.items = one_list_of_items b.text c.items b.items (subst (λ t. IsTextOfItems t c.items) texts g.0) h.0 in
+    let items : c.items ≡ b.items = one_list_of_items m l b.text c.items b.items (subst (λ t. IsTextOfItemsWithin m t c.items) texts g.0) h.0 in
     ap BlockPart (ap (λ (o : ℕ). block_from o c.text c.items) offsets ∙ ap (λ (t : List ℕ). block_from b.offset t c.items) texts ∙ ap (λ (i : List Printed). block_from b.offset b.text i) items)
-same_part (BlockPart b) (ClaimPart d) h g e = absurd (let no : ClaimFrame d ≡ BlockFrame b.offset b.text = e in cc)
-same_part (ClaimPart c) (BlockPart b) h g e = absurd (let no : BlockFrame b.offset b.text ≡ ClaimFrame c = e in cc)
-same_part (ClaimPart c) (ClaimPart d) h g e = (let inside : d ≡ c = cc in ap ClaimPart inside)
+same_part l m (BlockPart b) (ClaimPart d) h g e = absurd (let no : ClaimFrame d ≡ BlockFrame b.offset b.text = e in cc)
+same_part l m (ClaimPart c) (BlockPart b) h g e = absurd (let no : BlockFrame b.offset b.text ≡ ClaimFrame c = e in cc)
+same_part l m (ClaimPart c) (ClaimPart d) h g e = (let inside : d ≡ c = cc in ap ClaimPart inside)
 
-same_parts : (parts others : List StreamPart) → AllByRecursion HasItems parts
-    → AllByRecursion HasItems others → map frame_of others ≡ map frame_of parts → others ≡ parts
-same_parts [] [] h g e = refl
-same_parts [] (q ∷ others) h g e = absurd (let no : frame_of q ∷ map frame_of others ≡ [] = e in cc)
-same_parts (p ∷ parts) [] h g e = absurd (let no : [] ≡ frame_of p ∷ map frame_of parts = e in cc)
-same_parts (p ∷ parts) (q ∷ others) h g e =
+same_parts : (a b : Limits) (parts others : List StreamPart)
+    → AllByRecursion (HasItems a) parts → AllByRecursion (HasItems b) others → map frame_of others ≡ map frame_of parts → others ≡ parts
+same_parts l m [] [] h g e = refl
+same_parts l m [] (q ∷ others) h g e = absurd (let no : frame_of q ∷ map frame_of others ≡ [] = e in cc)
+same_parts l m (p ∷ parts) [] h g e = absurd (let no : [] ≡ frame_of p ∷ map frame_of parts = e in cc)
+same_parts l m (p ∷ parts) (q ∷ others) h g e =
     let here : frame_of q ≡ frame_of p = cc in
     let more : map frame_of others ≡ map frame_of parts = cc in
-    ap (λ x. x ∷ others) (same_part p q h.0 g.0 here) ∙ ap (λ l. p ∷ l) (same_parts parts others h.1 g.1 more)
+    ap (λ x. x ∷ others) (same_part l m p q h.0 g.0 here) ∙ ap (λ l. p ∷ l) (same_parts l m parts others h.1 g.1 more)
 
 -- a stream's bytes are a text of one list of parts
-pub parts_once : (bytes : List ℕ) (parts others : List StreamPart) → IsStreamText bytes parts
-    → IsStreamText bytes others → others ≡ parts
-parts_once bytes parts others t u =
-    same_parts parts others t.items u.items (somes_once (map frame_of others) (map frame_of parts) (sym (cut_whole bytes (map frame_of others) u.framed) ∙ cut_whole bytes (map frame_of parts) t.framed))
+pub parts_once : (a b : Limits) (bytes : List ℕ) (parts others : List StreamPart)
+    → IsStreamTextWithin a bytes parts → IsStreamTextWithin b bytes others → others ≡ parts
+parts_once a b bytes parts others t u =
+    same_parts a b parts others t.items u.items (somes_once (map frame_of others) (map frame_of parts) (sym (cut_whole bytes (map frame_of others) u.framed) ∙ cut_whole bytes (map frame_of parts) t.framed))
 
 no_none : (fs : List Frame) (xs more : List (Option Frame)) → somes fs ≡ xs ++ None ∷ more → ⊥
 no_none [] [] more e = (let no : [] ≡ None ∷ more = e in cc)
@@ -176,37 +177,37 @@ no_none (f ∷ fs) [] more e = (let no : Some f ≡ None = cc in cc)
 no_none (f ∷ fs) (x ∷ xs) more e = no_none fs xs more (let rest : somes fs ≡ xs ++ None ∷ more = cc in rest)
 
 -- a block among the parts has items
-items_of : (parts : List StreamPart) (xs more : List (Option Frame)) (offset : ℕ) (text : List ℕ)
-    → AllByRecursion HasItems parts
+items_of : (limits : Limits) (parts : List StreamPart) (xs more : List (Option Frame)) (offset : ℕ) (text : List ℕ)
+    → AllByRecursion (HasItems limits) parts
     → somes (map frame_of parts) ≡ xs ++ Some (BlockFrame offset text) ∷ more
-    → (items : List Printed) × IsBlockText text items
-items_of [] [] more offset text h e = absurd (let no : [] ≡ Some (BlockFrame offset text) ∷ more = e in cc)
-items_of [] (x ∷ xs) more offset text h e = absurd (let no : [] ≡ x ∷ (xs ++ Some (BlockFrame offset text) ∷ more) = e in cc)
-items_of (BlockPart b ∷ parts) [] more offset text h e = (let texts : b.text ≡ text = cc in (b.items, subst (λ t. IsBlockText t b.items) texts h.0))
-items_of (ClaimPart c ∷ parts) [] more offset text h e = absurd (let no : ClaimFrame c ≡ BlockFrame offset text = cc in cc)
-items_of (p ∷ parts) (x ∷ xs) more offset text h e =
-    items_of parts xs more offset text h.1 (let rest : somes (map frame_of parts) ≡ xs ++ Some (BlockFrame offset text) ∷ more = cc in rest)
+    → (items : List Printed) × IsBlockText limits text items
+items_of limits [] [] more offset text h e = absurd (let no : [] ≡ Some (BlockFrame offset text) ∷ more = e in cc)
+items_of limits [] (x ∷ xs) more offset text h e = absurd (let no : [] ≡ x ∷ (xs ++ Some (BlockFrame offset text) ∷ more) = e in cc)
+items_of limits (BlockPart b ∷ parts) [] more offset text h e = (let texts : b.text ≡ text = cc in (b.items, subst (λ t. IsBlockText limits t b.items) texts h.0))
+items_of limits (ClaimPart c ∷ parts) [] more offset text h e = absurd (let no : ClaimFrame c ≡ BlockFrame offset text = cc in cc)
+items_of limits (p ∷ parts) (x ∷ xs) more offset text h e =
+    items_of limits parts xs more offset text h.1 (let rest : somes (map frame_of parts) ≡ xs ++ Some (BlockFrame offset text) ∷ more = cc in rest)
 
 -- what comes after an open block that is broken
-broken_rest : (parts : List StreamPart) (xs : List (Option Frame)) (at start : ℕ) (body : List Line)
-    (rest : List Line) → body ≢ [] → BreaksText (joined body) rest → AllByRecursion HasItems parts
+broken_rest : (limits : Limits) (parts : List StreamPart) (xs : List (Option Frame)) (at start : ℕ) (body : List Line)
+    (rest : List Line) → body ≢ [] → BreaksText limits (joined body) rest → AllByRecursion (HasItems limits) parts
     → somes (map frame_of parts) ≡ xs ++ cut at (opened body start) (joined body) rest → ⊥
-broken_rest parts xs at start [] rest some breaks items e = some refl
-broken_rest parts xs at start (x ∷ body) [] some breaks items e = no_none (map frame_of parts) xs [] e
-broken_rest parts xs at start (x ∷ body) (line ∷ rest) some breaks items e = by (kind_of line) breaks e
+broken_rest limits parts xs at start [] rest some breaks items e = some refl
+broken_rest limits parts xs at start (x ∷ body) [] some breaks items e = no_none (map frame_of parts) xs [] e
+broken_rest limits parts xs at start (x ∷ body) (line ∷ rest) some breaks items e = by (kind_of line) breaks e
   where
-    by : (k : LineKind) → CannotFollow (x ++ joined body) k
+    by : (k : LineKind) → CannotFollow limits (x ++ joined body) k
         → somes (map frame_of parts) ≡ xs ++ after (step_of (Some start) at k) (λ b t. cut (at + length line) b t rest) (x ++ joined body) line
         → ⊥
-    by Marker breaks e = let w = items_of parts xs (cut (at + length line) None [] rest) start (x ++ joined body) items e in breaks w.0 w.1
+    by Marker breaks e = let w = items_of limits parts xs (cut (at + length line) None [] rest) start (x ++ joined body) items e in breaks w.0 w.1
     by (Claim c) breaks e = no_none (map frame_of parts) xs [] e
     by _ breaks e = breaks
 
 -- where a stream stops, its bytes are a text of no parts
-pub stops_no_text : (bytes : List ℕ) (frames : List Frame) (fault : StreamError)
-    → BreaksAfter BreaksText bytes frames fault → (parts : List StreamPart)
-    → IsStreamText bytes parts → ⊥
-stops_no_text bytes frames fault s parts t =
+pub stops_no_text : (limits : Limits) (bytes : List ℕ) (frames : List Frame) (fault : StreamError)
+    → BreaksAfter limits BreaksText bytes frames fault → (parts : List StreamPart)
+    → IsStreamTextWithin limits bytes parts → ⊥
+stops_no_text limits bytes frames fault s parts t =
     let c = cut_of s.lines s.rest frames s.gap s.body s.covers in
-    broken_rest parts (somes frames) c.0 c.1 s.body s.rest s.begun s.breaks t.items
+    broken_rest limits parts (somes frames) c.0 c.1 s.body s.rest s.begun s.breaks t.items
     (sym (cut_whole bytes (map frame_of parts) t.framed) ∙ ap (cut 0 None []) s.whole ∙ c.2)

@@ -5,7 +5,8 @@ use Rattle.fz_syntax.specs.declared.Printed.{Printed}
 use Rattle.fz_syntax.specs.Placed.{ArePlacedIn, placed_items, placed_printed}
 use Rattle.fz_syntax.specs.Places.{IsSpanWithin}
 use Rattle.fz_syntax.specs.Span.{Span}
-use Rattle.fz_syntax.specs.Text.{IsTextOfItems}
+use Rattle.fz_syntax.specs.Limits.{Limits}
+use Rattle.fz_syntax.specs.Text.{IsTextOfItemsWithin}
 use Rattle.fz_syntax.specs.View.{bare_items}
 use Rattle.fz_syntax.proofs.Standing.{LieBetween, lie_apart, lie_in, printed_lies}
 use Rattle.fz_stream.specs.Moving.{moved_span}
@@ -38,11 +39,11 @@ again_within text items span w h = subst (IsSpanWithin (length text)) (sym w.2)
     (placed_again (length text) items w.0 w.1 (lie_in text (placed_items items) h))
 
 -- and it is the second printing
-pub second_printing : (offset : ℕ) (text : List ℕ) (items : List Printed) (span moved : Span)
-    → AgainAt items span → IsTextOfItems text (bare_items items)
+pub second_printing : (limits : Limits) (offset : ℕ) (text : List ℕ) (items : List Printed) (span moved : Span)
+    → AgainAt items span → IsTextOfItemsWithin limits text (bare_items items)
     → ArePlacedIn text (placed_items items)
-    → moved ≡ moved_span offset span → IsSecondPrinting offset text moved
-second_printing offset text items span moved w t h e = record {
+    → moved ≡ moved_span offset span → IsSecondPrinting limits offset text moved
+second_printing limits offset text items span moved w t h e = record {
   items = items;
   again = w.0;
   text_of = t;

@@ -7,6 +7,7 @@ use Rattle.fz_stream.specs.declared.error.StreamError.TheVariants.{Unfinished}
 use Rattle.fz_stream.specs.declared.line.ClaimKind.TheVariants.{Complete, Unsatisfiable, Error, UnsatOrUnbounded}
 use Rattle.fz_stream.specs.declared.line.LineKind.TheVariants.{Blank, Comment, Marker, Claim, Item as ItemLine}
 use Rattle.fz_stream.specs.Parts.{Line, lines_of, kind_of, IsFiller, BlockPart, ClaimPart, BlockFrame, ClaimFrame, AreBlockLines, AreLinesOfFrame, Covers, HasDistinctNames, IsStreamText}
+use Rattle.fz_syntax.specs.Lexing.{standard_limits}
 use Rattle.fz_stream.specs.Broken.{IsBrokenAfter, IsBrokenAtEndAfter}
 use Rattle.fz_stream.specs.Splitting.{Holds}
 
@@ -71,7 +72,7 @@ unfolding kind_of
 row_empty =
     let block : AreLinesOfFrame 0 ((codes "% a" ++ 10 ∷ []) ∷ (codes "----------" ++ 10 ∷ []) ∷ []) (BlockFrame 4 []) = record { gap = (codes "% a" ++ 10 ∷ []) ∷ []; body = []; line = codes "----------" ++ 10 ∷ []; whole = refl; fillers = (tt, tt); own = tt; closes = (refl, refl, refl) } in
     let claim : AreLinesOfFrame 15 (codes "=====ERROR=====" ∷ []) (ClaimFrame Error) = record { gap = []; body = []; line = codes "=====ERROR====="; whole = refl; fillers = tt; own = tt; closes = (refl, refl) } in
-    record { framed = ([], record { covered = (codes "% a" ++ 10 ∷ []) ∷ (codes "----------" ++ 10 ∷ []) ∷ codes "=====ERROR=====" ∷ []; whole = refl; of_frames = (_, _, refl, block, (_, [], refl, claim, refl)); fillers = tt; own = tt }); items = ((none_text, none_apart), (tt, tt)) }
+    record { framed = ([], record { covered = (codes "% a" ++ 10 ∷ []) ∷ (codes "----------" ++ 10 ∷ []) ∷ codes "=====ERROR=====" ∷ []; whole = refl; of_frames = (_, _, refl, block, (_, [], refl, claim, refl)); fillers = tt; own = tt }); items = ((none_text standard_limits, none_apart), (tt, tt)) }
 
 -- no frame, and an open block
 abbrev no_frames : (gap body : List Line) → AllByRecursion IsFiller gap → AreBlockLines body
@@ -93,7 +94,7 @@ no_line : (l : Line) (lines : List Line) → l ∷ lines ≡ [] → ⊥
 no_line l lines e = cc
 
 -- `x = 1;` and a claim without LF: broken at the end, and broken for good with its LF
-broken_at_end : IsBrokenAtEndAfter (codes "x = 1;" ++ (10 ∷ codes "==========")) [] (Unfinished (record { start = 0; end = 7 }))
+broken_at_end : IsBrokenAtEndAfter standard_limits (codes "x = 1;" ++ (10 ∷ codes "==========")) [] (Unfinished (record { start = 0; end = 7 }))
 unfolding kind_of
 broken_at_end = (
   tt,
@@ -110,7 +111,7 @@ broken_at_end = (
   },
 )
 
-broken : IsBrokenAfter (codes "x = 1;" ++ (10 ∷ codes "==========" ++ 10 ∷ [])) [] (Unfinished (record { start = 0; end = 7 }))
+broken : IsBrokenAfter standard_limits (codes "x = 1;" ++ (10 ∷ codes "==========" ++ 10 ∷ [])) [] (Unfinished (record { start = 0; end = 7 }))
 unfolding kind_of
 broken = (
   tt,

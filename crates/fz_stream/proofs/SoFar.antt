@@ -2,6 +2,7 @@
 use Rattle.std.proofs.Common.{◌≡◌, ℕ, ◌+◌, ◌-◌, ◌≤◌, Option, Some, None, List, [], ◌∷◌, ◌++◌, length, refl, sym, ap, ◌∙◌, subst, append_assoc, append-nil, length-append, arith, take, drop, map}
 use Rattle.std.proofs.lemmas.List.{drop-drop, drop_all, drop_at, take_at, length-drop, map_push}
 use Rattle.std.specs.List.{AllByRecursion}
+use Rattle.fz_syntax.specs.Lexing.{standard_limits}
 use Rattle.fz_syntax.specs.Span.{Span}
 use Rattle.fz_syntax.specs.Tree.{Printed}
 use Rattle.fz_stream.specs.declared.error.StreamError.{StreamError}
@@ -26,7 +27,7 @@ use Rattle.fz_stream.proofs.StopLemmas.{breaks_block, breaks_claim, breaks_at}
 -- open block; and the blocks and claims that were read are those of the frames.
 pub record ReadSoFar (stream : List ℕ) (begun : Option ℕ) (at : ℕ) (blocks : List SolutionBlock) (claims : List ClaimRead) : Type 0 where
   pub parts : List StreamPart
-  pub items : AllByRecursion HasItems parts
+  pub items : AllByRecursion (HasItems standard_limits) parts
   pub lines : List Line
   pub gap : List Line
   pub body : List Line
@@ -121,7 +122,7 @@ module _ (stream : List ℕ) (begun : Option ℕ) (at : ℕ) (blocks : List Solu
       }
 
   -- the line ends a frame
-  so_far_part : (part : StreamPart) → HasItems part
+  so_far_part : (part : StreamPart) → HasItems standard_limits part
       → Closes (length (joined s.covers.covered) + length (joined s.gap)) s.body line (frame_of part)
       → (more : List SolutionBlock) (claimed : List ClaimRead)
       → more ≡ blocks_in (part ∷ []) → claimed ≡ claims_in (0 + length (blocks_in s.parts)) (part ∷ [])
@@ -130,7 +131,7 @@ module _ (stream : List ℕ) (begun : Option ℕ) (at : ℕ) (blocks : List Solu
       let covers = into_frames s.covers line (frame_of part) closes in
       record {
         parts = s.parts ++ part ∷ [];
-        items = every_append HasItems s.parts (part ∷ []) s.items (items, tt);
+        items = every_append (HasItems standard_limits) s.parts (part ∷ []) s.items (items, tt);
         lines = s.lines ++ line ∷ [];
         gap = [];
         body = [];
@@ -149,9 +150,9 @@ module _ (stream : List ℕ) (begun : Option ℕ) (at : ℕ) (blocks : List Solu
         claims_are = ap (λ l. l ++ claimed) s.claims_are ∙ ap (λ l. claims_in 0 s.parts ++ l) claimed_are ∙ sym (claims_in-append 0 s.parts (part ∷ []));
       }
 
-  so_far_stops : (fault : StreamError) → BreaksBlock s.lines (map frame_of s.parts) line fault
+  so_far_stops : (fault : StreamError) → BreaksBlock standard_limits s.lines (map frame_of s.parts) line fault
       → StopsAfter stream s.parts fault
-  so_far_stops fault b = (s.items, breaks_at BreaksText stream s.lines (map frame_of s.parts) line _ fault left_are b b.cannot)
+  so_far_stops fault b = (s.items, breaks_at standard_limits BreaksText stream s.lines (map frame_of s.parts) line _ fault left_are b b.cannot)
 
   module _ (start : ℕ) (e : step_of begun at (kind_of line) ≡ EndsBlock start) (offset : ℕ) (text : List ℕ) (from : offset ≡ start) (is : text ≡ take (at - start) (drop start stream)) where
     -- the line closes a block of this text, which is what is between its start and the line
@@ -168,7 +169,7 @@ module _ (stream : List ℕ) (begun : Option ℕ) (at : ℕ) (blocks : List Solu
         let dropped : drop start stream ≡ joined s.body ++ behind = ap (drop start) split ∙ drop_at front _ start size in
         is ∙ ap (take (at - start)) dropped ∙ take_at (joined s.body) behind (at - start) (omega (arith, s.place_is, d.1))
 
-    pub so_far_block : (items : List Printed) → IsBlockText text items
+    pub so_far_block : (items : List Printed) → IsBlockText standard_limits text items
         → ReadSoFar stream None (at + length line) (blocks ++ record { offset = offset; text = text; items = items } ∷ []) claims
     so_far_block items t =
         let d = line_does (EndsBlock start) e in
@@ -180,11 +181,11 @@ module _ (stream : List ℕ) (begun : Option ℕ) (at : ℕ) (blocks : List Solu
     so_far_text_within = omega (arith, from, ap length text_is, (line_does (EndsBlock start) e).1, s.place_is, s.within)
 
     -- or is none of a block
-    pub so_far_stops_at_block : ((items : List Printed) → IsBlockText text items → ⊥)
-        → (fault : StreamError) → TellsOfText offset text fault → StopsAfter stream s.parts fault
+    pub so_far_stops_at_block : ((items : List Printed) → IsBlockText standard_limits text items → ⊥)
+        → (fault : StreamError) → TellsOfText standard_limits offset text fault → StopsAfter stream s.parts fault
     so_far_stops_at_block none fault told =
         let d = line_does (EndsBlock start) e in
-        so_far_stops fault (breaks_block _ _ _ _ s.covers line d.0 offset text (from ∙ d.1) text_is none fault told)
+        so_far_stops fault (breaks_block _ _ _ _ _ s.covers line d.0 offset text (from ∙ d.1) text_is none fault told)
 
   pub so_far_claim : (c : ClaimKind) → step_of begun at (kind_of line) ≡ Claims c → (claim : ClaimRead) → claim ≡ record { after = length blocks; kind = c }
       → ReadSoFar stream begun (at + length line) blocks (claims ++ claim ∷ [])
@@ -202,7 +203,7 @@ module _ (stream : List ℕ) (begun : Option ℕ) (at : ℕ) (blocks : List Solu
   pub so_far_stops_at_claim : (n : ℕ) → step_of begun at (kind_of line) ≡ Breaks n → (span : Span)
       → span.start ≡ n → span.end ≡ at → StopsAfter stream s.parts (Unfinished span)
   so_far_stops_at_claim n e span from upto =
-      so_far_stops (Unfinished span) (breaks_claim _ _ _ _ s.covers line n _ refl (line_does (Breaks n) e) span from (upto ∙ s.place_is))
+      so_far_stops (Unfinished span) (breaks_claim _ _ _ _ _ s.covers line n _ refl (line_does (Breaks n) e) span from (upto ∙ s.place_is))
 
 -- the end of the stream
 module _ (stream : List ℕ) (at : ℕ) (blocks : List SolutionBlock) (claims : List ClaimRead) (end : length stream ≤ at) (begun : Option ℕ) (s : ReadSoFar stream begun at blocks claims) where
@@ -214,7 +215,7 @@ module _ (stream : List ℕ) (at : ℕ) (blocks : List SolutionBlock) (claims : 
       let none : s.body ≡ [] = none_open s.body _ (sym e ∙ s.begins) in
       let covers : Covers (lines_of stream) (map frame_of s.parts) s.gap [] = subst (λ l. Covers l (map frame_of s.parts) s.gap []) (sym (lines_are ∙ append-nil s.lines)) (subst (Covers s.lines (map frame_of s.parts) s.gap) none s.covers) in
       let text : IsStreamText stream s.parts = record { framed = (s.gap, covers); items = s.items } in
-      record { parts = s.parts; text = text; only = λ others t. parts_once stream s.parts others text t; blocks_are = s.blocks_are; claims_are = s.claims_are }
+      record { parts = s.parts; text = text; only = λ others t. parts_once standard_limits standard_limits stream s.parts others text t; blocks_are = s.blocks_are; claims_are = s.claims_are }
 
   pub so_far_stops_at_end : (n : ℕ) → begun ≡ Some n → (span : Span) → span.start ≡ n
       → span.end ≡ length stream → StopsAfter stream s.parts (Unfinished span)

@@ -4,6 +4,7 @@ use Rattle.std.proofs.lemmas.Bool.{cases_lt}
 use Rattle.std.proofs.lemmas.List.{take-take}
 use Rattle.std.proofs.Math.Seq.{take-add}
 use Rattle.std.specs.List.{AllByRecursion}
+use Rattle.fz_syntax.specs.Limits.{Limits}
 use Rattle.fz_stream.specs.declared.held.Ended.{Ended}
 use Rattle.fz_stream.specs.declared.held.Held.{Held}
 use Rattle.fz_stream.specs.declared.error.StreamError.{StreamError}
@@ -51,19 +52,19 @@ holds_more bytes frames held more h none = record {
   held_are = ap (λ l. l ++ more) h.held_are ∙ append_assoc (joined h.body) h.current more;
 }
 
-pub record Taking (old now : Held) (piece : List ℕ) (at : ℕ) : Type 0 where
+pub record Taking (most_held : ℕ) (old now : Held) (piece : List ℕ) (at : ℕ) : Type 0 where
   pub within : at ≤ length piece
   pub line : now.line ≤ length now.buffer.items
   pub count : now.before + length now.buffer.items ≡ old.before + length old.buffer.items + at
-  pub most : length now.buffer.items ≤ 2 ^ 24
+  pub most : length now.buffer.items ≤ most_held
   pub most_taken : now.before + length now.buffer.items ≤ 2 ^ 40
   pub stands : (bytes : List ℕ) (frames : List Frame) → Stands old bytes frames
       → Stands now (bytes ++ take at piece) frames
   pub room : (bytes : List ℕ) (frames : List Frame) → Stands old bytes frames
-      → HasRoomFor bytes piece frames at
+      → HasRoomFor most_held bytes piece frames at
 
 -- the next line of the piece
-module _ (old now : Held) (piece : List ℕ) (at : ℕ) (t : Taking old now piece at) (part : List ℕ) (rest : List ℕ) (left : rest ≡ drop at piece) (front : part ≡ take (length part) rest)
+module _ (most_held : ℕ) (old now : Held) (piece : List ℕ) (at : ℕ) (t : Taking most_held old now piece at) (part : List ℕ) (rest : List ℕ) (left : rest ≡ drop at piece) (front : part ≡ take (length part) rest)
     (within : length part ≤ length rest) (some : 0 < length part) (cut : lines_of rest ≡ part ∷ lines_of (drop (length part) rest)) where
   either : EndsWithFeed part ⊎ HasNoFeed part
   either = first_cut rest part (lines_of (drop (length part) rest)) cut
@@ -87,14 +88,14 @@ module _ (old now : Held) (piece : List ℕ) (at : ℕ) (t : Taking old now piec
       (holds_more (bytes ++ take at piece) frames now.buffer.items (take n part) (holds_of now _ frames (t.stands bytes frames k)) (no_feed_before part n either l))
 
   -- the line fits: there is room for each of its bytes
-  pub room_next : length now.buffer.items + length part ≤ 2 ^ 24
+  pub room_next : length now.buffer.items + length part ≤ most_held
       → now.before + length now.buffer.items + length part ≤ 2 ^ 40
-      → (bytes : List ℕ) (frames : List Frame) → Stands old bytes frames → HasRoomFor bytes piece frames (at + length part)
+      → (bytes : List ℕ) (frames : List Frame) → Stands old bytes frames → HasRoomFor most_held bytes piece frames (at + length part)
   room_next fits over bytes frames k i l =
       ⊎_elim (λ before. t.room bytes frames k i before)
-      (λ behind. (let place : at + (i - at) ≡ i = omega (arith, behind) in subst (HasRoomAt bytes piece frames) place (in_line (i - at) (omega (arith, behind, l))))) (cases_lt i at)
+      (λ behind. (let place : at + (i - at) ≡ i = omega (arith, behind) in subst (HasRoomAt most_held bytes piece frames) place (in_line (i - at) (omega (arith, behind, l))))) (cases_lt i at)
     where
-      in_line : (n : ℕ) → n < length part → HasRoomAt bytes piece frames (at + n)
+      in_line : (n : ℕ) → n < length part → HasRoomAt most_held bytes piece frames (at + n)
       in_line n less = (
         now.buffer.items ++ take n part,
         holds_front n less bytes frames k,
@@ -105,7 +106,7 @@ module _ (old now : Held) (piece : List ℕ) (at : ℕ) (t : Taking old now piec
   -- the line doesn't fit: of its bytes n could be taken
   pub passes_limit : (n : ℕ) → n < length part → (bytes : List ℕ) (frames : List Frame)
       → Stands old bytes frames
-      → (length now.buffer.items + n ≡ 2 ^ 24) ⊎ (now.before + length now.buffer.items + n ≡ 2 ^ 40) → PassesLimit bytes piece frames
+      → (length now.buffer.items + n ≡ most_held) ⊎ (now.before + length now.buffer.items + n ≡ 2 ^ 40) → PassesLimit most_held bytes piece frames
   passes_limit n l bytes frames k full =
       let some : length (take n part) ≡ n = omega (arith, length-take n part, l) in
       record {
@@ -117,7 +118,7 @@ module _ (old now : Held) (piece : List ℕ) (at : ℕ) (t : Taking old now piec
             (λ e. inr (omega (arith, e, some, taken_of old bytes frames k, t.count, l, inside, length-append bytes (take (at + n) piece), length-take (at + n) piece))) full;
       }
 
-  module _ (mid : Held) (pushed : mid.buffer.items ≡ now.buffer.items ++ part) (same_line : mid.line ≡ now.line) (same_before : mid.before ≡ now.before) (room : length now.buffer.items + length part ≤ 2 ^ 24)
+  module _ (mid : Held) (pushed : mid.buffer.items ≡ now.buffer.items ++ part) (same_line : mid.line ≡ now.line) (same_before : mid.before ≡ now.before) (room : length now.buffer.items + length part ≤ most_held)
       (left_over : now.before + length now.buffer.items + length part ≤ 2 ^ 40) where
     sizes : length mid.buffer.items ≡ length now.buffer.items + length part
     sizes = ap length pushed ∙ length-append now.buffer.items part
@@ -140,7 +141,7 @@ module _ (old now : Held) (piece : List ℕ) (at : ℕ) (t : Taking old now piec
 
     -- no line ended
     pub taking_begun : (get_or part (length part - 1) 0 ≡ 10 → ⊥)
-        → Taking old mid piece (at + length part)
+        → Taking most_held old mid piece (at + length part)
     taking_begun unended = record {
       within = inside;
       line = omega (arith, t.line, sizes, same_line);
@@ -169,7 +170,7 @@ module _ (old now : Held) (piece : List ℕ) (at : ℕ) (t : Taking old now piec
           → new.before + length new.buffer.items ≡ mid.before + length mid.buffer.items
           → length new.buffer.items ≤ length mid.buffer.items
           → EndsLine None new mid
-          → Taking old new piece (at + length part)
+          → Taking most_held old new piece (at + length part)
       taking_line new line count shorter goes_on = record {
         within = inside;
         line = line;
@@ -198,14 +199,14 @@ module _ (old now : Held) (piece : List ℕ) (at : ℕ) (t : Taking old now piec
           }
 
       -- the line isn't allowed there
-      pub takes_broken : (fault : StreamError)
-          → ((lines : List Line) (frames : List Frame) (line : Line) → HasLine mid lines frames line → BreaksBlock lines frames line fault)
-          → (bytes : List ℕ) (frames : List Frame) → Stands old bytes frames → BreaksAfter CannotGoOn (bytes ++ piece) frames fault
-      takes_broken fault breaks bytes frames k =
+      pub takes_broken : (fault : StreamError) (limits : Limits)
+          → ((lines : List Line) (frames : List Frame) (line : Line) → HasLine mid lines frames line → BreaksBlock limits lines frames line fault)
+          → (bytes : List ℕ) (frames : List Frame) → Stands old bytes frames → BreaksAfter limits CannotGoOn (bytes ++ piece) frames fault
+      takes_broken fault limits breaks bytes frames k =
           let s = t.stands bytes frames k in
           let b = breaks _ _ _ (line_mid _ frames s) in
           let more : List ℕ = drop (at + length part) piece in
           let all : bytes ++ piece ≡ (bytes ++ take (at + length part) piece) ++ more = ap (λ l. bytes ++ l) (sym (take-append-drop (at + length part) piece)) ∙ sym (append_assoc bytes (take (at + length part) piece) more) in
           let lines_are : lines_of (bytes ++ piece) ≡ s.lines ++ ((s.current ++ part) ∷ lines_of more) =
           ap lines_of all ∙ lines_after _ (s.lines ++ (s.current ++ part) ∷ []) [] more (whole_line bytes frames s) (whole_lines _ frames s) ∙ append_assoc s.lines ((s.current ++ part) ∷ []) (lines_of more) in
-          breaks_at CannotGoOn (bytes ++ piece) s.lines frames (s.current ++ part) (lines_of more) fault lines_are b (whole_joined s.current part s.goes_on (whole_from_last part either some closed), b.cannot)
+          breaks_at limits CannotGoOn (bytes ++ piece) s.lines frames (s.current ++ part) (lines_of more) fault lines_are b (whole_joined s.current part s.goes_on (whole_from_last part either some closed), b.cannot)

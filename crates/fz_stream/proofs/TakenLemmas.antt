@@ -1,6 +1,7 @@
 -- A block whose text no items have: the stream is broken there.
 use Rattle.std.proofs.Common.{◌≡◌, ℕ, ◌+◌, Option, Some, List, [], ◌∷◌, ◌++◌, length, refl, ap, ◌∙◌, subst, append_assoc, length-append, arith}
 use Rattle.std.specs.List.{AllByRecursion}
+use Rattle.fz_syntax.specs.Limits.{Limits}
 use Rattle.fz_syntax.specs.Tree.{Printed}
 use Rattle.fz_stream.specs.declared.error.StreamError.{StreamError}
 use Rattle.fz_stream.specs.Parts.{Line, lines_of, joined, EndsWithFeed, Frame, BlockFrame, IsBlockText, Closes, Covers}
@@ -18,11 +19,11 @@ last_same [] (b ∷ ys) x y e = absurd (omega (arith, ap length e, length-append
 last_same (a ∷ xs) [] x y e = absurd (omega (arith, ap length e, length-append xs (x ∷ [])))
 last_same (a ∷ xs) (b ∷ ys) x y e = (let r : xs ++ x ∷ [] ≡ ys ++ y ∷ [] = cc in last_same xs ys x y r)
 
-module _ (offset : ℕ) (text : List ℕ) (none : (items : List Printed) → IsBlockText text items → ⊥) (fault : StreamError) (told : TellsOfText offset text fault) (waits : Option Frame) (is : waits ≡ Some (BlockFrame offset text)) where
+module _ (limits : Limits) (offset : ℕ) (text : List ℕ) (none : (items : List Printed) → IsBlockText limits text items → ⊥) (fault : StreamError) (told : TellsOfText limits offset text fault) (waits : Option Frame) (is : waits ≡ Some (BlockFrame offset text)) where
   -- whatever bytes follow it
   pub broken_inside : (s : SplitterState) → s.waits ≡ waits → (bytes more : List ℕ)
       (frames : List Frame) (frame : Frame)
-      → Fits s bytes (frames ++ frame ∷ []) → BreaksAfter CannotGoOn (bytes ++ more) frames fault
+      → Fits s bytes (frames ++ frame ∷ []) → BreaksAfter limits CannotGoOn (bytes ++ more) frames fault
   broken_inside s same bytes more frames frame f =
       let h = f.holds in
       let c = h.covers in
@@ -38,13 +39,13 @@ module _ (offset : ℕ) (text : List ℕ) (none : (items : List Printed) → IsB
       let all : lines_of (bytes ++ more) ≡ lines ++ (k.line ∷ (behind ++ rest)) = lines_after bytes h.lines h.current more h.whole h.ended ∙ ap (λ l. l ++ rest) whole ∙ append_assoc lines (k.line ∷ behind) rest in
       let ends : EndsWithFeed k.line = (every_right EndsWithFeed lines (k.line ∷ behind) (subst (AllByRecursion EndsWithFeed) whole h.ended)).0 in
       let covers : Covers lines frames k.gap k.body = record { covered = w.0; whole = refl; of_frames = w.3; fillers = k.fillers; own = k.own } in
-      let b = breaks_block lines frames k.gap k.body covers k.line closes.0 offset text (omega (arith, closes.1)) closes.2 none fault told in
-      breaks_at CannotGoOn (bytes ++ more) lines frames k.line (behind ++ rest) fault all b (ends, b.cannot)
+      let b = breaks_block limits lines frames k.gap k.body covers k.line closes.0 offset text (omega (arith, closes.1)) closes.2 none fault told in
+      breaks_at limits CannotGoOn (bytes ++ more) lines frames k.line (behind ++ rest) fault all b (ends, b.cannot)
 
   -- at the end of the stream
   pub broken_last : (bytes : List ℕ) (frames : List Frame) → EndsWith waits bytes frames
-      → BreaksAfter CannotEnd bytes frames fault
+      → BreaksAfter limits CannotEnd bytes frames fault
   broken_last bytes frames ends =
       let e = subst (λ o. EndsWith o bytes frames) is ends in
-      let b = breaks_block e.lines frames e.gap e.body e.covers e.line e.closes.0 offset text e.closes.1 e.closes.2 none fault told in
-      breaks_at CannotEnd bytes e.lines frames e.line [] fault e.whole b (e.unended, b.cannot)
+      let b = breaks_block limits e.lines frames e.gap e.body e.covers e.line e.closes.0 offset text e.closes.1 e.closes.2 none fault told in
+      breaks_at limits CannotEnd bytes e.lines frames e.line [] fault e.whole b (e.unended, b.cannot)

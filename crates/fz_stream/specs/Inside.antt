@@ -5,7 +5,7 @@ use Rattle.fz_stream.specs.declared.held.Ended.{Ended}
 use Rattle.fz_stream.specs.declared.splitter.Stage.TheVariants.{Failed}
 use Rattle.fz_stream.specs.declared.splitter.Splitter.TheInside.{Inside}
 use Rattle.fz_stream.specs.Parts.{Frame}
-use Rattle.fz_stream.specs.Splitting.{SplitterState, most_held, most_taken}
+use Rattle.fz_stream.specs.Splitting.{SplitterState, most_taken}
 use Rattle.fz_stream.specs.Keeping.{frame_at, held_while, line_while}
 
 abbrev pub waiting_of : Option Ended → ℕ → List ℕ → Option Frame
@@ -19,10 +19,11 @@ state_of s = record {
   taken = s.held.before + length s.held.buffer.items;
   waits = waiting_of s.ended s.held.before (take s.held.line s.held.buffer.items);
   stage = s.stage;
+  limits = s.limits;
 }
 
 pub record IsSplitter (s : Inside) : Type 0 where
   pub line : s.held.line ≤ length s.held.buffer.items
-  pub most : length s.held.buffer.items ≤ most_held
+  pub most : length s.held.buffer.items ≤ s.limits.bytes
   pub taken : s.held.before + length s.held.buffer.items ≤ most_taken
   pub failed : s.stage ≡ Failed → s.ended ≡ None

@@ -2,6 +2,7 @@
 -- use this file: a reader of the public contracts need not believe it.
 use Rattle.std.specs.Prelude.{◌≡◌, ◌≢◌, ℕ, ◌+◌, List, [], ◌∷◌, ◌++◌, length, take, Option, Some, None}
 use Rattle.std.specs.List.{AllByRecursion}
+use Rattle.fz_syntax.specs.Limits.{Limits}
 use Rattle.fz_stream.specs.declared.error.StreamError.{StreamError}
 use Rattle.fz_stream.specs.declared.held.Ended.{Ended}
 use Rattle.fz_stream.specs.declared.held.Ended.TheVariants.{BlockEnded, ClaimEnded}
@@ -58,14 +59,14 @@ AfterBytes (Some ended) h bytes frames =
     IsCut bytes (frames ++ frame_at ended h.before (take h.line h.buffer.items) ∷ [])
 
 -- The line can't follow the open block, and the fault says what is wrong.
-pub record BreaksBlock (lines : List Line) (frames : List Frame) (line : Line)
+pub record BreaksBlock (limits : Limits) (lines : List Line) (frames : List Frame) (line : Line)
     (fault : StreamError) : Type 0 where
   pub gap : List Line
   pub body : List Line
   pub covers : Covers lines frames gap body
   pub begun : body ≢ []
-  pub cannot : CannotFollow (joined body) (kind_of line)
-  pub tells : TellsOf (length (joined covers.covered) + length (joined gap)) (joined body)
+  pub cannot : CannotFollow limits (joined body) (kind_of line)
+  pub tells : TellsOf limits (length (joined covers.covered) + length (joined gap)) (joined body)
       (Some (kind_of line)) fault
 
 -- the bytes that are held when the next bytes are taken: none where a frame waited

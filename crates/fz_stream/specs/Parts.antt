@@ -2,8 +2,10 @@
 -- a FlatZinc solver; this project's profile).
 use Rattle.std.specs.Prelude.{◌≡◌, ◌≢◌, ℕ, ◌+◌, List, [], ◌∷◌, ◌++◌, length, map, reverse, if◌then◌else◌, ◌==◌, codes}
 use Rattle.std.specs.List.{AllByRecursion, AllPairs}
+use Rattle.fz_syntax.specs.Limits.{Limits}
+use Rattle.fz_syntax.specs.Lexing.{standard_limits}
 use Rattle.fz_syntax.specs.Tree.{Printed}
-use Rattle.fz_syntax.specs.Text.{IsTextOfItems}
+use Rattle.fz_syntax.specs.Text.{IsTextOfItemsWithin}
 use Rattle.fz_stream.specs.declared.line.ClaimKind.{ClaimKind}
 use Rattle.fz_stream.specs.declared.line.LineKind.TheVariants.{Marker, Claim, Item, Blank, Comment}
 use Rattle.std.specs.Str.{bytes_eq}
@@ -113,14 +115,14 @@ frame_of (ClaimPart kind) = ClaimFrame kind
 abbrev pub HasDistinctNames : List Printed → Type 0
 HasDistinctNames items = AllPairs (λ a b. a.name ≢ b.name) items
 
--- the text is one of the items, and no name is printed twice
-abbrev pub IsBlockText : List ℕ → List Printed → Type 0
-IsBlockText text items = IsTextOfItems text items × HasDistinctNames items
+-- within the limits the text is one of the items, and no name is printed twice
+abbrev pub IsBlockText : Limits → List ℕ → List Printed → Type 0
+IsBlockText limits text items = IsTextOfItemsWithin limits text items × HasDistinctNames items
 
 -- a block's text is one of its items
-abbrev pub HasItems : StreamPart → Type 0
-HasItems (BlockPart block) = IsBlockText block.text block.items
-HasItems (ClaimPart kind) = Unit {0}
+abbrev pub HasItems : Limits → StreamPart → Type 0
+HasItems limits (BlockPart block) = IsBlockText limits block.text block.items
+HasItems limits (ClaimPart kind) = Unit {0}
 
 -- the lines of a block before its marker: none, or an item line, and then item lines, blank lines
 -- and comments
@@ -166,10 +168,15 @@ pub record Covers (lines : List Line) (frames : List Frame) (gap body : List Lin
 abbrev pub IsFramed : List ℕ → List Frame → Type 0
 IsFramed bytes frames = (gap : List Line) × Covers (lines_of bytes) frames gap []
 
--- The bytes are a text of the parts: they are cut into their frames, and each block has its items.
-pub record IsStreamText (bytes : List ℕ) (parts : List StreamPart) : Type 0 where
+-- The bytes are a text of the parts: they are cut into their frames, and each block, whose text is
+-- within the limits, has its items.
+pub record IsStreamTextWithin (limits : Limits) (bytes : List ℕ)
+    (parts : List StreamPart) : Type 0 where
   pub framed : IsFramed bytes (map frame_of parts)
-  pub items : AllByRecursion HasItems parts
+  pub items : AllByRecursion (HasItems limits) parts
+
+abbrev pub IsStreamText : List ℕ → List StreamPart → Type 0
+IsStreamText = IsStreamTextWithin standard_limits
 
 -- the blocks among the parts
 abbrev pub blocks_in : List StreamPart → List SolutionBlock

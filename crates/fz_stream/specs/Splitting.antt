@@ -2,26 +2,26 @@
 -- project's profile).
 use Rattle.std.specs.Prelude.{◌≡◌, ◌<◌, ℕ, ◌+◌, ◌^◌, List, [], ◌∷◌, ◌++◌, length, Option, Some, None, ◌⊎◌, take}
 use Rattle.std.specs.List.{AllByRecursion}
+use Rattle.fz_syntax.specs.Limits.{Limits}
 use Rattle.fz_syntax.specs.Tree.{Printed}
 use Rattle.fz_stream.specs.declared.splitter.Stage.{Stage}
 use Rattle.fz_stream.specs.declared.splitter.Stage.TheVariants.{Running}
 use Rattle.fz_stream.specs.Parts.{Line, lines_of, joined, HasNoFeed, EndsWithFeed, StreamPart, BlockPart, ClaimPart, Frame, IsBlockText, Closes, Covers, IsFramed}
 
--- the most bytes that a splitter holds, and the most that it takes in all
-abbrev pub most_held : ℕ
-most_held = 2 ^ 24
-
+-- the most bytes that a splitter takes in all; it holds as many as its limits allow for a text
 abbrev pub most_taken : ℕ
 most_taken = 2 ^ 40
 
 -- The bytes held (the text of the open block and the current line), where the current line begins
--- in them, the number of bytes taken, the frame that waits, and whether it finished or failed.
+-- in them, the number of bytes taken, the frame that waits, whether it finished or failed, and its
+-- limits.
 pub record SplitterState : Type 0 where
   pub held : List ℕ
   pub line : ℕ
   pub taken : ℕ
   pub waits : Option Frame
   pub stage : Stage
+  pub limits : Limits
 
 -- the frame that waits, or none
 abbrev pub frames_in : Option Frame → List Frame
@@ -57,8 +57,9 @@ pub record Fits (s : SplitterState) (bytes : List ℕ) (frames : List Frame) : T
 
 -- After the bytes, in which these frames ended, the piece has a byte that a splitter doesn't take:
 -- none of the bytes of the piece before it ends a frame, and with them as many bytes are held, or
--- were taken in all, as the limit allows.
-pub record PassesLimit (bytes piece : List ℕ) (frames : List Frame) : Type 0 where
+-- were taken in all, as may be.
+pub record PassesLimit (most_held : ℕ) (bytes piece : List ℕ)
+    (frames : List Frame) : Type 0 where
   pub n : ℕ
   pub within : n < length piece
   pub held : List ℕ
@@ -66,14 +67,16 @@ pub record PassesLimit (bytes piece : List ℕ) (frames : List Frame) : Type 0 w
   pub full : (length held ≡ most_held) ⊎ (length (bytes ++ take n piece) ≡ most_taken)
 
 -- After the bytes and the first k of the piece no frame has ended but these, and there is room for
--- one more byte: fewer are held, and fewer were taken in all, than the limits allow.
-abbrev pub HasRoomAt : List ℕ → List ℕ → List Frame → ℕ → Type 0
-HasRoomAt bytes piece frames k = (held : List ℕ) × Holds (bytes ++ take k piece) frames held
+-- one more byte: fewer are held, and fewer were taken in all, than may be.
+abbrev pub HasRoomAt : ℕ → List ℕ → List ℕ → List Frame → ℕ → Type 0
+HasRoomAt most_held bytes piece frames k =
+    (held : List ℕ) × Holds (bytes ++ take k piece) frames held
     × (length held < most_held) × (length (bytes ++ take k piece) < most_taken)
 
 -- there is room for each of the first n bytes of the piece
-abbrev pub HasRoomFor : List ℕ → List ℕ → List Frame → ℕ → Type 0
-HasRoomFor bytes piece frames n = (k : ℕ) → k < n → HasRoomAt bytes piece frames k
+abbrev pub HasRoomFor : ℕ → List ℕ → List ℕ → List Frame → ℕ → Type 0
+HasRoomFor most_held bytes piece frames n =
+    (k : ℕ) → k < n → HasRoomAt most_held bytes piece frames k
 
 -- After the frames the last line of the bytes, which has no LF, ends one more.
 pub record EndsLast (bytes : List ℕ) (frames : List Frame) (frame : Frame) : Type 0 where
@@ -93,8 +96,8 @@ EndsWith None bytes frames = IsFramed bytes frames
 EndsWith (Some frame) bytes frames = EndsLast bytes frames frame
 
 -- a block's text is one of its items, and of no others
-abbrev pub IsPartOfItems : StreamPart → Type 0
-IsPartOfItems (BlockPart block) =
-    IsBlockText block.text block.items
-    × ((others : List Printed) → IsBlockText block.text others → others ≡ block.items)
-IsPartOfItems (ClaimPart kind) = Unit {0}
+abbrev pub IsPartOfItems : Limits → StreamPart → Type 0
+IsPartOfItems limits (BlockPart block) =
+    IsBlockText limits block.text block.items
+    × ((others : List Printed) → IsBlockText limits block.text others → others ≡ block.items)
+IsPartOfItems limits (ClaimPart kind) = Unit {0}

@@ -1,6 +1,5 @@
 ghost use Rattle.std.specs.Prelude.{◌≡◌, ◌≢◌, ◌+◌, ◌≤◌, List, length, IfOk, IfErr, IfSome, IfNone};
 ghost use Rattle.fz_syntax.specs.declared.Printed.{Printed};
-ghost use Rattle.fz_syntax.specs.Lexing.{most_bytes};
 ghost use Rattle.fz_syntax.specs.Tree.{Printed as PlainPrinted};
 ghost use Rattle.fz_syntax.specs.View.{bare_items};
 ghost use Rattle.fz_stream.specs.Faults.{IsFaultWithin};
@@ -11,7 +10,7 @@ ghost use Rattle.fz_stream.specs.Telling.{PrintsAgain, TellsOfText};
 
 use crate::error::{StreamError, item_fault, moved_span};
 use crate::hashing::Names;
-use fz_syntax::{Printed, Span, read_items};
+use fz_syntax::{Limits, Printed, Span, read_items_within};
 use std::alloc::{AllocError, Global};
 use std::hash::BuildHasherDefault;
 
@@ -47,27 +46,28 @@ fn repeated_name(alloc: Global, items: &[Printed<'_>]) -> Result<Option<Span>, A
     Ok(None)
 }
 
-/// Reads the block of a text that begins at an offset of the stream.
+/// Reads the block of a text, which is within the limits and begins at an offset of the stream.
 pub fn read_block<'a>(
     alloc: Global,
     offset: usize,
     text: &'a [u8],
+    limits: Limits,
 ) -> Result<Block<'a>, StreamError>
     requires fits { offset + length text.now ≤ usize.MAX }
-    requires short { length text.now ≤ most_bytes }
+    requires short { length text.now ≤ limits.bytes }
     ensures offset { IfOk result (λ b. b.offset ≡ offset) }
     ensures text { IfOk result (λ b. b.text.now ≡ text.now) }
-    ensures items { IfOk result (λ b. IsBlockText text.now (bare_items b.items.items)) }
-    ensures only { IfOk result (λ b. (others : List PlainPrinted) → IsBlockText text.now others
+    ensures items { IfOk result (λ b. IsBlockText limits text.now (bare_items b.items.items)) }
+    ensures only { IfOk result (λ b. (others : List PlainPrinted) → IsBlockText limits text.now others
         → others ≡ bare_items b.items.items) }
     ensures places { IfOk result HasPlaces }
     ensures refused { IfErr result (λ e. e ≢ StreamError.Memory → (items : List PlainPrinted)
-        → IsBlockText text.now items → ⊥) }
+        → IsBlockText limits text.now items → ⊥) }
     ensures fault { IfErr result IsLineFault }
     ensures place { IfErr result (IsFaultWithin (offset + length text.now)) }
-    ensures tells { IfErr result (TellsOfText offset text.now) }
+    ensures tells { IfErr result (TellsOfText limits offset text.now) }
 {
-    let items = match read_items(alloc, text) {
+    let items = match read_items_within(alloc, text, limits) {
         Ok(items) => items,
         Err(e) => return Err(item_fault(e, offset)),
     };

@@ -1,21 +1,19 @@
 // What a splitter holds: the text of the open block, and the current line.
 ghost use Rattle.std.specs.Prelude.{◌≡◌, ◌≢◌, ℕ, ◌+◌, ◌≤◌, ◌<◌, ◌++◌, ◌∷◌, [], List, length, take, Err, Some, None, IfOk, IfErr, IsSome};
+ghost use Rattle.fz_syntax.specs.Limits.{Limits};
 ghost use Rattle.fz_syntax.specs.Places.{IsSpanWithin};
 ghost use Rattle.fz_stream.specs.Broken.{BreaksAfter, CannotGoOn, CannotEnd};
 ghost use Rattle.fz_stream.specs.Faults.{IsCuttingFault, IsFaultWithin};
 ghost use Rattle.fz_stream.specs.Inside.{waiting_of};
 ghost use Rattle.fz_stream.specs.Keeping.{HasLine, Stands, EndsLine, AfterBytes, BreaksBlock, held_while, line_while};
 ghost use Rattle.fz_stream.specs.Parts.{Line, lines_of, Frame};
-ghost use Rattle.fz_stream.specs.Splitting.{HasRoomFor, PassesLimit, EndsWith, most_held, most_taken};
+ghost use Rattle.fz_stream.specs.Splitting.{HasRoomFor, PassesLimit, EndsWith, most_taken};
 ghost use Rattle.fz_stream.specs.Step.{begun_of};
 
 use crate::error::StreamError;
 use crate::line::{ClaimKind, first_line, line_kind};
 use crate::step::{Step, after_line};
 use fz_syntax::Span;
-
-/// The most bytes that are held at once.
-const MOST_HELD: usize = 16_777_216;
 
 /// The most bytes that are taken from the whole stream.
 const MOST_TAKEN: usize = 1_099_511_627_776;
@@ -55,9 +53,9 @@ fn end_line(held: &mut Held) -> Result<Option<Ended>, Span>
         ≡ held.old.before + length held.old.buffer.items }
     ensures shorter { length held.new.buffer.items ≤ length held.old.buffer.items }
     ensures ends { IfOk result (λ r. EndsLine r held.new held.old) }
-    ensures breaks { IfErr result (λ span. (lines : List Line) (frames : List Frame) (line : Line)
-        → HasLine held.old lines frames line
-        → BreaksBlock lines frames line (StreamError.Unfinished span)) }
+    ensures breaks { IfErr result (λ span. (limits : Limits) (lines : List Line)
+        (frames : List Frame) (line : Line) → HasLine held.old lines frames line
+        → BreaksBlock limits lines frames line (StreamError.Unfinished span)) }
     ensures place { IfErr result
         (IsSpanWithin (held.old.before + length held.old.buffer.items)) }
 {
@@ -99,8 +97,12 @@ pub fn drop_frame(held: &mut Held, ended: Option<Ended>)
     }
 }
 
-/// Takes bytes up to the end of a frame, or all of them.
-pub fn take_bytes(held: &mut Held, piece: &[u8]) -> Result<(usize, Option<Ended>), StreamError>
+/// Takes bytes up to the end of a frame, or all of them. At most so many are held at once.
+pub fn take_bytes(
+    held: &mut Held,
+    piece: &[u8],
+    most_held: usize,
+) -> Result<(usize, Option<Ended>), StreamError>
     requires line { held.old.line ≤ length held.old.buffer.items }
     requires most { length held.old.buffer.items ≤ most_held }
     requires taken { held.old.before + length held.old.buffer.items ≤ most_taken }
@@ -116,12 +118,12 @@ pub fn take_bytes(held: &mut Held, piece: &[u8]) -> Result<(usize, Option<Ended>
         → Stands held.old bytes frames
         → AfterBytes r.1 held.new (bytes ++ take r.0 piece.now) frames) }
     ensures room { IfOk result (λ r. (bytes : List ℕ) (frames : List Frame)
-        → Stands held.old bytes frames → HasRoomFor bytes piece.now frames r.0) }
+        → Stands held.old bytes frames → HasRoomFor most_held bytes piece.now frames r.0) }
     ensures broken { IfErr result (λ e. e ≢ StreamError.Memory → e ≢ StreamError.TooLong →
-        (bytes : List ℕ) (frames : List Frame) → Stands held.old bytes frames
-        → BreaksAfter CannotGoOn (bytes ++ piece.now) frames e) }
+        (limits : Limits) (bytes : List ℕ) (frames : List Frame) → Stands held.old bytes frames
+        → BreaksAfter limits CannotGoOn (bytes ++ piece.now) frames e) }
     ensures too_long { result ≡ Err StreamError.TooLong → (bytes : List ℕ) (frames : List Frame)
-        → Stands held.old bytes frames → PassesLimit bytes piece.now frames }
+        → Stands held.old bytes frames → PassesLimit most_held bytes piece.now frames }
     ensures fault { IfErr result IsCuttingFault }
     ensures place { IfErr result (IsFaultWithin
         (held.old.before + length held.old.buffer.items + length piece.now)) }
@@ -129,7 +131,7 @@ pub fn take_bytes(held: &mut Held, piece: &[u8]) -> Result<(usize, Option<Ended>
     let mut at = 0;
     while at < piece.len() {
         let part = first_line(&piece[at..]);
-        let room = MOST_HELD - held.buffer.len();
+        let room = most_held - held.buffer.len();
         let left = MOST_TAKEN - (held.before + held.buffer.len());
         if part.len() > room || part.len() > left {
             return Err(StreamError::TooLong);
@@ -154,9 +156,9 @@ fn end_open(held: &Held) -> Result<Option<Ended>, Span>
     ensures ends { IfOk result (λ r. (bytes : List ℕ) (frames : List Frame)
         (offset : ℕ) (text : List ℕ) → HasLine held.now (lines_of bytes) frames []
         → EndsWith (waiting_of r offset text) bytes frames) }
-    ensures broken { IfErr result (λ span. (bytes : List ℕ) (frames : List Frame)
-        → HasLine held.now (lines_of bytes) frames []
-        → BreaksAfter CannotEnd bytes frames (StreamError.Unfinished span)) }
+    ensures broken { IfErr result (λ span. (limits : Limits) (bytes : List ℕ)
+        (frames : List Frame) → HasLine held.now (lines_of bytes) frames []
+        → BreaksAfter limits CannotEnd bytes frames (StreamError.Unfinished span)) }
     ensures place { IfErr result (IsSpanWithin (held.now.before + length held.now.buffer.items)) }
 {
     if held.line > 0 {
@@ -179,9 +181,9 @@ pub fn end_stream(held: &mut Held) -> Result<Option<Ended>, Span>
     ensures ends { IfOk result (λ r. (bytes : List ℕ) (frames : List Frame)
         → Stands held.old bytes frames → EndsWith (waiting_of r held.new.before
         (take held.new.line held.new.buffer.items)) bytes frames) }
-    ensures broken { IfErr result (λ span. (bytes : List ℕ) (frames : List Frame)
-        → Stands held.old bytes frames
-        → BreaksAfter CannotEnd bytes frames (StreamError.Unfinished span)) }
+    ensures broken { IfErr result (λ span. (limits : Limits) (bytes : List ℕ)
+        (frames : List Frame) → Stands held.old bytes frames
+        → BreaksAfter limits CannotEnd bytes frames (StreamError.Unfinished span)) }
     ensures place { IfErr result (IsSpanWithin (held.old.before + length held.old.buffer.items)) }
 {
     if held.line == held.buffer.len() {

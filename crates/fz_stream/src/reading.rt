@@ -10,7 +10,7 @@ use crate::block::{Block, read_block};
 use crate::error::StreamError;
 use crate::line::{ClaimKind, first_line, line_kind};
 use crate::step::{Step, after_line};
-use fz_syntax::Span;
+use fz_syntax::{Limits, Span};
 use std::alloc::Global;
 
 /// A claim that a solver printed.
@@ -27,9 +27,6 @@ pub struct Stream<'a> {
     pub blocks: Vec<Block<'a>>,
     pub claims: Vec<Claim>,
 }
-
-/// The most bytes that a stream may have to be read whole.
-const MOST_BYTES: usize = 16_777_216;
 
 /// The blocks and claims of a stream of at most 16,777,216 bytes. The error is the first fault in
 /// the order of the stream. A fault of a block's text counts at the line that closes the block, and
@@ -59,7 +56,7 @@ pub fn blocks<'a>(alloc: Global, stream: &'a [u8]) -> Result<Stream<'a>, StreamE
     ensures fault { IfErr result IsStreamFault }
     ensures place { IfErr result (IsFaultWithin (length stream.now)) }
 {
-    if stream.len() > MOST_BYTES {
+    if stream.len() > Limits::STANDARD.bytes() {
         return Err(StreamError::TooLong);
     }
     let mut blocks = Vec::new(alloc);
@@ -71,7 +68,7 @@ pub fn blocks<'a>(alloc: Global, stream: &'a [u8]) -> Result<Stream<'a>, StreamE
         match after_line(begun, at, line_kind(line)) {
             Step::GoesOn(next) => begun = next,
             Step::EndsBlock(start) => {
-                let block = read_block(alloc, start, &stream[start..at])?;
+                let block = read_block(alloc, start, &stream[start..at], Limits::STANDARD)?;
                 blocks.push(block)?;
                 begun = None;
             }

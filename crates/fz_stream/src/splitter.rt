@@ -2,12 +2,13 @@ ghost use Rattle.std.specs.Prelude.{◌≡◌, ◌≢◌, ℕ, ◌+◌, ◌≤�
 ghost use Rattle.fz_stream.specs.Broken.{BreaksAfter, CannotGoOn, CannotEnd};
 ghost use Rattle.fz_stream.specs.Faults.{IsStreamFault, IsCuttingFault, IsFaultWithin};
 ghost use Rattle.fz_stream.specs.Parts.{lines_of, Frame as PlainFrame, Covers, frame_of};
-ghost use Rattle.fz_stream.specs.Splitting.{Fits, HasRoomFor, PassesLimit, EndsWith, IsPartOfItems, frames_in, most_held, most_taken};
+ghost use Rattle.fz_stream.specs.Splitting.{Fits, HasRoomFor, PassesLimit, EndsWith, IsPartOfItems, frames_in, most_taken};
 
 use crate::block::{Block, read_block};
 use crate::error::StreamError;
 use crate::held::{Ended, Held, drop_frame, end_stream, take_bytes};
 use crate::line::ClaimKind;
+use fz_syntax::Limits;
 use std::alloc::Global;
 use std::marker::Model;
 
@@ -34,15 +35,16 @@ pub enum Stage {
     Failed,
 }
 
-/// Cuts a stream, fed in pieces, at its lines, a block or a claim at a time. It holds at most
-/// 16,777,216 bytes, the text of the open block and the current line, and takes at most
-/// 1,099,511,627,776 in all.
+/// Cuts a stream, fed in pieces, at its lines, a block or a claim at a time. It holds the text of
+/// the open block and the current line, which together have at most as many bytes as its limits
+/// allow for a text, and takes at most 1,099,511,627,776 in all.
 #[derive(Drop)]
 pub struct Splitter {
     alloc: Global,
     held: Held,
     ended: Option<Ended>,
     stage: Stage,
+    limits: Limits,
 }
 
 impl Model for Splitter {
@@ -61,9 +63,11 @@ impl Splitter {
     ghost use Rattle.fz_stream.specs.declared.splitter.Stage.TheVariants.{Running, Finished, Failed as FailedStage};
     ghost use Rattle.fz_stream.specs.Lending.{plain_frame, part_of, FrameIsShort, FrameEndsWithin, HasPlacesOfItems, PartEndsWithin};
 
-    /// A splitter that has taken nothing.
-    pub fn new(alloc: Global) -> Splitter
-        ensures { Fits result [] [] }
+    /// A splitter that has taken nothing. The limits are those of what it holds, and of the items
+    /// of a block.
+    pub fn new(alloc: Global, limits: Limits) -> Splitter
+        ensures fits { Fits result [] [] }
+        ensures limits { result.limits ≡ limits }
     {
         Splitter {
             alloc,
@@ -74,6 +78,7 @@ impl Splitter {
             },
             ended: None,
             stage: Stage::Running,
+            limits,
         }
     }
 
@@ -87,7 +92,7 @@ impl Splitter {
     /// The frame that waits, as often as it is asked for.
     pub fn frame(&self) -> Option<Frame<'_>>
         ensures waits { option_map plain_frame result ≡ self.now.waits }
-        ensures short { IfSome result (FrameIsShort most_held) }
+        ensures short { IfSome result (FrameIsShort self.now.limits.bytes) }
         ensures within { IfSome result (FrameEndsWithin self.now.taken) }
         ensures taken { self.now.taken ≤ most_taken }
     {
@@ -107,7 +112,7 @@ impl Splitter {
         // It is that of the frame that waits.
         ensures lent { IfOk result
             (λ part. option_map (λ p. frame_of (part_of p)) part ≡ self.now.waits) }
-        ensures items { IfOk result (λ part. IfSome part (λ p. IsPartOfItems (part_of p))) }
+        ensures items { IfOk result (λ part. IfSome part (λ p. IsPartOfItems self.now.limits (part_of p))) }
         ensures places { IfOk result (λ part. IfSome part HasPlacesOfItems) }
         ensures within { IfOk result (λ part. IfSome part (PartEndsWithin most_taken)) }
 
@@ -115,10 +120,10 @@ impl Splitter {
         ensures broken { IfErr result (λ e. e ≢ StreamError.Memory → e ≢ StreamError.Failed →
             (bytes more : List ℕ) (frames : List PlainFrame) (frame : PlainFrame)
             → Fits self.now bytes (frames ++ frame ∷ [])
-            → BreaksAfter CannotGoOn (bytes ++ more) frames e) }
+            → BreaksAfter self.now.limits CannotGoOn (bytes ++ more) frames e) }
         ensures broken_at_end { IfErr result (λ e. e ≢ StreamError.Memory → e ≢ StreamError.Failed →
             (bytes : List ℕ) (frames : List PlainFrame) → EndsWith self.now.waits bytes frames
-            → BreaksAfter CannotEnd bytes frames e) }
+            → BreaksAfter self.now.limits CannotEnd bytes frames e) }
         ensures failed { (result ≡ Err StreamError.Failed) ↔ (self.now.stage ≡ FailedStage) }
         ensures fault { IfErr result (λ e. e ≢ StreamError.Failed → IsStreamFault e) }
         ensures place { IfErr result (IsFaultWithin self.now.taken) }
@@ -130,7 +135,12 @@ impl Splitter {
         match self.frame() {
             None => Ok(None),
             Some(Frame::Claim(kind)) => Ok(Some(Part::Claim(kind))),
-            Some(Frame::Block(offset, text)) => match read_block(self.alloc, offset, text) {
+            Some(Frame::Block(offset, text)) => match read_block(
+                self.alloc,
+                offset,
+                text,
+                self.limits,
+            ) {
                 Ok(block) => Ok(Some(Part::Block(block))),
                 Err(e) => Err(e),
             },
@@ -153,24 +163,25 @@ impl Splitter {
         ensures all { IfOk result (λ n. self.new.waits ≡ None → n ≡ length piece.now) }
         ensures within { IfOk result (λ n. n ≤ length piece.now) }
         ensures ok { OnOk result (self.new.stage ≡ Running) }
-        ensures held { OnOk result (length self.new.held ≤ most_held) }
+        ensures held { OnOk result (length self.new.held ≤ self.new.limits.bytes) }
         ensures taken { OnOk result (self.new.taken ≤ most_taken) }
         // The limits bind at each byte that is taken.
         ensures room { IfOk result (λ n. (bytes : List ℕ) (frames : List PlainFrame)
-            → Fits self.old bytes frames → HasRoomFor bytes piece.now frames n) }
+            → Fits self.old bytes frames → HasRoomFor self.old.limits.bytes bytes piece.now frames n) }
 
         // A fault comes only where no further bytes can mend the stream.
         ensures broken { IfErr result (λ e. e ≢ StreamError.Memory → e ≢ StreamError.TooLong
             → e ≢ StreamError.Failed →
             (bytes : List ℕ) (frames : List PlainFrame) → Fits self.old bytes frames
-            → BreaksAfter CannotGoOn (bytes ++ piece.now) frames e) }
+            → BreaksAfter self.old.limits CannotGoOn (bytes ++ piece.now) frames e) }
         ensures too_long { result ≡ Err StreamError.TooLong
             → (bytes : List ℕ) (frames : List PlainFrame) → Fits self.old bytes frames
-            → PassesLimit bytes piece.now frames }
+            → PassesLimit self.old.limits.bytes bytes piece.now frames }
         ensures failed { (result ≡ Err StreamError.Failed) ↔ (self.old.stage ≡ FailedStage) }
         ensures fault { IfErr result (λ e. e ≢ StreamError.Failed → IsCuttingFault e) }
         ensures place { IfErr result (IsFaultWithin (self.old.taken + length piece.now)) }
         ensures err { OnErr result ((self.new.stage ≡ FailedStage) × (self.new.waits ≡ None)) }
+        ensures limits { self.new.limits ≡ self.old.limits }
     {
         match self.stage {
             Stage::Failed => return Err(StreamError::Failed),
@@ -178,7 +189,7 @@ impl Splitter {
         }
         drop_frame(&mut self.held, self.ended);
         self.ended = None;
-        match take_bytes(&mut self.held, piece) {
+        match take_bytes(&mut self.held, piece, self.limits.bytes()) {
             Ok((n, ended)) => {
                 self.ended = ended;
                 Ok(n)
@@ -201,12 +212,13 @@ impl Splitter {
         // A fault comes only where the bytes that were taken are a text of no parts.
         ensures broken { IfErr result (λ e. e ≢ StreamError.Failed →
             (bytes : List ℕ) (frames : List PlainFrame) → Fits self.old bytes frames
-            → BreaksAfter CannotEnd bytes frames e) }
+            → BreaksAfter self.old.limits CannotEnd bytes frames e) }
         ensures failed { (result ≡ Err StreamError.Failed) ↔ (self.old.stage ≡ FailedStage) }
         ensures fault { IfErr result (λ e. e ≢ StreamError.Failed
             → IsCuttingFault e × (e ≢ StreamError.TooLong)) }
         ensures place { IfErr result (IsFaultWithin self.old.taken) }
         ensures err { OnErr result ((self.new.stage ≡ FailedStage) × (self.new.waits ≡ None)) }
+        ensures limits { self.new.limits ≡ self.old.limits }
     {
         match self.stage {
             Stage::Failed => return Err(StreamError::Failed),

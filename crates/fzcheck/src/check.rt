@@ -1,17 +1,17 @@
 //! The command `check`.
 
-use crate::MOST_BYTES;
 use crate::as_json::refusal_line;
-use crate::explain::explanation;
+use crate::explain::{LARGER, explanation, has_larger, meaning};
 use crate::known::{Unlearned, claims_of};
 use crate::names::check_with_names;
 use crate::refuse::{refuse, refuse_at, refuse_file, unread};
 use crate::teller::Teller;
 use crate::waiting::InPlace;
+use crate::{limits_of, read_text};
 use fz_check::{Answer, CheckError, Claims, Completion, Ending, MOST_READS, check_events, status};
 use fz_command::{CheckOptions, Explaining, Form};
 use fz_explain::{Explainer, Message, NameTable, Text};
-use fz_files::{NOTHING, Recent, Recorder, read_up_to};
+use fz_files::{NOTHING, Recent, Recorder};
 use std::alloc::Global;
 use std::cell::RefCell;
 use std::io::{Read, Write};
@@ -84,7 +84,7 @@ fn check_readers<M: Read + Drop, S: Read + Drop>(
     stream: S,
 ) -> u8 {
     let mut model = Recorder::new(model, None);
-    match read_up_to(rt.alloc(), &mut model, MOST_BYTES) {
+    match read_text(rt.alloc(), &mut model, limits_of(task.options.size)) {
         Ok(bytes) => match claims_of(rt, task.options, &bytes, known) {
             Ok(claims) => check_with_names(rt, task, claims, &bytes, stream),
             Err(failure) => {
@@ -176,6 +176,7 @@ fn check_to<S: Read, W: Write>(
         completion,
         ending,
         claims,
+        limits_of(task.options.size),
     )
 }
 
@@ -218,7 +219,17 @@ fn refuse_check(
         None => None,
     };
     match task.options.form {
-        Form::Text => refuse_at(rt, error, message.as_ref()),
+        Form::Text => {
+            let told = refuse_at(rt, error, message.as_ref());
+            if stored.is_some() && message.is_none() && has_larger(error, task.options.size) {
+                let name = match error {
+                    CheckError::Model(_) => task.model,
+                    _ => task.stream,
+                };
+                let _ = eprintln!(rt; "{name}: {}, {LARGER}", meaning(error));
+            }
+            told
+        }
         Form::Json => {
             write_refusal(rt, error, message.as_ref());
             refuse(rt, error)
@@ -235,7 +246,7 @@ fn fault_message(
     error: &CheckError,
 ) -> Option<Message> {
     if let CheckError::Model(_) | CheckError::Names(_) = error {
-        return explanation(alloc, model, error).ok()?;
+        return explanation(alloc, model, error, task.options.size).ok()?;
     }
     let recent = recent.try_borrow().ok()?;
     let (bytes, passed) = recent.kept()?;
@@ -244,7 +255,7 @@ fn fault_message(
         bytes,
         passed,
     };
-    explanation(alloc, &stream, error).ok()?
+    explanation(alloc, &stream, error, task.options.size).ok()?
 }
 
 /// Writes the refusal in the place of the answer, unless it was a write that failed.

@@ -2,9 +2,27 @@
 //! the line with the fault marked.
 
 use fz_check::{BlockError, CheckError, ModelError, StreamError, SyntaxError, Told, refusal_fault};
+use fz_command::Size;
 use fz_explain::{Message, Text, message_at};
 use fz_files::{Passed, count_blocks};
 use std::alloc::{AllocError, Global};
+
+/// What helps against a limit that is larger with an option.
+pub const LARGER: &str = "try --large";
+
+/// Whether a limit refuses that is larger with that option, which isn't given.
+pub fn has_larger(error: &CheckError, size: Size) -> bool {
+    let syntax = match error {
+        CheckError::Model(inner) => inner,
+        CheckError::Stream(StreamError::Item(inner)) => inner,
+        CheckError::Stream(StreamError::TooLong) => return size == Size::Standard,
+        _ => return false,
+    };
+    match syntax {
+        SyntaxError::TooLong | SyntaxError::TooMany(_) => size == Size::Standard,
+        _ => false,
+    }
+}
 
 /// The message of a refusal in a text. There is none where the refusal has no byte range.
 ///
@@ -15,6 +33,7 @@ pub fn explanation(
     alloc: Global,
     text: &Text<'_>,
     error: &CheckError,
+    size: Size,
 ) -> Result<Option<Message>, AllocError> {
     let place = match refusal_fault(error) {
         Some(
@@ -31,7 +50,13 @@ pub fn explanation(
         Some(number) => format!(in alloc; "{}, in block {}", meaning(error), number)?,
         None => String::from_str(alloc, meaning(error))?,
     };
-    message_at(alloc, text, place, said)
+    let mut message = message_at(alloc, text, place, said)?;
+    if let Some(message) = &mut message
+        && has_larger(error, size)
+    {
+        message.notes.push(String::from_str(alloc, LARGER)?)?;
+    }
+    Ok(message)
 }
 
 /// The number of the block that a fault is in, where it is a fault of the stream.
@@ -47,7 +72,7 @@ fn block_number(before: &[u8], passed: Passed, error: &CheckError) -> Option<usi
 }
 
 /// What is wrong, in words.
-fn meaning(error: &CheckError) -> &'static str {
+pub fn meaning(error: &CheckError) -> &'static str {
     match error {
         CheckError::Model(inner) => syntax_meaning(inner),
         CheckError::Names(inner) => names_meaning(inner),

@@ -1,6 +1,7 @@
 //! What known streams tell, by which claims of the checked one are refuted.
 
 use crate::check::completion_of;
+use crate::limits_of;
 use fz_check::{
     BlockError, CheckError, Claims, Known, Listener, MOST_READS, Model, Verdict, block_text, learn,
     read_model, refusal_text,
@@ -34,7 +35,7 @@ pub fn claims_of<'k>(
     if names.is_empty() {
         return Ok(Claims::Judged(known));
     }
-    let model = match read_model(rt.alloc(), model) {
+    let model = match read_model(rt.alloc(), model, limits_of(options.size)) {
         Ok(model) => model,
         Err(CheckError::Memory) => return Err(not_learned(CheckError::Memory, "", None)),
         // The check refuses it too, and tells why.
@@ -74,6 +75,7 @@ fn learn_file<'k>(
         bytes,
         is_only,
         known,
+        limits_of(options.size),
     );
     match outcome {
         Ok(()) => Ok(()),

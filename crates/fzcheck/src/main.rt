@@ -15,18 +15,32 @@ mod teller;
 mod waiting;
 
 use check::check_files;
-use fz_check::CheckError;
-use fz_command::{HELP, Refused, Request, VERSION, read_words};
+use fz_check::{CheckError, Limits};
+use fz_command::{HELP, Refused, Request, Size, VERSION, read_words};
+use fz_files::{ReadError, read_up_to};
 use refuse::{refuse, refuse_usage, refuse_wrong};
 use show::show_file;
+use std::alloc::Global;
+use std::io::Read;
 use std::process::ExitCode;
 use std::{env, io};
 
 /// The status where a model or the version was shown.
 const SHOWN: u8 = 0;
 
-/// The most bytes of a model.
-const MOST_BYTES: u32 = 16_777_216;
+/// The limits of a model, and of the blocks of its streams.
+fn limits_of(size: Size) -> Limits {
+    match size {
+        Size::Standard => Limits::STANDARD,
+        Size::Large => Limits::LARGE,
+    }
+}
+
+/// The bytes of a model, or one more than the limits allow where there are more.
+fn read_text<R: Read>(alloc: Global, reader: &mut R, limits: Limits) -> Result<Vec<u8>, ReadError> {
+    let most = u32::try_from(limits.bytes()).unwrap_or(u32::MAX);
+    read_up_to(alloc, reader, most)
+}
 
 fn main(rt: HostRuntime) -> ExitCode {
     ExitCode::from(run(&rt))
@@ -43,7 +57,13 @@ fn run(rt: &HostRuntime) -> u8 {
         Err(_) => return refuse(rt, &CheckError::Memory),
     };
     match read_words(rt.alloc(), &words) {
-        Ok(Request::Show { model, printing }) => show_file(rt, model, printing),
+        Ok(
+            Request::Show {
+                model,
+                printing,
+                size,
+            },
+        ) => show_file(rt, model, printing, limits_of(size)),
         Ok(
             Request::Check {
                 model,

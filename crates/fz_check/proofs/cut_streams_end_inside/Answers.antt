@@ -4,5 +4,5 @@ use Rattle.fz_check.proofs.CutLemmas.{cut_not_framed}
 use Rattle.fz_check.proofs.cut_streams_end_inside.Goals as goal
 
 pub returns : goal.returns
-returns c = λ given front span parts cut text.
+returns c = λ limits given front span parts cut text.
     cut_not_framed given front span (map frame_of parts) cut text.framed

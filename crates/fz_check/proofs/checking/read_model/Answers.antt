@@ -10,6 +10,6 @@ returns-in-Err-Text c =
     let other : c.in-Err-Text.error ≢ syntax.Memory = search rules in
     record {
       loaded = tt;
-      refused = text_fault c.args.source.now c.in-Err-Text.error other (c.in-Err-Text.ensures.text c.in-Err-Text.error (ap Err is)) (λ long. c.in-Err-Text.ensures.too_long.0 (ap Err (is ∙ ap loads.Text long)))
+      refused = text_fault c.args.limits c.args.source.now c.in-Err-Text.error other (c.in-Err-Text.ensures.text c.in-Err-Text.error (ap Err is)) (λ long. c.in-Err-Text.ensures.too_long.0 (ap Err (is ∙ ap loads.Text long)))
           (λ long. (let gave : Err c.in-Err-Text.field-0 ≡ Err (loads.Text syntax.TooLong) = c.in-Err-Text.ensures.too_long.1 long in cc));
     }

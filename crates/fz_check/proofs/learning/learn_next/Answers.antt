@@ -8,8 +8,8 @@ always (Ok x) p = p
 always (Err e) p = tt
 
 pub returns-clause-read : goal.returns-clause-read
-returns-clause-read g c = λ left given before frame n. (part_of c.in-Ok.part, c.in-Ok.ensures.part left given before frame n)
+returns-clause-read g c = λ limits left given before frame n. (part_of c.in-Ok.part, c.in-Ok.ensures.part limits left given before frame n)
 
 pub returns-in-Block-clause-read : goal.returns-in-Block-clause-read
 returns-in-Block-clause-read g c =
-    always c.learn_block.result (λ left given before frame n. (part_of c.in-Ok.part, c.in-Ok.ensures.part left given before frame n))
+    always c.learn_block.result (λ limits left given before frame n. (part_of c.in-Ok.part, c.in-Ok.ensures.part limits left given before frame n))

@@ -11,7 +11,7 @@ use Rattle.fz_stream.proofs.block.read_block.Goals as goal
 
 pub returns-in-Err : goal.returns-in-Err
 returns-in-Err c =
-    let short : c.in-Err.e ≡ TooLong → ⊥ = λ e. absurd (omega (arith, c.requires.short, (c.read_items.ensures.too_long).0 (c.in-Err.is ∙ ap Err e))) in
+    let short : c.in-Err.e ≡ TooLong → ⊥ = λ e. absurd (omega (arith, c.requires.short, (c.read_items_within.ensures.too_long).0 (c.in-Err.is ∙ ap Err e))) in
     record {
       offset = tt;
       text = tt;
@@ -21,7 +21,7 @@ returns-in-Err c =
       refused = λ known items t. no_value c.args.offset c.in-Err.e items (subst (λ f. f ≡ Memory → ⊥) c.item_fault.ensures known) (c.in-Err.ensures.only items t.0);
       fault = subst IsLineFault (sym c.item_fault.ensures) (block_fault c.args.offset c.in-Err.e short);
       place = subst (IsFaultWithin (c.args.offset + length c.args.text.now)) (sym c.item_fault.ensures) (placed_fault c.args.offset (length c.args.text.now) c.in-Err.e c.in-Err.ensures.placed);
-      tells = subst (TellsOfText c.args.offset c.args.text.now) (sym c.item_fault.ensures) (tells_text c.args.offset c.args.text.now c.in-Err.e short c.in-Err.ensures.only c.in-Err.ensures.order c.in-Err.ensures.placed);
+      tells = subst (TellsOfText c.args.limits c.args.offset c.args.text.now) (sym c.item_fault.ensures) (tells_text c.args.limits c.args.offset c.args.text.now c.in-Err.e short c.in-Err.ensures.only c.in-Err.ensures.order c.in-Err.ensures.placed);
     }
 
 pub moved_span-requires : goal.moved_span-requires
@@ -36,5 +36,5 @@ returns-in-Some-clause-place c =
 
 pub returns-in-Some-clause-tells : goal.returns-in-Some-clause-tells
 returns-in-Some-clause-tells c =
-    second_printing c.args.offset c.args.text.now _ c.in-Some.span _ (again_in _ _ _ c.in-Some.span c.in-Some.is c.deref.ensures.value c.in_ok-span.ensures.place)
+    second_printing c.args.limits c.args.offset c.args.text.now _ c.in-Some.span _ (again_in _ _ _ c.in-Some.span c.in-Some.is c.deref.ensures.value c.in_ok-span.ensures.place)
     c.in-Ok.ensures.found c.in-Ok.ensures.in_place c.moved_span.ensures

@@ -24,7 +24,7 @@ pub returns-in-Claims-clause-ends : goal.returns-in-Claims-clause-ends
 returns-in-Claims-clause-ends c lines frames line l = step_is _ lines frames line l _ _ _ _ _ c.begun_at-begun.ensures c.deref.ensures.value c.line_kind-kind.ensures c.after_line.ensures c.in-Claims.is
 
 pub returns-in-Breaks-clause-breaks : goal.returns-in-Breaks-clause-breaks
-returns-in-Breaks-clause-breaks c lines frames line l =
-    breaks_with_claim _ lines frames line l c.in-Breaks.start
+returns-in-Breaks-clause-breaks c limits lines frames line l =
+    breaks_with_claim _ lines frames line l limits c.in-Breaks.start
     (step_is _ lines frames line l _ _ _ _ _ c.begun_at-begun.ensures c.deref.ensures.value c.line_kind-kind.ensures c.after_line.ensures c.in-Breaks.is)
     _ refl refl

@@ -1,4 +1,5 @@
 use Rattle.std.proofs.Common.{◌<◌, ℕ, List, [], length, arith, Ok, Err, Result, Option, IfOk, IfErr}
+use Rattle.fz_syntax.specs.Limits.{Limits}
 use Rattle.fz_syntax.specs.Span.{Span}
 use Rattle.fz_stream.specs.declared.error.StreamError.TheVariants.{Unfinished}
 use Rattle.fz_stream.specs.declared.held.Ended.{Ended}
@@ -20,10 +21,10 @@ module _ (h new : Held) (then_ended : (bytes : List ℕ) (frames : List Frame) �
   ends (Err e) holds = tt
 
   broken : (r : Result (Option Ended) Span)
-      → IfErr r (λ span. (bytes : List ℕ) (frames : List Frame) → HasLine new (lines_of bytes) frames [] → BreaksAfter CannotEnd bytes frames (Unfinished span))
-      → IfErr r (λ span. (bytes : List ℕ) (frames : List Frame) → Stands h bytes frames → BreaksAfter CannotEnd bytes frames (Unfinished span))
+      → IfErr r (λ span. (limits : Limits) (bytes : List ℕ) (frames : List Frame) → HasLine new (lines_of bytes) frames [] → BreaksAfter limits CannotEnd bytes frames (Unfinished span))
+      → IfErr r (λ span. (limits : Limits) (bytes : List ℕ) (frames : List Frame) → Stands h bytes frames → BreaksAfter limits CannotEnd bytes frames (Unfinished span))
   broken (Ok r) holds = tt
-  broken (Err e) holds = λ bytes frames s. holds bytes frames (then_ended bytes frames s)
+  broken (Err e) holds = λ limits bytes frames s. holds limits bytes frames (then_ended bytes frames s)
 
 -- there is no current line
 pub returns-then-held-len-clause-ends : goal.returns-then-held-len-clause-ends
@@ -51,6 +52,6 @@ returns-in-Ok-Some-clause-ends c bytes frames s =
     ends_last c.args.held.now bytes frames s some c.end_line.new.held c.in-Ok-Some.ended (rw c.in-Ok-Some.field-0-is at c.in-Ok-Some.ensures.ends)
 
 pub returns-in-Err-clause-broken : goal.returns-in-Err-clause-broken
-returns-in-Err-clause-broken c bytes frames s =
+returns-in-Err-clause-broken c limits bytes frames s =
     let some : c.args.held.now.line < length c.args.held.now.buffer.items = omega (arith, c.args.held.now.buffer.ok.0) in
-    ends_broken c.args.held.now bytes frames s some _ c.in-Err.ensures.breaks
+    ends_broken c.args.held.now bytes frames s some limits _ (c.in-Err.ensures.breaks limits)

@@ -1,6 +1,7 @@
 use Rattle.std.proofs.Common.{refl, length, ◌≡◌, ◌≢◌, ℕ, List, Result, Ok, Err, IfErr, sym, ap, ◌∙◌, subst, arith}
 use Rattle.std.proofs.lemmas.List.{map_push, length-map, take_rest}
 use Rattle.std.proofs.lemmas.Result.{err_from_is_err_and}
+use Rattle.fz_syntax.specs.Lexing.{standard_limits}
 use Rattle.fz_syntax.specs.View.{bare_items}
 use Rattle.fz_stream.specs.Found.{block_of, HasPlaces, EndsWithin}
 use Rattle.fz_stream.proofs.PartLemmas.{every_append}
@@ -51,7 +52,7 @@ loop-at-preserved c =
         so_far = rw (w.begun-is, w.blocks-is, w.claims-is, w.in_ok-push-in-EndsBlock.ensures.items, map_push) (
             so_far_block _ _ _ _ _ c.loop-at.invariant.so_far _ (take_rest c.args.stream.now c.loop-at.at) c.first_line-line.result.now c.first_line-line.ensures.within c.first_line-line.ensures.cut w.in-EndsBlock.start
             (ap (step_of _ _) (sym c.line_kind.ensures) ∙ sym w.in-EndsBlock.ensures) _ _ w.in_ok-block-in-EndsBlock.ensures.offset w.in_ok-block-in-EndsBlock.ensures.text
-            (bare_items w.in_ok-block-in-EndsBlock.block.items.items) (subst (λ t. IsBlockText t (bare_items w.in_ok-block-in-EndsBlock.block.items.items)) (sym w.in_ok-block-in-EndsBlock.ensures.text) w.in_ok-block-in-EndsBlock.ensures.items));
+            (bare_items w.in_ok-block-in-EndsBlock.block.items.items) (subst (λ t. IsBlockText standard_limits t (bare_items w.in_ok-block-in-EndsBlock.block.items.items)) (sym w.in_ok-block-in-EndsBlock.ensures.text) w.in_ok-block-in-EndsBlock.ensures.items));
         places = rw (w.blocks-is, w.in_ok-push-in-EndsBlock.ensures.items) (every_append HasPlaces _ _ c.loop-at.invariant.places (w.in_ok-block-in-EndsBlock.ensures.places, tt));
         within = rw (w.blocks-is, w.in_ok-push-in-EndsBlock.ensures.items) (
             every_append (EndsWithin (length c.args.stream.now)) _ _ c.loop-at.invariant.within (
@@ -108,14 +109,14 @@ refused : {X : Type 0} (bytes : List ℕ) (r : Result X StreamError)
     → IfErr r (λ e. e ≢ Memory → e ≢ TooLong → (parts : List StreamPart) × StopsAfter bytes parts e)
     → IfErr r (λ e. e ≢ Memory → e ≢ TooLong → (parts : List StreamPart) → IsStreamText bytes parts → ⊥)
 refused bytes (Ok x) h = tt
-refused bytes (Err e) h = λ known long. (let s = h known long in stops_no_text bytes _ e s.1.1)
+refused bytes (Err e) h = λ known long. (let s = h known long in stops_no_text _ bytes _ e s.1.1)
 
 pub returns-in_err-block-in-EndsBlock-clause-refused :
     goal.returns-in_err-block-in-EndsBlock-clause-refused
 returns-in_err-block-in-EndsBlock-clause-refused c = refused _ c.from_residual.result (returns-in_err-block-in-EndsBlock-clause-stops c)
 
 pub returns-in-Breaks-clause-refused : goal.returns-in-Breaks-clause-refused
-returns-in-Breaks-clause-refused c known long = (let s = returns-in-Breaks-clause-stops c known long in stops_no_text _ _ _ s.1.1)
+returns-in-Breaks-clause-refused c known long = (let s = returns-in-Breaks-clause-stops c known long in stops_no_text _ _ _ _ s.1.1)
 
 pub returns-in-Some-clause-refused : goal.returns-in-Some-clause-refused
-returns-in-Some-clause-refused c known long = (let s = returns-in-Some-clause-stops c known long in stops_no_text _ _ _ s.1.1)
+returns-in-Some-clause-refused c known long = (let s = returns-in-Some-clause-stops c known long in stops_no_text _ _ _ _ s.1.1)

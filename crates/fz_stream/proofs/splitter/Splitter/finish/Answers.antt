@@ -18,6 +18,7 @@ returns-in-Ok c =
       fault = tt;
       place = tt;
       err = tt;
+      limits = ap (λ (s : SplitterState). s.limits) c.self.view_is;
     }
 
 pub returns-in-Err : goal.returns-in-Err
@@ -29,9 +30,10 @@ returns-in-Err c =
     record {
       ends = tt;
       ok = tt;
-      broken = λ _ bytes frames f. c.in-Err.ensures.broken bytes frames (stands_for c.args.self.now _ (d.kept ∙ ap (λ (s : SplitterState). s.held) c.self.view_is) (d.line ∙ ap (λ (s : SplitterState). s.line) c.self.view_is) taken bytes frames f);
+      broken = λ _ bytes frames f. c.in-Err.ensures.broken _ bytes frames (stands_for c.args.self.now _ (d.kept ∙ ap (λ (s : SplitterState). s.held) c.self.view_is) (d.line ∙ ap (λ (s : SplitterState). s.line) c.self.view_is) taken bytes frames f);
       failed = ((λ e. absurd cc), (λ e. absurd (let no : Running ≡ Failed = sym running ∙ stage ∙ e in cc)));
       fault = λ _. (tt, λ e. absurd cc);
       place = subst (λ n. IsSpanWithin n c.in-Err.span) taken c.in-Err.ensures.place;
       err = (refl, refl);
+      limits = ap (λ (s : SplitterState). s.limits) c.self.view_is;
     }
