@@ -1,0 +1,32 @@
+-- What a known-solution says of the domain of a variable.
+use Rattle.std.proofs.Common.{◌≡◌, ℕ, zero, suc, List, [], ◌∷◌, Some, refl, subst, option_map, slice_get, ◌∙◌, IsSomeAnd, IsTrue}
+use Rattle.std.specs.List.{AllByRecursion}
+use Rattle.fz_base.specs.declared.value.Value.{Value}
+use Rattle.fz_builtins.specs.of_meaning.declared.kind.Kind.{Kind}
+use Rattle.fz_builtins.specs.of_meaning.Relations.{kind_of}
+use Rattle.fz_builtins.specs.of_meaning.Meaning.{Assignment, FitVariables, Model, Variable, inside, points, value_at, variables_of, whole}
+use Rattle.fz_builtins.specs.of_meaning.Meaning.Point.{DomainPoint}
+use Rattle.fz_builtins.specs.of_meaning.States.{HoldsIfKnown, IsKnownSolution}
+use Rattle.fz_builtins.proofs.of_meaning.Lists.{at_place}
+use Rattle.fz_builtins.proofs.of_meaning.Points.{points_fit}
+use Rattle.fz_builtins.proofs.of_meaning.States.{intro}
+use Rattle.fz_builtins.proofs.of_meaning.Steps.{PointFits}
+use Rattle.fz_bounds.specs.Bounds.{LiesIn}
+use Rattle.fz_bounds.proofs.Failing.{some_and}
+
+-- an assignment gives each variable a value of its kind
+assigned : (xs : List Variable) (A : Assignment) (n : ℕ) (k : Kind) → FitVariables xs (whole A)
+    → option_map (λ x. x.kind) (slice_get xs n) ≡ Some k
+    → (w : Value) × (value_at (whole A) n ≡ Some w) × (kind_of w ≡ k)
+assigned [] A n k h e = cc
+assigned (x ∷ xs) [] n k h e = absurd h
+assigned (x ∷ xs) (a ∷ A) zero k h e = let same : x.kind ≡ k = cc in (a, refl, h.0 ∙ same)
+assigned (x ∷ xs) (a ∷ A) (suc n) k h e = assigned xs A n k h.1 e
+
+pub known_domain : (m : Model) (A : Assignment) (k : ℕ) (x : Variable) (n : ℕ)
+    → IsKnownSolution m A → slice_get (points m) k ≡ Some (DomainPoint x n)
+    → LiesIn x.kind x.domain (value_at (whole A) n)
+known_domain m A k x n solution at =
+    let (w, is, kind) = assigned (variables_of m) A n x.kind solution.assignment (at_place (PointFits m) (points m) k (DomainPoint x n) (points_fit m) at) in
+    let holds = at_place (HoldsIfKnown (whole A)) (points m) k (DomainPoint x n) solution.each_holds at in
+    intro (λ v. (kind_of v ≡ x.kind) × IsTrue (inside x.domain v)) (value_at (whole A) n) w is (kind, some_and (λ v. IsTrue (inside x.domain v)) (value_at (whole A) n) w holds is)

@@ -1,0 +1,36 @@
+-- Bounds of a variable as numbers.
+use Rattle.std.specs.Prelude.{◌≡◌, ℕ, ℤ, pos, ◌≤ℤ◌, Some, ⊤, slice_get}
+use Rattle.fz_base.specs.declared.value.Value.{Value}
+use Rattle.fz_builtins.specs.of_meaning.declared.kind.Kind.{Kind}
+use Rattle.fz_builtins.specs.of_meaning.declared.kind.Kind.TheVariants.{Int as IntKind, Bool as BoolKind, Set as SetKind}
+use Rattle.fz_builtins.specs.of_meaning.Meaning.{Assignment, Model, Point, points, value_at, whole}
+use Rattle.fz_builtins.specs.of_meaning.States.{HoldsIfKnown}
+use Rattle.fz_bounds.specs.Bounds.{IsInside, Ranges, number_as}
+use Rattle.fz_bounds.specs.declared.ends.Ends.{Ends}
+
+-- a number that a value of the kind is told as: of a Boolean, 0 or 1
+abbrev pub IsTold : Kind → ℤ → Type 0
+IsTold BoolKind n = (pos 0 ≤ℤ n) × (n ≤ℤ pos 1)
+IsTold IntKind n = ⊤
+IsTold SetKind n = ⊤
+
+-- the two values are these numbers
+pub record AreEnds (low high : Value) (e : Ends) : Type 0 where
+  pub low_is : low ≡ number_as e.kind e.low
+  pub high_is : high ≡ number_as e.kind e.high
+  pub low_told : IsTold e.kind e.low
+  pub high_told : IsTold e.kind e.high
+
+-- the variable has these bounds
+pub record AreEndsAt (B : Ranges) (n : ℕ) (e : Ends) : Type 0 where
+  pub low_is : value_at B.lowest n ≡ Some (number_as e.kind e.low)
+  pub high_is : value_at B.highest n ≡ Some (number_as e.kind e.high)
+  pub low_told : IsTold e.kind e.low
+  pub high_told : IsTold e.kind e.high
+
+-- the point of the number holds under no assignment inside the bounds that gives the variable one of
+-- these numbers (private functions only)
+abbrev pub Excludes : Model → ℕ → Ranges → ℕ → Kind → ℤ → ℤ → Type 0
+Excludes m k B n kind from to = (p : Point) → slice_get (points m) k ≡ Some p → (A : Assignment)
+    → IsInside B A → (a : ℤ) → value_at (whole A) n ≡ Some (number_as kind a) → from ≤ℤ a → a ≤ℤ to
+    → HoldsIfKnown (whole A) p → ⊥

@@ -1,0 +1,189 @@
+//! The bounds of a model's variables.
+
+ghost use Rattle.std.specs.Prelude.{◌≡◌, IfOk, IfSome, option_map};
+ghost use Rattle.fz_builtins.specs.of_meaning.Meaning.{Assignment, value_at, whole};
+ghost use Rattle.fz_builtins.specs.of_meaning.States.{IsKnownSolution};
+ghost use Rattle.fz_bounds.specs.Bounds.{AreFixed, HasAllOf, IsBoth, IsInside, LiesIn, narrowed, number_as};
+ghost use Rattle.fz_bounds.specs.Ends.{AreEndsAt};
+
+use crate::domains::ends_of;
+use crate::ends::{Ends, ends_between, number_as};
+use crate::replacing::replace;
+use fz_base::Value;
+use fz_model::{Kind, Model, Partial, PointParts, Variable};
+use std::alloc::{AllocError, Global};
+
+/// The least and the greatest value that each variable may have, so far as they are known. Of a set
+/// variable its value is known or nothing.
+#[derive(Drop)]
+pub struct Bounds {
+    lowest: Partial,
+    highest: Partial,
+    /// the values of variables whose least value is their greatest one
+    fixed: Partial,
+}
+
+impl std::marker::Model for Bounds {
+    ghost use Rattle.fz_base.specs.contracts.sets.IntSet as the_set;
+    ghost use Rattle.std.specs.Coded.{codes};
+    ghost use Rattle.fz_bounds.specs.Bounds.{AreFixed, Ranges};
+
+    ghost Value = { Ranges };
+
+    ghost coded = { Prim.hlevel (codes, the_set.the_row.coded) };
+
+    ghost view = { λ b. record { lowest = b.lowest; highest = b.highest } };
+
+    ghost invariant = { λ b. AreFixed (record { lowest = b.lowest; highest = b.highest }) b.fixed };
+}
+
+/// The value that lies between the two, where it is the only one.
+fn only_value(low: &Value, high: &Value) -> Option<Value>
+    ensures { IfSome result (λ v. IsBoth v low.now high.now) }
+{
+    match (low, high) {
+        (Value::Int(low), Value::Int(high)) if *low == *high => Some(Value::Int(*low)),
+        (Value::Bool(low), Value::Bool(high)) if *low == *high => Some(Value::Bool(*low)),
+        _ => None,
+    }
+}
+
+impl Bounds {
+    /// The bounds that the values of the filling and the domains of the model give.
+    ///
+    /// # Errors
+    ///
+    /// Out of memory.
+    pub fn new(
+        alloc: Global,
+        model: &Model<'_>,
+        filling: &Partial,
+    ) -> Result<Bounds, AllocError>
+        ensures inside { IfOk result (λ b. (A : Assignment) → IsKnownSolution model.now A
+            → HasAllOf filling.now (whole A) → IsInside b A) }
+    {
+        let mut bounds = Bounds::unknown(alloc, model)?;
+        for number in 0..model.points() {
+            if let PointParts::Domain(variable, own) = model.point_parts(number) {
+                bounds.bound(variable, own);
+            }
+        }
+        for number in 0..model.variables().len() {
+            if let Some(value) = filling.get(number) {
+                bounds.fix(alloc, number, value)?;
+            }
+        }
+        Ok(bounds)
+    }
+
+    /// Bounds of which nothing is known.
+    fn unknown(alloc: Global, model: &Model<'_>) -> Result<Bounds, AllocError>
+        ensures { IfOk result (λ b. (A : Assignment) → IsInside b A) }
+    {
+        let lowest = Partial::new(alloc, model)?;
+        let highest = Partial::new(alloc, model)?;
+        let fixed = Partial::new(alloc, model)?;
+        Ok(Bounds {
+            lowest,
+            highest,
+            fixed,
+        })
+    }
+
+    /// Bounds of their own that are no narrower.
+    ///
+    /// # Errors
+    ///
+    /// Out of memory.
+    pub fn copy(&self, alloc: Global, model: &Model<'_>) -> Result<Bounds, AllocError>
+        ensures inside { IfOk result (λ b. (A : Assignment) → IsInside self.now A → IsInside b A) }
+    {
+        let mut bounds = Bounds::unknown(alloc, model)?;
+        for number in 0..model.variables().len() {
+            if let Some(value) = self.fixed.get(number) {
+                bounds.fix(alloc, number, value)?;
+            } else if let Some(ends) = self.ends(number) {
+                bounds.narrow(number, ends.kind, ends.low, ends.high);
+            }
+        }
+        Ok(bounds)
+    }
+
+    /// Gives a variable the bounds of its domain, where that has some.
+    fn bound(&mut self, variable: &Variable<'_>, number: usize)
+        ensures { (A : Assignment) → IsInside self.old A
+            → LiesIn variable.now.kind variable.now.domain (value_at (whole A) number)
+            → IsInside self.new A }
+    {
+        if let Some((low, high)) = ends_of(variable.kind, &variable.domain) {
+            let only = only_value(&low, &high);
+            self.write(number, low, high, only);
+        }
+    }
+
+    /// Gives a variable a value.
+    fn fix(&mut self, alloc: Global, number: usize, value: &Value) -> Result<(), AllocError>
+        ensures { IfOk result (λ _. self.new ≡ narrowed self.old number value.now value.now) }
+    {
+        let low = value.copy(alloc)?;
+        let high = value.copy(alloc)?;
+        let only = value.copy(alloc)?;
+        self.write(number, low, high, Some(only));
+        Ok(())
+    }
+
+    /// Writes the bounds of a variable, and its value where they leave only one.
+    fn write(&mut self, number: usize, low: Value, high: Value, only: Option<Value>)
+        requires only { IfSome only (λ v. IsBoth v low high) }
+        ensures written { self.new ≡ narrowed self.old number low high }
+    {
+        self.fixed.take_away(number);
+        if let Some(value) = only {
+            replace(&mut self.fixed, number, value);
+        }
+        replace(&mut self.lowest, number, low);
+        replace(&mut self.highest, number, high);
+    }
+
+    /// Gives a variable these bounds in the place of those that it has, and changes nothing else.
+    /// Of a Boolean a number above 0 is true. It takes no memory.
+    pub fn narrow(&mut self, number: usize, kind: Kind, low: i64, high: i64)
+        ensures exact { self.new
+            ≡ narrowed self.old number (number_as kind low) (number_as kind high) }
+    {
+        let least = number_as(kind, low);
+        let greatest = number_as(kind, high);
+        let only = only_value(&least, &greatest);
+        self.write(number, least, greatest, only);
+    }
+
+    /// The bounds of a variable, where they are numbers or Booleans. It takes no memory.
+    pub fn ends(&self, number: usize) -> Option<Ends>
+        ensures exact { IfSome result (AreEndsAt self.now number) }
+    {
+        let low = self.lowest.get(number)?;
+        let high = self.highest.get(number)?;
+        ends_between(low, high)
+    }
+
+    /// The least values.
+    pub(crate) fn lowest(&self) -> &Partial
+        ensures { result.now ≡ self.now.lowest }
+    {
+        &self.lowest
+    }
+
+    /// The greatest values.
+    pub(crate) fn highest(&self) -> &Partial
+        ensures { result.now ≡ self.now.highest }
+    {
+        &self.highest
+    }
+
+    /// The values of variables that can have only one.
+    pub(crate) fn fixed(&self) -> &Partial
+        ensures { AreFixed self.now result.now }
+    {
+        &self.fixed
+    }
+}

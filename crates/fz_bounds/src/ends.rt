@@ -1,0 +1,47 @@
+//! Bounds as numbers.
+
+ghost use Rattle.std.specs.Prelude.{◌≡◌, IfSome};
+ghost use Rattle.fz_bounds.specs.Bounds.{number_as};
+ghost use Rattle.fz_bounds.specs.Ends.{AreEnds};
+
+use fz_base::Value;
+use fz_model::Kind;
+
+/// The bounds of a variable as numbers: of a Boolean, 0 is false and 1 is true.
+#[derive(Clone, Copy)]
+pub struct Ends {
+    pub kind: Kind,
+    pub low: i64,
+    pub high: i64,
+}
+
+/// The value that a number stands for in a variable of the kind: of a Boolean, a number above 0 is
+/// true.
+pub(crate) fn number_as(kind: Kind, number: i64) -> Value
+    ensures { result ≡ number_as kind number }
+{
+    match kind {
+        Kind::Bool => Value::Bool(number > 0),
+        Kind::Int => Value::Int(number),
+        Kind::Set => Value::Int(number),
+    }
+}
+
+/// The numbers that two bounds are.
+fn ends_between(low: &Value, high: &Value) -> Option<Ends>
+    ensures { IfSome result (AreEnds low.now high.now) }
+{
+    match (low, high) {
+        (Value::Int(low), Value::Int(high)) => Some(Ends {
+            kind: Kind::Int,
+            low: *low,
+            high: *high,
+        }),
+        (Value::Bool(low), Value::Bool(high)) => Some(Ends {
+            kind: Kind::Bool,
+            low: i64::from(*low),
+            high: i64::from(*high),
+        }),
+        _ => None,
+    }
+}

@@ -1,0 +1,23 @@
+//! Bounds of a model's variables, and points that cannot hold within them. A search proposes which
+//! point takes which values from a variable (`Bounds::tighten`), and what is told of it is proved:
+//! each assignment inside the old bounds under which the point holds lies inside the new ones. So a
+//! search that leaves a variable nothing shows that no solution has the values that it began with.
+//! An internal crate of `fz_check`.
+//!
+//! Nothing promises that a point which cannot hold is found out.
+#![tactic(auto)]
+
+mod bounds;
+mod domains;
+mod ends;
+mod outlook;
+mod refuting;
+mod replacing;
+mod rows;
+mod tightening;
+
+pub use bounds::Bounds;
+pub use ends::Ends;
+pub use fz_model;
+pub use refuting::cannot_hold;
+pub use tightening::Tightened;

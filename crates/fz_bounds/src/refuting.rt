@@ -1,0 +1,49 @@
+//! Points that cannot hold inside bounds.
+
+ghost use Rattle.std.specs.Prelude.{◌≡◌, ◌<◌, IfOk, IsTrue, Some, length, option_map};
+ghost use Rattle.fz_builtins.specs.of_meaning.Known.{known_row};
+ghost use Rattle.fz_builtins.specs.of_meaning.Meaning.{points, row_of};
+ghost use Rattle.fz_builtins.specs.of_data.Parts.{constraint_view};
+ghost use Rattle.fz_builtins.specs.of_data.Shown.{IfConstraint, point_view};
+ghost use Rattle.fz_bounds.specs.Bounds.{NeverHolds, NumberNeverHolds};
+
+use crate::bounds::Bounds;
+use crate::rows::row_fails;
+use fz_model::{Model, PointParts, State, state};
+use std::alloc::{AllocError, Global};
+
+/// Whether the point of a number, from 0, is found to hold under no assignment inside the bounds. A
+/// constraint without a row never is.
+///
+/// # Errors
+///
+/// Out of memory.
+pub fn cannot_hold(
+    alloc: Global,
+    model: &Model<'_>,
+    point: usize,
+    bounds: &Bounds,
+) -> Result<bool, AllocError>
+    requires in_range { point < length (points model.now) }
+    ensures never { IfOk result (λ b. IsTrue b → NumberNeverHolds model.now point bounds.now) }
+{
+    let found = state(alloc, model, point, bounds.fixed())?;
+    if matches!(found, State::Fails) {
+        return Ok(true);
+    }
+    Ok(parts_fail(&model.point_parts(point), bounds))
+}
+
+/// The same of a point with its parts, by its bounds alone.
+fn parts_fail(parts: &PointParts<'_, '_>, bounds: &Bounds) -> bool
+    requires known { IfConstraint parts.now
+        (λ c. option_map known_row c.posted.now.known ≡ row_of (constraint_view c)) }
+    ensures { IsTrue result → NeverHolds bounds.now (point_view parts.now) }
+{
+    match parts {
+        PointParts::Domain(..) => false,
+        PointParts::Definition(..) => false,
+        PointParts::Elements(..) => false,
+        PointParts::Constraint(constraint) => row_fails(*constraint, bounds),
+    }
+}

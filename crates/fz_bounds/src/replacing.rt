@@ -1,0 +1,18 @@
+//! Another value for a variable.
+
+ghost use Rattle.std.specs.Prelude.{◌≡◌};
+ghost use Rattle.fz_builtins.specs.of_meaning.Meaning.{give};
+
+use fz_base::Value;
+use fz_model::Partial;
+
+/// Gives a variable a value, whatever value it had, and changes nothing else.
+#[tactic(auto, using(crate::proofs::Giving::given_anew, crate::proofs::Giving::none_to_give))]
+pub(crate) fn replace(partial: &mut Partial, number: usize, value: Value)
+    ensures given { partial.new ≡ give partial.old number value }
+{
+    partial.take_away(number);
+    if number < partial.values().len() {
+        partial.set(number, value);
+    }
+}

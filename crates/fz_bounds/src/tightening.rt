@@ -1,0 +1,203 @@
+//! Narrower bounds of a variable, where a point shows them.
+
+ghost use Rattle.std.specs.Prelude.{◌≡◌, ◌<◌, pos, ◌+ℤ◌, ◌-ℤ◌, IfOk, IsTrue, OnErr, Some, length, slice_get};
+ghost use Rattle.std.specs.Int.{int_max, int_min};
+ghost use Rattle.fz_builtins.specs.of_meaning.Meaning.{Assignment, Point, points, whole};
+ghost use Rattle.fz_builtins.specs.of_meaning.States.{HoldsIfKnown};
+ghost use Rattle.fz_bounds.specs.Bounds.{IsInside, NumberNeverHolds, narrowed, number_as};
+ghost use Rattle.fz_bounds.specs.Ends.{AreEndsAt, Excludes};
+ghost use Rattle.fz_bounds.specs.declared.tightening.Tightened.TheVariants.{Empty, Unshown};
+
+use crate::bounds::Bounds;
+use crate::ends::Ends;
+use crate::refuting::cannot_hold;
+use fz_model::{Kind, Model, same_kind};
+use std::alloc::{AllocError, Global};
+
+/// So many numbers of a variable are tried one by one.
+const TRIED: i64 = 1_000;
+
+/// What a point takes from the bounds of a variable.
+#[derive(Clone, Copy, Debug, PartialEq, Eq)]
+pub enum Tightened {
+    /// The bounds are as narrow as was asked.
+    Narrowed,
+    /// They would have no number: the point holds nowhere inside the bounds.
+    Empty,
+    /// The point doesn't show it. The bounds stay as they were.
+    Unshown,
+}
+
+/// A variable with its bounds, and the point that is asked about it.
+#[derive(Clone, Copy)]
+struct Asked<'m, 'a> {
+    model: &'m Model<'a>,
+    point: usize,
+    variable: usize,
+    ends: Ends,
+}
+
+impl Bounds {
+    /// Takes from a variable the numbers outside `low..=high`, where the point of a number cannot
+    /// hold with them. It tries all those below at once, and all those above; and up to 1,000 of
+    /// them one by one. Of a Boolean 0 is false and 1 is true.
+    ///
+    /// # Errors
+    ///
+    /// Out of memory. The bounds are as they were.
+    pub fn tighten(
+        &mut self,
+        alloc: Global,
+        model: &Model<'_>,
+        point: usize,
+        variable: usize,
+        low: i64,
+        high: i64,
+    ) -> Result<Tightened, AllocError>
+        requires in_range { point < length (points model.now) }
+        ensures kept { IfOk result (λ t. (p : Point) → slice_get (points model.now) point ≡ Some p
+            → (A : Assignment) → IsInside self.old A → HoldsIfKnown (whole A) p
+            → IsInside self.new A) }
+        ensures within { (A : Assignment) → IsInside self.new A → IsInside self.old A }
+        ensures empty { IfOk result (λ t. t ≡ Empty
+            → NumberNeverHolds model.now point self.old) }
+        ensures unshown { IfOk result (λ t. t ≡ Unshown → self.new ≡ self.old) }
+        ensures unchanged { OnErr result (self.new ≡ self.old) }
+    {
+        let Some(ends) = self.ends(variable) else {
+            return Ok(Tightened::Unshown);
+        };
+        let asked = Asked {
+            model,
+            point,
+            variable,
+            ends,
+        };
+        let shown = self.takes_below(alloc, asked, low)? && self.takes_above(alloc, asked, high)?;
+        if !shown {
+            return Ok(Tightened::Unshown);
+        }
+        let low = low.max(ends.low);
+        let high = high.min(ends.high);
+        if low > high {
+            return Ok(Tightened::Empty);
+        }
+        self.narrow(variable, ends.kind, low, high);
+        Ok(Tightened::Narrowed)
+    }
+
+    /// Takes a number from the bounds of a variable, where it is one of several and an end, and
+    /// tells whether it did: for where nothing that is sought has the variable at that number.
+    /// It takes no memory.
+    pub fn take(&mut self, variable: usize, kind: Kind, number: i64) -> bool
+        ensures kept { (A : Assignment) → IsInside self.old A
+            → (IsInside (narrowed self.old variable (number_as kind number)
+            (number_as kind number)) A → ⊥) → IsInside self.new A }
+        ensures within { (A : Assignment) → IsInside self.new A → IsInside self.old A }
+    {
+        let Some(ends) = self.ends(variable) else {
+            return false;
+        };
+        if !same_kind(kind, ends.kind) || ends.low >= ends.high {
+            return false;
+        }
+        if number == ends.low {
+            self.narrow(variable, kind, number + 1, ends.high);
+            return true;
+        }
+        if number == ends.high {
+            self.narrow(variable, kind, ends.low, number - 1);
+            return true;
+        }
+        false
+    }
+
+    /// Whether the point cannot hold with a number within the bounds that is below `low`.
+    fn takes_below(
+        &mut self,
+        alloc: Global,
+        asked: Asked<'_, '_>,
+        low: i64,
+    ) -> Result<bool, AllocError>
+        requires in_range { asked.point < length (points asked.model.now) }
+        requires ends { AreEndsAt self.old asked.variable asked.ends }
+        ensures same { self.new ≡ self.old }
+        ensures never { IfOk result (λ b. IsTrue b → Excludes asked.model.now asked.point self.old
+            asked.variable asked.ends.kind asked.ends.low (int_min asked.ends.high
+            (low -ℤ pos 1))) }
+    {
+        if low <= asked.ends.low {
+            return Ok(true);
+        }
+        self.cannot_lie(alloc, asked, asked.ends.low, asked.ends.high.min(low - 1))
+    }
+
+    /// Whether the point cannot hold with a number within the bounds that is above `high`.
+    fn takes_above(
+        &mut self,
+        alloc: Global,
+        asked: Asked<'_, '_>,
+        high: i64,
+    ) -> Result<bool, AllocError>
+        requires in_range { asked.point < length (points asked.model.now) }
+        requires ends { AreEndsAt self.old asked.variable asked.ends }
+        ensures same { self.new ≡ self.old }
+        ensures never { IfOk result (λ b. IsTrue b → Excludes asked.model.now asked.point self.old
+            asked.variable asked.ends.kind (int_max asked.ends.low (high +ℤ pos 1))
+            asked.ends.high) }
+    {
+        if asked.ends.high <= high {
+            return Ok(true);
+        }
+        self.cannot_lie(alloc, asked, asked.ends.low.max(high + 1), asked.ends.high)
+    }
+
+    /// Whether the point cannot hold with a number of the variable from one to another.
+    fn cannot_lie(
+        &mut self,
+        alloc: Global,
+        asked: Asked<'_, '_>,
+        from: i64,
+        to: i64,
+    ) -> Result<bool, AllocError>
+        requires in_range { asked.point < length (points asked.model.now) }
+        requires ends { AreEndsAt self.old asked.variable asked.ends }
+        ensures same { self.new ≡ self.old }
+        ensures never { IfOk result (λ b. IsTrue b → Excludes asked.model.now asked.point self.old
+            asked.variable asked.ends.kind from to) }
+    {
+        if self.fails_between(alloc, asked, from, to)? {
+            return Ok(true);
+        }
+        if to.saturating_sub(from) >= TRIED {
+            return Ok(false);
+        }
+        for number in from..to {
+            if !self.fails_between(alloc, asked, number, number)? {
+                return Ok(false);
+            }
+        }
+        self.fails_between(alloc, asked, to, to)
+    }
+
+    /// Whether the point cannot hold where the bounds of the variable are these.
+    fn fails_between(
+        &mut self,
+        alloc: Global,
+        asked: Asked<'_, '_>,
+        from: i64,
+        to: i64,
+    ) -> Result<bool, AllocError>
+        requires in_range { asked.point < length (points asked.model.now) }
+        requires ends { AreEndsAt self.old asked.variable asked.ends }
+        ensures same { self.new ≡ self.old }
+        ensures never { IfOk result (λ b. IsTrue b → Excludes asked.model.now asked.point self.old
+            asked.variable asked.ends.kind from to) }
+    {
+        let ends = asked.ends;
+        self.narrow(asked.variable, ends.kind, from, to);
+        let fails = cannot_hold(alloc, asked.model, asked.point, self);
+        self.narrow(asked.variable, ends.kind, ends.low, ends.high);
+        fails
+    }
+}
