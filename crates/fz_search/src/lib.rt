@@ -19,7 +19,7 @@ mod linear;
 mod lone;
 mod points;
 mod proposal;
-mod refuted;
+mod refuting;
 mod relations;
 mod row;
 mod search;
@@ -31,6 +31,6 @@ mod work;
 
 pub use fz_model;
 pub use index::Search;
-pub use refuted::refuted;
+pub use refuting::{Refutation, refuted};
 pub use row::Place;
 pub use search::{known_of, propose};
