@@ -2,7 +2,9 @@
 use Rattle.std.proofs.Common.{◌≡◌, ℕ, List, [], ◌∷◌, ◌++◌, map, None, refl, ap, subst, ◌∙◌, inl, inr}
 use Rattle.std.specs.Prelude.{◌≢◌, ◌⊎◌}
 use Rattle.std.proofs.lemmas.List.{map-append}
-use Rattle.fz_names.specs.of_meaning.of_syntax.Offering.{TreeItems, IsRefused, IsTextOfAll, all_items}
+use Rattle.fz_names.specs.of_meaning.of_syntax.Offering.{TreeItems, IsTextOfAllWithin, all_items}
+use Rattle.fz_names.specs.of_meaning.of_syntax.Limits.{Limits}
+use Rattle.fz_names.specs.of_meaning.of_syntax.SyntaxError.{SyntaxError}
 use Rattle.fz_tree.specs.declared.tree.Decl.{Decl}
 use Rattle.fz_tree.specs.declared.tree.Constraint.{Constraint}
 use Rattle.fz_tree.specs.declared.tree.Solve.{Solve}
@@ -17,7 +19,7 @@ use Rattle.fz_data.specs.declared.error.LoadError.TheVariants as errors
 use Rattle.fz_data.specs.declared.scope.Scope.{Scope}
 use Rattle.fz_data.specs.Scope.{constraint_fault_in}
 use Rattle.fz_data.specs.Stands.{Declares}
-use Rattle.fz_data.specs.Texts.{TellsOf, IsNameFault, IsLoadRefusal}
+use Rattle.fz_data.specs.Texts.{TellsOf, IsNameFaultWithin, IsLoadRefusal}
 use Rattle.fz_data.proofs.Loaded.{all_stand, told_in_constraints}
 use Rattle.fz_data.proofs.Tells.{tells_further}
 
@@ -28,10 +30,10 @@ module _ {Q R : Type 0} (Left : Q → Type 0) (all : Q → TreeItems) (Before : 
   names_before e (inl memory) = inl memory
   names_before e (inr h) = inr (record { rest = put h.rest; left = puts h.rest h.left; tells = subst (Tells e) (same h.rest) h.tells })
 
-  pub refusal_before : (source other : List ℕ) → source ≡ other → (e : LoadError)
-      → IsLoadRefusal source Left all e → IsLoadRefusal other Before every e
-  refusal_before source other is (errors.Text e) h = subst (λ (s : List ℕ). IsRefused s e) is h
-  refusal_before source other is (errors.Names e) h = names_before e h
+  pub refusal_before : (Here There : SyntaxError → Type 0) → ((e : SyntaxError) → Here e → There e)
+      → (e : LoadError) → IsLoadRefusal Here Left all e → IsLoadRefusal There Before every e
+  refusal_before Here There is (errors.Text e) h = is e h
+  refusal_before Here There is (errors.Names e) h = names_before e h
 
 pub told_at_decl : (ds : List Decl) (d : Decl) (r : List Decl × (List Constraint × Solve))
     (e : ModelError) → decls_fault [] (map located_decl ds) ≡ None
@@ -50,7 +52,8 @@ told_at_constraint ds cs c r s e h clean tells =
     (tells_further e _ _ (λ y here. ap (first_some (constraint_fault_in s)) (map-append located_constraint cs (c ∷ r.0)) ∙ first_append (constraint_fault_in s) (map located_constraint cs) (located_constraint c ∷ map located_constraint r.0) ∙ rw (clean, here) refl) tells)
 
 -- a refusal of names tells the first fault
-pub first_told : (source : List ℕ) (e : ModelError) → e ≢ names.Memory
-    → (e ≡ names.Memory) ⊎ TellsOf (IsTextOfAll source) (λ t. t) e → IsNameFault source e
-first_told source e other (inl memory) = absurd (other memory)
-first_told source e other (inr h) = record { all = h.rest; text = h.left; tells = h.tells }
+pub first_told : (limits : Limits) (source : List ℕ) (e : ModelError) → e ≢ names.Memory
+    → (e ≡ names.Memory) ⊎ TellsOf (IsTextOfAllWithin limits source) (λ t. t) e
+    → IsNameFaultWithin limits source e
+first_told limits source e other (inl memory) = absurd (other memory)
+first_told limits source e other (inr h) = record { all = h.rest; text = h.left; tells = h.tells }

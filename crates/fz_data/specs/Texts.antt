@@ -1,7 +1,10 @@
 -- What is said of the text of a model that is loaded item by item.
 use Rattle.std.specs.Prelude.{◌≡◌, ◌⊎◌, ℕ, List, map}
-use Rattle.fz_names.specs.of_meaning.of_syntax.Offering.{TreeItems, IsTextOfAll, IsRefused, IsLeft, TookAll, from_decls, from_constraints}
-use Rattle.fz_tree.specs.Text.{IsTextOfTree}
+use Rattle.fz_names.specs.of_meaning.of_syntax.Offering.{TreeItems, IsTextOfAllWithin, IsLeft, TookAll, from_decls, from_constraints}
+use Rattle.fz_names.specs.of_meaning.of_syntax.Limits.{Limits}
+use Rattle.fz_names.specs.of_meaning.of_syntax.Lexing.{standard_limits}
+use Rattle.fz_names.specs.of_meaning.of_syntax.SyntaxError.{SyntaxError}
+use Rattle.fz_tree.specs.Text.{IsTextOfTreeWithin}
 use Rattle.fz_names.specs.of_meaning.of_syntax.declared.reader.Rest.{Rest}
 use Rattle.fz_tree.specs.declared.tree.Solve.{Solve}
 use Rattle.fz_tree.specs.declared.tree.Decl.{Decl}
@@ -20,19 +23,25 @@ use Rattle.fz_data.specs.declared.store.Store.{Store}
 use Rattle.fz_data.specs.declared.error.LoadError.{LoadError}
 use Rattle.fz_data.specs.declared.error.LoadError.TheVariants as errors
 
--- The source is a text of a tree without faults, and this is its model.
-pub record IsLoadedFrom (source : List ℕ) (m : Model) : Type 0 where
+-- The source is a text of a tree within the limits without faults, and this is its model.
+pub record IsLoadedFromWithin (limits : Limits) (source : List ℕ) (m : Model) : Type 0 where
   pub tree : LocatedTree
-  pub text : IsTextOfTree source (bare_of tree)
+  pub text : IsTextOfTreeWithin limits source (bare_of tree)
   pub no_fault : HasNoFault tree
   pub is : m ≡ model_of tree
 
+abbrev pub IsLoadedFrom : List ℕ → Model → Type 0
+IsLoadedFrom = IsLoadedFromWithin standard_limits
+
 -- The source is a text of these items, whose names and literals stand in it, and this is the
 -- first fault of their tree.
-pub record IsNameFault (source : List ℕ) (e : ModelError) : Type 0 where
+pub record IsNameFaultWithin (limits : Limits) (source : List ℕ) (e : ModelError) : Type 0 where
   pub all : TreeItems
-  pub text : IsTextOfAll source all
+  pub text : IsTextOfAllWithin limits source all
   pub tells : Tells e (first_fault (located_all all))
+
+abbrev pub IsNameFault : List ℕ → ModelError → Type 0
+IsNameFault = IsNameFaultWithin standard_limits
 
 -- ---- only private functions use these
 
@@ -44,10 +53,10 @@ pub record TellsOf {R : Type 0} (Left : R → Type 0) (all : R → TreeItems)
   pub tells : Tells e (first_fault (located_all (all rest)))
 
 -- The source is refused, or names in what is left of it, unless memory ran out.
-abbrev pub IsLoadRefusal : {R : Type 0} → List ℕ → (R → Type 0) → (R → TreeItems) → LoadError
-    → Type 0
-IsLoadRefusal source Left all (errors.Text e) = IsRefused source e
-IsLoadRefusal source Left all (errors.Names e) = (e ≡ names.Memory) ⊎ TellsOf Left all e
+abbrev pub IsLoadRefusal : {R : Type 0} → (SyntaxError → Type 0) → (R → Type 0) → (R → TreeItems)
+    → LoadError → Type 0
+IsLoadRefusal Refused Left all (errors.Text e) = Refused e
+IsLoadRefusal Refused Left all (errors.Names e) = (e ≡ names.Memory) ⊎ TellsOf Left all e
 
 -- All declarations were taken, and the scope stands for them.
 pub record HasDeclared (old new : Rest) (s : Scope) : Type 0 where

@@ -2,8 +2,7 @@
 
 ghost use Rattle.std.specs.Prelude.{◌≡◌, ◌≢◌, ◌<◌, ◌↔◌, Err, ◌++◌, ◌∷◌, [], IfErr, IfOk, List, OnOk, length, map};
 ghost use Rattle.fz_names.specs.of_meaning.Located.{Constraint as LocatedConstraint, Decl as LocatedDecl};
-ghost use Rattle.fz_names.specs.of_meaning.of_syntax.Offering.{IsLeft, IsRefused, IsTextOfAll, Took, TookAll, all_items, from_constraints, from_decls, from_predicates, left_of};
-ghost use Rattle.fz_tree.specs.of_lex.Lexing.{most_bytes};
+ghost use Rattle.fz_names.specs.of_meaning.of_syntax.Offering.{IsLeft, IsRefusedAt, IsRefusedWithin, IsTextOfAllWithin, Took, TookAll, all_items, from_constraints, from_decls, from_predicates, left_of};
 ghost use Rattle.fz_names.specs.of_meaning.of_syntax.SyntaxError.{SyntaxError as SyntaxFault};
 ghost use Rattle.fz_names.specs.of_meaning.of_syntax.SyntaxError.TheVariants.{TooLong};
 ghost use Rattle.fz_tree.specs.declared.tree.Decl as the_decl;
@@ -15,7 +14,7 @@ ghost use Rattle.fz_names.specs.of_meaning.declared.error.ModelError.TheVariants
 ghost use Rattle.fz_data.specs.Posting.{Posts};
 ghost use Rattle.fz_data.specs.Scope.{HasKinds, constraint_fault_in};
 ghost use Rattle.fz_data.specs.Stands.{Declares};
-ghost use Rattle.fz_data.specs.Texts.{HasDeclared, HasPosted, IsLoadRefusal, IsLoadedFrom, IsNameFault};
+ghost use Rattle.fz_data.specs.Texts.{HasDeclared, HasPosted, IsLoadRefusal, IsLoadedFromWithin, IsNameFaultWithin};
 
 use crate::error::LoadError;
 use crate::loading::{declare, empty};
@@ -26,7 +25,7 @@ use crate::scope::Scope;
 use crate::store::Store;
 use fz_names::fz_meaning::ModelError;
 use fz_names::fz_meaning::fz_syntax::{ConstraintItems, DeclItems, Offer, PredicateItems};
-use fz_tree::fz_lex::SyntaxError;
+use fz_tree::fz_lex::{Limits, SyntaxError};
 use fz_tree::{Constraint, Decl, Solve};
 use std::alloc::Global;
 
@@ -34,7 +33,7 @@ use std::alloc::Global;
 fn past_predicates<'a>(mut items: PredicateItems<'a>) -> Result<DeclItems<'a>, SyntaxError>
     ensures past { IfOk result (λ d. (ps : List the_predicate.Predicate)
         × TookAll from_predicates from_decls ps items.entry.rest d.rest) }
-    ensures refused { IfErr result (IsRefused items.entry.rest.source.now) }
+    ensures refused { IfErr result (IsRefusedAt items.entry.rest) }
 {
     loop {
         match items.next()? {
@@ -50,7 +49,7 @@ fn past_predicates<'a>(mut items: PredicateItems<'a>) -> Result<DeclItems<'a>, S
 /// Reads all items from here on.
 fn behind_constraint(mut items: ConstraintItems<'_>) -> Result<(), SyntaxError>
     ensures left { IfOk result (λ _. (r : _) × IsLeft from_constraints items.entry.rest r) }
-    ensures refused { IfErr result (IsRefused items.entry.rest.source.now) }
+    ensures refused { IfErr result (IsRefusedAt items.entry.rest) }
 {
     loop {
         match items.next()? {
@@ -63,7 +62,7 @@ fn behind_constraint(mut items: ConstraintItems<'_>) -> Result<(), SyntaxError>
 /// Reads all items from here on.
 fn behind_decl(mut items: DeclItems<'_>) -> Result<(), SyntaxError>
     ensures left { IfOk result (λ _. (r : _) × IsLeft from_decls items.entry.rest r) }
-    ensures refused { IfErr result (IsRefused items.entry.rest.source.now) }
+    ensures refused { IfErr result (IsRefusedAt items.entry.rest) }
 {
     loop {
         match items.next()? {
@@ -109,7 +108,7 @@ fn declared_in<'a>(
     requires nothing { Declares [] scope }
     ensures kinds { IfOk result (λ r. HasKinds r.1) }
     ensures declared { IfOk result (λ r. HasDeclared items.entry.rest r.0.rest r.1) }
-    ensures refused { IfErr result (IsLoadRefusal items.entry.rest.source.now
+    ensures refused { IfErr result (IsLoadRefusal (IsRefusedAt items.entry.rest)
         (IsLeft from_decls items.entry.rest) (λ r. all_items ([], r))) }
 {
     loop {
@@ -161,7 +160,7 @@ fn posted_in<'a>(
     ensures posted { IfOk result
         (λ r. HasPosted items.entry.rest scope.now store.new r.0.items r.1) }
     ensures refused { (ds : List the_decl.Decl) → Declares (map located_decl ds) scope.now
-        → IfErr result (IsLoadRefusal items.entry.rest.source.now
+        → IfErr result (IsLoadRefusal (IsRefusedAt items.entry.rest)
         (IsLeft from_constraints items.entry.rest) (λ r. all_items ([], (ds, r)))) }
 {
     let mut found = Vec::new(alloc);
@@ -185,13 +184,14 @@ fn posted_in<'a>(
 const BYTES_OF_A_DECLARATION: usize = 64;
 
 /// The model of a text, read and loaded item by item.
-fn read_text<'a>(alloc: Global, source: &'a [u8]) -> Result<Model<'a>, LoadError>
-    ensures loaded { IfOk result (IsLoadedFrom source.now) }
-    ensures refused { IfErr result
-        (IsLoadRefusal source.now (IsTextOfAll source.now) (λ t. t)) }
-    ensures too_long { (most_bytes < length source.now) → result ≡ Err (LoadError.Text TooLong) }
+fn read_text<'a>(alloc: Global, source: &'a [u8], limits: Limits) -> Result<Model<'a>, LoadError>
+    ensures loaded { IfOk result (IsLoadedFromWithin limits source.now) }
+    ensures refused { IfErr result (IsLoadRefusal (IsRefusedWithin limits source.now)
+        (IsTextOfAllWithin limits source.now) (λ t. t)) }
+    ensures too_long { (limits.bytes < length source.now)
+        → result ≡ Err (LoadError.Text TooLong) }
 {
-    let items = past_predicates(PredicateItems::new(alloc, source)?)?;
+    let items = past_predicates(PredicateItems::new(alloc, source, limits)?)?;
     let nothing = empty(alloc, source.len() / BYTES_OF_A_DECLARATION)?;
     let (items, scope) = declared_in(alloc, items, nothing)?;
     let mut store = Store::new(alloc);
@@ -200,22 +200,28 @@ fn read_text<'a>(alloc: Global, source: &'a [u8]) -> Result<Model<'a>, LoadError
     Ok(Model::assembled(scope, store, constraints, goal))
 }
 
-/// The model of a text. No tree of it is held.
+/// The model of a text, read under these limits. No tree of it is held.
 ///
 /// # Errors
 ///
-/// `Text` with the error of `parse`, or else `Names` with that of `load`: a fault of the text comes
+/// `Text` with the error of `parse_within`, or else `Names` with that of `load`: a fault of the text comes
 /// before each of names, wherever it is.
-pub fn load_text<'a>(alloc: Global, source: &'a [u8]) -> Result<Model<'a>, LoadError>
+pub fn load_text<'a>(
+    alloc: Global,
+    source: &'a [u8],
+    limits: Limits,
+) -> Result<Model<'a>, LoadError>
     // The source is a text of a tree without faults, and this is the tree's model.
-    ensures loaded { IfOk result (IsLoadedFrom source.now) }
+    ensures loaded { IfOk result (IsLoadedFromWithin limits source.now) }
     // The source is a text of no tree, unless memory ran out, and the fault comes in the order of
     // faults.
-    ensures text { (e : SyntaxFault) → result ≡ Err (LoadError.Text e) → IsRefused source.now e }
-    ensures too_long { (result ≡ Err (LoadError.Text TooLong)) ↔ (most_bytes < length source.now) }
+    ensures text { (e : SyntaxFault) → result ≡ Err (LoadError.Text e)
+        → IsRefusedWithin limits source.now e }
+    ensures too_long { (result ≡ Err (LoadError.Text TooLong))
+        ↔ (limits.bytes < length source.now) }
     // The source is a text of a tree, whose first fault is told, unless memory ran out.
     ensures names { (e : NameFault) → result ≡ Err (LoadError.Names e) → e ≢ Memory
-        → IsNameFault source.now e }
+        → IsNameFaultWithin limits source.now e }
 {
-    read_text(alloc, source)
+    read_text(alloc, source, limits)
 }
