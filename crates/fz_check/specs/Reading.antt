@@ -72,7 +72,8 @@ pub record HasNext (limits : Limits) (s : ReaderState) (left : Option (List ℕ)
 -- Of the bytes the parts have ended, and no others.
 abbrev pub HasNoMore : Limits → List ℕ → List StreamPart → Type 0
 HasNoMore limits given parts =
-    AllByRecursion (HasItems limits) parts × ((held : List ℕ) × Holds given (map frame_of parts) held)
+    AllByRecursion (HasItems limits) parts
+    × ((held : List ℕ) × Holds given (map frame_of parts) held)
 
 -- With some of the bytes, in which the parts have ended and no others, a splitter holds or has
 -- taken as many as may be, and there is one more.

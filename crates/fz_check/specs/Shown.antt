@@ -9,8 +9,8 @@ use Rattle.fz_judge.specs.of_model.Located.{LocatedTree, bare_of}
 use Rattle.fz_judge.specs.of_model.Names.{HasNoFault, model_of}
 use Rattle.fz_check.specs.Outputs.{with_all_printed}
 
--- Within the limits the model's bytes are a text of a tree without faults, and what is shown is that
--- tree's canonical text, which lexes to its tokens.
+-- Within the limits the model's bytes are a text of a tree without faults, and what is shown is
+-- that tree's canonical text, which lexes to its tokens.
 pub record IsShown (limits : Limits) (model shown : List ℕ) : Type 0 where
   pub tree : LocatedTree
   pub text_of_model : IsTextOfTreeWithin limits model (bare_of tree)

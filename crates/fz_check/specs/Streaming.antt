@@ -37,8 +37,8 @@ most_reads = 4294967296
 -- The writer got the report on these bytes, with this told before the answer, and nothing else, and
 -- this is its answer.
 pub record IsReportedWith (limits : Limits) (claims : Claims) (cut : List Event)
-    (text : Event → List ℕ) (c : Completion) (model given : List ℕ) (written written' : Option (List ℕ))
-    (answer : Answer) : Type 0 where
+    (text : Event → List ℕ) (c : Completion) (model given : List ℕ)
+    (written written' : Option (List ℕ)) (answer : Answer) : Type 0 where
   pub events : List Event
   pub has_report : HasReportWith limits claims c model given events answer
   pub writes : Appends written written' (text_of text (events ++ (cut ++ Answered answer ∷ [])))
@@ -71,11 +71,12 @@ pub record BlockIsRefused (limits : Limits) (m : Model) (left : Option (List ℕ
 
 -- Why a check ends after these parts of the bytes that were given: the stream is refused behind
 -- them, or the next block is, or a read failed and no further part has ended.
-abbrev pub EndsFor : Limits → Ending → Model → Option (List ℕ) → List ℕ → List StreamPart → CheckError
-    → Type 0
+abbrev pub EndsFor : Limits → Ending → Model → Option (List ℕ) → List ℕ → List StreamPart
+    → CheckError → Type 0
 EndsFor limits ending m left given parts (errors.Stream e) =
     IsStreamFault e × (e ≢ StreamMemory) × IsRefusedBy limits ending left given parts e
-EndsFor limits ending m left given parts (errors.Block n e) = BlockIsRefused limits m left given parts n e
+EndsFor limits ending m left given parts (errors.Block n e) =
+    BlockIsRefused limits m left given parts n e
 EndsFor limits ending m left given parts errors.Read = HasNoMore limits given parts
 EndsFor limits ending m left given parts errors.Write = ⊤
 EndsFor limits ending m left given parts errors.Memory = ⊤
@@ -84,7 +85,8 @@ EndsFor limits ending m left given parts (errors.Names e) = ⊥
 
 -- The reader gave these bytes, and the writer got the events of all parts before the error, and
 -- nothing else.
-pub record StopsAfterEvents (limits : Limits) (ending : Ending) (claims : Claims) (text : Event → List ℕ) (c : Completion) (m : Model)
+pub record StopsAfterEvents (limits : Limits) (ending : Ending) (claims : Claims)
+    (text : Event → List ℕ) (c : Completion) (m : Model)
     (left left' written written' : Option (List ℕ)) (e : CheckError) : Type 0 where
   pub given : List ℕ
   pub reads : Consumes left left' given
@@ -95,16 +97,17 @@ pub record StopsAfterEvents (limits : Limits) (ending : Ending) (claims : Claims
   pub why : EndsFor limits ending m left' given parts e
 
 -- no event, or that of the answer where the bytes have ended, behind what was cut off
-abbrev pub AreLast : Limits → Ending → Option (List ℕ) → List ℕ → List StreamPart → Answer → List Event
-    → Type 0
+abbrev pub AreLast : Limits → Ending → Option (List ℕ) → List ℕ → List StreamPart → Answer
+    → List Event → Type 0
 AreLast limits ending left given parts answer events =
     (events ≡ []) ⊎ (IsAtEnd left × HoldsOfJudged ending given (λ front cut.
     IsStreamTextWithin limits front parts × (events ≡ cut ++ Answered answer ∷ [])))
 
 -- The reader gave these bytes, and the writer got a front of the text of their events, and nothing
 -- else.
-pub record WritesFrontOfEvents (limits : Limits) (ending : Ending) (claims : Claims) (text : Event → List ℕ) (c : Completion)
-    (m : Model) (left left' written written' : Option (List ℕ)) : Type 0 where
+pub record WritesFrontOfEvents (limits : Limits) (ending : Ending) (claims : Claims)
+    (text : Event → List ℕ) (c : Completion) (m : Model)
+    (left left' written written' : Option (List ℕ)) : Type 0 where
   pub given : List ℕ
   pub reads : Consumes left left' given
   pub parts : List StreamPart
@@ -119,8 +122,8 @@ pub record WritesFrontOfEvents (limits : Limits) (ending : Ending) (claims : Cla
   pub writes : Appends written written' front
 
 -- the check of a loaded model ends with this error
-abbrev pub IsStopped : Limits → Ending → Claims → (Event → List ℕ) → Completion → Model → Option (List ℕ)
-    → Option (List ℕ) → Option (List ℕ) → Option (List ℕ) → CheckError → Type 0
+abbrev pub IsStopped : Limits → Ending → Claims → (Event → List ℕ) → Completion → Model
+    → Option (List ℕ) → Option (List ℕ) → Option (List ℕ) → Option (List ℕ) → CheckError → Type 0
 IsStopped limits ending claims text c m left left' written written' errors.Write =
     WritesFrontOfEvents limits ending claims text c m left left' written written'
 IsStopped limits ending claims text c m left left' written written' errors.Memory =
@@ -136,17 +139,19 @@ IsUntouched left left' written written' = (left' ≡ left) × (written' ≡ writ
 -- The check of a model's text ends with this error. The model is refused only where its bytes are
 -- not a text of any tree, or with the first fault of its names, and before anything is read or
 -- written.
-abbrev pub IsEndedBy : Limits → Ending → Claims → (Event → List ℕ) → Completion → List ℕ → Option (List ℕ)
-    → Option (List ℕ) → Option (List ℕ) → Option (List ℕ) → CheckError → Type 0
+abbrev pub IsEndedBy : Limits → Ending → Claims → (Event → List ℕ) → Completion → List ℕ
+    → Option (List ℕ) → Option (List ℕ) → Option (List ℕ) → Option (List ℕ) → CheckError → Type 0
 IsEndedBy limits ending claims text c model left left' written written' (errors.Model e) =
     HasTextFault limits model e × IsUntouched left left' written written'
 IsEndedBy limits ending claims text c model left left' written written' (errors.Names e) =
     HasNameFault limits model e × IsUntouched left left' written written'
 IsEndedBy limits ending claims text c model left left' written written' errors.Memory =
     IsUntouched left left' written written'
-    ⊎ HoldsOfModelWithin limits model (λ m. IsStopped limits ending claims text c m left left' written written' errors.Memory)
+    ⊎ HoldsOfModelWithin limits model
+    (λ m. IsStopped limits ending claims text c m left left' written written' errors.Memory)
 IsEndedBy limits ending claims text c model left left' written written' e =
-    HoldsOfModelWithin limits model (λ m. IsStopped limits ending claims text c m left left' written written' e)
+    HoldsOfModelWithin limits model
+    (λ m. IsStopped limits ending claims text c m left left' written written' e)
 
 -- where nothing is cut
 abbrev pub IsEndedWithin : Limits → Claims → (Event → List ℕ) → Completion → List ℕ

@@ -136,7 +136,8 @@ IsUntold m parts part errors.Memory = ⊤
 IsUntold m parts part _ = ⊥
 
 -- the stream is refused behind these parts of the bytes that were given, or memory ran out
-abbrev pub IsUnread : Limits → Ending → Option (List ℕ) → List ℕ → List StreamPart → CheckError → Type 0
+abbrev pub IsUnread : Limits → Ending → Option (List ℕ) → List ℕ → List StreamPart → CheckError
+    → Type 0
 IsUnread limits ending left given parts (errors.Stream e) =
     IsStreamFault e × (e ≢ StreamMemory) × IsRefusedBy limits ending left given parts e
 IsUnread limits ending left given parts errors.Memory = ⊤
@@ -145,8 +146,8 @@ IsUnread limits ending left given parts _ = ⊥
 -- Where a frame waits behind parts that were told, it is read as a part, which is told too.
 abbrev pub TellsNext : (Event → List ℕ) → ReaderState → Jury → Jury → List ℕ → Type 0
 TellsNext text s j j' line =
-    (limits : Limits) (claims : Claims) (c : Completion) (m : Model) (left : Option (List ℕ)) (given : List ℕ)
-    (parts : List StreamPart) (frame : Frame) (outcomes : List Outcome)
+    (limits : Limits) (claims : Claims) (c : Completion) (m : Model) (left : Option (List ℕ))
+    (given : List ℕ) (parts : List StreamPart) (frame : Frame) (outcomes : List Outcome)
     → HasNext limits s left given parts frame → HasTold claims c m j parts outcomes
     → (part : StreamPart) × StandsAt limits s left given (parts ++ part ∷ [])
     × TellsOneMore claims text c m j' parts outcomes part line
@@ -154,11 +155,13 @@ TellsNext text s j j' line =
 -- there it can't be read, or is read and not told
 abbrev pub LeavesNext : ReaderState → Jury → CheckError → Type 0
 LeavesNext s j e =
-    (limits : Limits) (ending : Ending) (claims : Claims) (c : Completion) (m : Model) (left : Option (List ℕ))
-    (given : List ℕ) (parts : List StreamPart) (frame : Frame) (outcomes : List Outcome)
+    (limits : Limits) (ending : Ending) (claims : Claims) (c : Completion) (m : Model)
+    (left : Option (List ℕ)) (given : List ℕ) (parts : List StreamPart) (frame : Frame)
+    (outcomes : List Outcome)
     → HasNext limits s left given parts frame
     → HasTold claims c m j parts outcomes → IsUnread limits ending left given parts e
-    ⊎ ((part : StreamPart) × StandsAt limits s left given (parts ++ part ∷ []) × IsUntold m parts part e)
+    ⊎ ((part : StreamPart) × StandsAt limits s left given (parts ++ part ∷ [])
+    × IsUntold m parts part e)
 
 -- a failed write, or out of memory
 abbrev pub IsUnwritten : CheckError → Type 0
@@ -168,8 +171,9 @@ IsUnwritten _ = ⊥
 
 -- How a check stands that has told of these parts, whether it goes on or not: these bytes were read,
 -- in at most so many reads, and once a front of the lines that wait is written, it is one of all.
-pub record Stands (limits : Limits) (ending : Ending) (claims : Claims) (text : Event → List ℕ) (c : Completion)
-    (m : Model) (reads : ℕ) (left left' written written' : Option (List ℕ))
+pub record Stands (limits : Limits) (ending : Ending) (claims : Claims)
+    (text : Event → List ℕ) (c : Completion) (m : Model) (reads : ℕ)
+    (left left' written written' : Option (List ℕ))
     (lines : List ℕ) : Type 0 where
   pub given : List ℕ
   pub consumes : Consumes left left' given
@@ -186,8 +190,9 @@ pub record Stands (limits : Limits) (ending : Ending) (claims : Claims) (text : 
 -- the check ends with this error, once all of the lines that wait are written
 abbrev pub StopsOnceWritten : Limits → Ending → Claims → (Event → List ℕ) → Completion → Model
     → Option (List ℕ) → Option (List ℕ) → Option (List ℕ) → Option (List ℕ) → List ℕ → CheckError → Type 0
-StopsOnceWritten limits ending claims text c m left left' written written' lines e = (next : Option (List ℕ))
-    → Appends written' next lines → IsStopped limits ending claims text c m left left' written next e
+StopsOnceWritten limits ending claims text c m left left' written written' lines e =
+    (next : Option (List ℕ)) → Appends written' next lines
+    → IsStopped limits ending claims text c m left left' written next e
 
 -- there is a report on the bytes, which is written then, with this told before the answer
 pub record IsToldWith (limits : Limits) (claims : Claims) (cut : List Event) (text : Event → List ℕ)
@@ -199,8 +204,9 @@ pub record IsToldWith (limits : Limits) (claims : Claims) (cut : List Event) (te
       → Appends written next (text_of text (events ++ (cut ++ Answered answer ∷ [])))
 
 -- and the answer is the report's
-pub record AnswersOnceWritten (limits : Limits) (ending : Ending) (claims : Claims) (text : Event → List ℕ)
-    (c : Completion) (m : Model) (reads : ℕ) (left left' written written' : Option (List ℕ))
+pub record AnswersOnceWritten (limits : Limits) (ending : Ending) (claims : Claims)
+    (text : Event → List ℕ) (c : Completion) (m : Model) (reads : ℕ)
+    (left left' written written' : Option (List ℕ))
     (lines : List ℕ) (answer : Answer) : Type 0 where
   pub given : List ℕ
   pub consumes : Consumes left left' given

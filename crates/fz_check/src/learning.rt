@@ -65,7 +65,8 @@ fn learn_next<'k, L: Listener>(
     ensures same_model { judge.new.model ≡ judge.old.model }
     ensures knows { Knows judge.old.model known.old → Knows judge.old.model known.new }
     ensures read { OnOk result ((limits : Limits) (left : Option (List ℕ)) (given : List ℕ)
-        (before : List StreamPart) (frame : Frame) → HasNext limits parts.now left given before frame
+        (before : List StreamPart) (frame : Frame)
+        → HasNext limits parts.now left given before frame
         → (part : StreamPart) × StandsAt limits parts.now left given (before ++ part ∷ [])) }
 {
     let part = match parts.take() {

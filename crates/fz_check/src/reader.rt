@@ -88,19 +88,19 @@ impl PartReader {
         ensures at_end { self.new.pieces.at_end ≡ self.old.pieces.at_end }
         ensures limits { self.new.splitter.limits ≡ self.old.splitter.limits }
         ensures waits { result ≡ Ok Step.Part → IsSome self.new.splitter.waits }
-        ensures fewer { result ≡ Ok Step.Part → (limits : Limits) (given : List ℕ) (parts : List StreamPart)
-            → HasRead limits self.old given parts
+        ensures fewer { result ≡ Ok Step.Part → (limits : Limits) (given : List ℕ)
+            (parts : List StreamPart) → HasRead limits self.old given parts
             → length self.new.pieces.pending < length self.old.pieces.pending }
-        ensures more { result ≡ Ok Step.Part → (limits : Limits) (given : List ℕ) (parts : List StreamPart)
-            → HasRead limits self.old given parts → (frame : Frame)
+        ensures more { result ≡ Ok Step.Part → (limits : Limits) (given : List ℕ)
+            (parts : List StreamPart) → HasRead limits self.old given parts → (frame : Frame)
             × (self.new.splitter.waits ≡ Some frame) × WaitsInside self.new given parts frame }
-        ensures none { result ≡ Ok Step.Bytes → (limits : Limits) (given : List ℕ) (parts : List StreamPart)
-            → HasRead limits self.old given parts
+        ensures none { result ≡ Ok Step.Bytes → (limits : Limits) (given : List ℕ)
+            (parts : List StreamPart) → HasRead limits self.old given parts
             → (self.new.pieces.pending ≡ []) × HasRead limits self.new given parts }
         ensures not_end { (cut : Option SpanData) → result ≢ Ok (Step.End cut) }
         ensures refused { IfErr result (λ e. (limits : Limits) (ending : Ending)
-            (left : Option (List ℕ)) (given : List ℕ) (parts : List StreamPart) → HasRead limits self.old given parts
-            → IsUnread limits ending left given parts e) }
+            (left : Option (List ℕ)) (given : List ℕ) (parts : List StreamPart)
+            → HasRead limits self.old given parts → IsUnread limits ending left given parts e) }
     {
         let PartReader {
             splitter,
@@ -126,15 +126,16 @@ impl PartReader {
         ensures limits { self.new.splitter.limits ≡ self.old.splitter.limits }
         ensures ended { result ≡ Ok Step.Part → self.new.splitter.stage ≡ Finished }
         ensures waits { result ≡ Ok Step.Part → IsSome self.new.splitter.waits }
-        ensures more { result ≡ Ok Step.Part → (limits : Limits) (given : List ℕ) (parts : List StreamPart)
-            → HasRead limits self.old given parts → (frame : Frame)
+        ensures more { result ≡ Ok Step.Part → (limits : Limits) (given : List ℕ)
+            (parts : List StreamPart) → HasRead limits self.old given parts → (frame : Frame)
             × (self.new.splitter.waits ≡ Some frame) × EndsLast given (map frame_of parts) frame }
-        ensures end { (cut : Option SpanData) → result ≡ Ok (Step.End cut) → (limits : Limits) (given : List ℕ)
-            (parts : List StreamPart) → HasRead limits self.old given parts
+        ensures end { (cut : Option SpanData) → result ≡ Ok (Step.End cut) → (limits : Limits)
+            (given : List ℕ) (parts : List StreamPart) → HasRead limits self.old given parts
             → IsEndOf limits ending given parts cut }
         ensures not_bytes { result ≢ Ok Step.Bytes }
-        ensures refused { IfErr result (λ e. (limits : Limits) (left : Option (List ℕ)) (given : List ℕ)
-            (parts : List StreamPart) → HasRead limits self.old given parts → IsAtEnd left
+        ensures refused { IfErr result (λ e. (limits : Limits) (left : Option (List ℕ))
+            (given : List ℕ) (parts : List StreamPart)
+            → HasRead limits self.old given parts → IsAtEnd left
             → IsUnread limits ending left given parts e) }
     {
         match self.splitter.finish() {
@@ -154,15 +155,15 @@ impl PartReader {
     ///
     /// The stream's first fault, or `Memory` where memory runs out.
     pub(crate) fn advance(&mut self, ending: Ending) -> Result<Step, CheckError>
-        ensures part { result ≡ Ok Step.Part → (limits : Limits) (left : Option (List ℕ)) (given : List ℕ)
-            (parts : List StreamPart) → StandsAt limits self.old left given parts
+        ensures part { result ≡ Ok Step.Part → (limits : Limits) (left : Option (List ℕ))
+            (given : List ℕ) (parts : List StreamPart) → StandsAt limits self.old left given parts
             → (frame : Frame) × HasNext limits self.new left given parts frame }
         ensures waits { result ≡ Ok Step.Part → IsSome self.new.splitter.waits }
-        ensures fewer { result ≡ Ok Step.Part → (limits : Limits) (left : Option (List ℕ)) (given : List ℕ)
-            (parts : List StreamPart) → StandsAt limits self.old left given parts
+        ensures fewer { result ≡ Ok Step.Part → (limits : Limits) (left : Option (List ℕ))
+            (given : List ℕ) (parts : List StreamPart) → StandsAt limits self.old left given parts
             → steps_left self.new < steps_left self.old }
-        ensures bytes { result ≡ Ok Step.Bytes → (limits : Limits) (left : Option (List ℕ)) (given : List ℕ)
-            (parts : List StreamPart) → StandsAt limits self.old left given parts
+        ensures bytes { result ≡ Ok Step.Bytes → (limits : Limits) (left : Option (List ℕ))
+            (given : List ℕ) (parts : List StreamPart) → StandsAt limits self.old left given parts
             → (self.new.pieces.pending ≡ []) × HasRead limits self.new given parts }
         ensures open { result ≡ Ok Step.Bytes → self.new.pieces.at_end ≡ false }
         // The bytes have ended, and are a text of the parts so far, but for what is cut off.
@@ -175,8 +176,8 @@ impl PartReader {
         ensures ended { self.old.splitter.stage ≡ Finished → result ≡ Ok (Step.End None) }
         ensures reads { self.new.pieces.reads ≡ self.old.pieces.reads }
         ensures at_end { self.new.pieces.at_end ≡ self.old.pieces.at_end }
-        ensures refused { IfErr result (λ e. (limits : Limits) (left : Option (List ℕ)) (given : List ℕ)
-            (parts : List StreamPart) → StandsAt limits self.old left given parts
+        ensures refused { IfErr result (λ e. (limits : Limits) (left : Option (List ℕ))
+            (given : List ℕ) (parts : List StreamPart) → StandsAt limits self.old left given parts
             → IsUnread limits ending left given parts e) }
     {
         if self.has_ended {
@@ -220,12 +221,14 @@ impl PartReader {
         ensures places { IfOk result HasPlacesOfItems }
         ensures within { IfOk result (PartEndsWithin most_taken) }
         // It comes next, whatever was read before.
-        ensures part { IfOk result (λ part. (limits : Limits) (left : Option (List ℕ)) (given : List ℕ)
-            (parts : List StreamPart) (frame : Frame) → HasNext limits self.now left given parts frame
+        ensures part { IfOk result (λ part. (limits : Limits) (left : Option (List ℕ))
+            (given : List ℕ) (parts : List StreamPart) (frame : Frame)
+            → HasNext limits self.now left given parts frame
             → StandsAt limits self.now left given (parts ++ part_of part ∷ [])) }
         ensures refused { IfErr result (λ e. (limits : Limits) (ending : Ending)
             (left : Option (List ℕ)) (given : List ℕ) (parts : List StreamPart) (frame : Frame)
-            → HasNext limits self.now left given parts frame → IsUnread limits ending left given parts e) }
+            → HasNext limits self.now left given parts frame
+            → IsUnread limits ending left given parts e) }
     {
         match self.splitter.take() {
             Ok(Some(part)) => Ok(part),

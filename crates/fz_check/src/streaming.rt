@@ -41,15 +41,17 @@ fn tell_parts<R: Read, W: Write, T: Taker>(
 ) -> Result<Answer, CheckError>
     requires fresh { IsFresh jury }
     requires none { lines.old.items ≡ [] }
-    ensures stands { Stands limits ending jury.entry.claims T.text jury.entry.judge.completion jury.entry.judge.model reads
-        (R.remaining reader.old) (R.remaining reader.new) (W.contents writer.old)
+    ensures stands { Stands limits ending jury.entry.claims T.text
+        jury.entry.judge.completion jury.entry.judge.model reads (R.remaining reader.old)
+        (R.remaining reader.new) (W.contents writer.old)
         (W.contents writer.new) lines.new.items }
     ensures answered { IfOk result (λ a. AnswersOnceWritten limits ending jury.entry.claims
         T.text jury.entry.judge.completion jury.entry.judge.model reads (R.remaining reader.old)
         (R.remaining reader.new) (W.contents writer.old) (W.contents writer.new) lines.new.items
         (answer_view a)) }
-    ensures refused { IfErr result (StopsOnceWritten limits ending jury.entry.claims T.text jury.entry.judge.completion
-        jury.entry.judge.model (R.remaining reader.old) (R.remaining reader.new)
+    ensures refused { IfErr result (StopsOnceWritten limits ending jury.entry.claims T.text
+        jury.entry.judge.completion jury.entry.judge.model (R.remaining reader.old)
+        (R.remaining reader.new)
         (W.contents writer.old) (W.contents writer.new) lines.new.items) }
 {
     let mut parts = PartReader::new(alloc, reads, limits);
@@ -87,8 +89,8 @@ fn tell_parts<R: Read, W: Write, T: Taker>(
 
 /// Judges each block of the stream that a reader gives, and writes what the taker says of each event,
 /// with at most `reads` reads of 4,096 bytes. What is to be written for all that was read so far is
-/// written before the next read, and before any answer. One block at a time is in memory. The limits
-/// are those of the model's text, and of the text of a block with the line after it.
+/// written before the next read, and before any answer. One block at a time is in memory. The
+/// limits are those of the model's text, and of the text of a block with the line after it.
 ///
 /// Where completion is on, a block is judged by its second filling, and values are searched for that
 /// the solver left out. What is found is judged as the filling is: it makes no block violated. It can
@@ -174,10 +176,11 @@ pub fn check_stream_up_to<R: Read, W: Write>(
         → HoldsOfStream (R.remaining reader.old) (R.remaining reader.new)
         (λ given. HasSolutionsWithin limits model.now given count)) }
     ensures report { IfOk result (λ a. HoldsOfStream (R.remaining reader.old)
-        (R.remaining reader.new) (λ given. IsReportedWithin limits claims.entry event_line completion model.now given
-        (W.contents writer.old) (W.contents writer.new) (answer_view a))) }
-    ensures refused { IfErr result (IsEndedWithin limits claims.entry event_line completion model.now
-        (R.remaining reader.old) (R.remaining reader.new) (W.contents writer.old)
+        (R.remaining reader.new) (λ given. IsReportedWithin limits claims.entry event_line
+        completion model.now given (W.contents writer.old) (W.contents writer.new)
+        (answer_view a))) }
+    ensures refused { IfErr result (IsEndedWithin limits claims.entry event_line completion
+        model.now (R.remaining reader.old) (R.remaining reader.new) (W.contents writer.old)
         (W.contents writer.new)) }
     ensures reads { SpendsReads reads 0 (R.remaining reader.old) (R.remaining reader.new) }
     ensures end_read { IfOk result

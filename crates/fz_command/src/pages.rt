@@ -18,8 +18,8 @@ fzcheck check [--large] [--complete] [--cut] [--claims [--known STREAM]..]
     Judges each solution block of the file STREAM, or of standard input where it is left out,
     against the model in the file MODEL. There is a line for each block and claim, and then the
     answer.
-    --large     takes a model of up to 1,073,741,824 bytes, in the place of 16,777,216, lists of up to
-                134,217,728 elements, in the place of 1,048,576, and blocks as large as the model
+    --large     takes a model of up to 1,073,741,824 bytes, in the place of 16,777,216, lists of up
+                to 134,217,728 elements, in the place of 1,048,576, and blocks as large
     --complete  looks for values that the solver left out, and judges what it finds
     --cut       where the stream ends inside a block, as that of a solver does that was killed,
                 judges what comes before that block, and tells the byte range of what it left out

@@ -39,8 +39,9 @@ pub record IsSecondPrinting (limits : Limits) (offset : ℕ) (text : List ℕ)
   pub prints : PrintsAgain items again
   pub span_is : span ≡ moved_span offset again.name.span
 
--- No items have this text within the limits, and the fault is one of the text: it is the first in the order of
--- faults, it is neither out of memory nor too many bytes, and its byte range is in the text.
+-- No items have this text within the limits, and the fault is one of the text: it is the first in
+-- the order of faults, it is neither out of memory nor too many bytes, and its byte range is in the
+-- text.
 pub record IsFaultOfText (limits : Limits) (text : List ℕ) (fault : SyntaxError) : Type 0 where
   pub no_items : (items : List PlainPrinted) → IsTextOfItemsWithin limits text items → ⊥
   pub order : IsRefusalWithin limits text fault

@@ -58,8 +58,8 @@ pub fn read_block<'a>(
     ensures offset { IfOk result (λ b. b.offset ≡ offset) }
     ensures text { IfOk result (λ b. b.text.now ≡ text.now) }
     ensures items { IfOk result (λ b. IsBlockText limits text.now (bare_items b.items.items)) }
-    ensures only { IfOk result (λ b. (others : List PlainPrinted) → IsBlockText limits text.now others
-        → others ≡ bare_items b.items.items) }
+    ensures only { IfOk result (λ b. (others : List PlainPrinted)
+        → IsBlockText limits text.now others → others ≡ bare_items b.items.items) }
     ensures places { IfOk result HasPlaces }
     ensures refused { IfErr result (λ e. e ≢ StreamError.Memory → (items : List PlainPrinted)
         → IsBlockText limits text.now items → ⊥) }

@@ -112,7 +112,8 @@ impl Splitter {
         // It is that of the frame that waits.
         ensures lent { IfOk result
             (λ part. option_map (λ p. frame_of (part_of p)) part ≡ self.now.waits) }
-        ensures items { IfOk result (λ part. IfSome part (λ p. IsPartOfItems self.now.limits (part_of p))) }
+        ensures items { IfOk result
+            (λ part. IfSome part (λ p. IsPartOfItems self.now.limits (part_of p))) }
         ensures places { IfOk result (λ part. IfSome part HasPlacesOfItems) }
         ensures within { IfOk result (λ part. IfSome part (PartEndsWithin most_taken)) }
 
@@ -167,7 +168,8 @@ impl Splitter {
         ensures taken { OnOk result (self.new.taken ≤ most_taken) }
         // The limits bind at each byte that is taken.
         ensures room { IfOk result (λ n. (bytes : List ℕ) (frames : List PlainFrame)
-            → Fits self.old bytes frames → HasRoomFor self.old.limits.bytes bytes piece.now frames n) }
+            → Fits self.old bytes frames
+            → HasRoomFor self.old.limits.bytes bytes piece.now frames n) }
 
         // A fault comes only where no further bytes can mend the stream.
         ensures broken { IfErr result (λ e. e ≢ StreamError.Memory → e ≢ StreamError.TooLong
