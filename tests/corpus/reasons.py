@@ -31,6 +31,19 @@ RELATIONS = {
 BLOCK = "----------\n"
 MOST_LISTED = 8
 NUMBER = "-?[0-9]+"
+SCALAR = f"(?:{NUMBER}|true|false)"
+# What rows over Booleans compare with their last argument.
+TRUTHS = {
+    "bool_le": lambda a, b: a,
+    "bool_lt": lambda a, b: a,
+    "bool_ge": lambda a, b: a,
+    "bool_gt": lambda a, b: a,
+    "bool_and_imp": lambda a, b, c: a and b,
+    "bool_or_imp": lambda a, b, c: a or b,
+    "bool_xor_imp": lambda a, b, c: a != b,
+    "array_bool_and_imp": lambda a, b: all(a),
+    "array_bool_or_imp": lambda a, b: any(a),
+}
 
 
 def literal(kind, rand):
@@ -64,7 +77,7 @@ def text_of(value):
 
 def failing(rand):
     """The name and the arguments of a constraint that fails."""
-    names = sorted({*slow.TESTS, *slow.RESULTS, *slow.EITHER})
+    names = sorted({*slow.TESTS, *slow.OTHER_TESTS, *slow.RESULTS, *slow.EITHER})
     while True:
         name = rand.choice(names)
         if name in slow.FORMS and rand.random() < 0.3:
@@ -104,6 +117,11 @@ def sides(name, args, told):
         return so and relation == "" and value != args[place]
     if name in slow.EITHER:
         return left != right and relation == "" and right in map(text_of, args)
+    if name in TRUTHS:
+        value = TRUTHS[name](*args)
+        decides = re.fullmatch("element ([0-9]+) is (true|false): ", front)
+        so = text_of(value) == left and (not decides or text_of(at(args[0], decides[1])) == decides[2])
+        return so and text_of(args[-1]) == right and not RELATIONS[relation](value, args[-1])
     value = int(left)
     if name.startswith("int_lin"):
         so = products_are(front.removesuffix(" = "), value, list(zip(args[0], args[1])))
@@ -166,14 +184,48 @@ def clash(args, one, other, value):
     return one != other and at(elements, one) == at(elements, other) == int(value)
 
 
+def scalar(text):
+    return text == "true" if text in ("true", "false") else int(text)
+
+
 def neighbours(args, place, value, relation, other):
-    return at(args[0], place) == int(value) and at(args[0], int(place) + 1) == int(other) \
-        and not RELATIONS[relation](int(value), int(other))
+    return at(args[0], place) == scalar(value) and at(args[0], int(place) + 1) == scalar(other) \
+        and not RELATIONS[relation](scalar(value), scalar(other))
 
 
-def first_difference(args, place, left, right):
-    place = int(place)
-    return args[0][: place - 1] == args[1][: place - 1] and at(args[0], place) == int(left) != at(args[1], place) == int(right)
+def first_difference(lists, place, left, right):
+    place, (one, other) = int(place), lists
+    return one[: place - 1] == other[: place - 1] and at(one, place) == scalar(left) != at(other, place) == scalar(right)
+
+
+def compared(name, args):
+    """The lists that a row compares: one that sorts compares the first in ascending order."""
+    return [sorted(args[0]) if name in ("fzn_sort", "sort") else args[0], args[1]]
+
+
+def shared(parts, one, other, value):
+    return one != other and int(value) in at(parts, one) and int(value) in at(parts, other)
+
+
+def not_in_its_set(args, index, value, name_of_set, again):
+    x, first, parts, first_part = args
+    return at(x, int(index) - first + 1) == int(value) == int(name_of_set) and index == again \
+        and int(index) not in (at(parts, int(value) - first_part + 1) or set())
+
+
+def in_another_set(args, part, value, again, back):
+    x, first, parts, first_part = args
+    return value == again and int(value) in at(parts, int(part) - first_part + 1) \
+        and at(x, int(value) - first + 1) == (None if back is None else int(back)) != int(part)
+
+
+def in_one(args, number, sets, whole):
+    return any(int(number) in it for it in args[0]) == (sets == "one") != (int(number) in args[1]) == (whole == "in")
+
+
+def flagged(args, number, there, truth):
+    flag = at(args[1], int(number) - args[2] + 1) or False
+    return (int(number) in args[0]) == (there == "in") != flag == (truth == "is")
 
 
 def in_sets(args, number, *there):
@@ -202,7 +254,8 @@ def near_row(args, row, place, wanted, value):
     width = len(args[0])
     found = args[1][(int(row) - 1) * width : int(row) * width]
     place = int(place) - 1
-    return found[:place] == args[0][:place] and [found[place], args[0][place]] == [int(wanted), int(value)] and wanted != value
+    return found[:place] == args[0][:place] and wanted != value \
+        and [found[place], args[0][place]] == [scalar(wanted), scalar(value)]
 
 
 STRETCH = f"from ({NUMBER}) to ({NUMBER}) and from ({NUMBER}) to ({NUMBER})"
@@ -211,17 +264,29 @@ FORMS = {
     "no literal is true": lambda n, a: not any(a[0]) and all(a[1]),
     "an even number of elements are true": lambda n, a: sum(a[0]) % 2 == 0,
     f"elements (\\d+) and (\\d+) are both ({NUMBER})": lambda n, a, *p: clash(a, *p),
-    f"element (\\d+) is ({NUMBER}), not ([≠≤<≥>]?) ?({NUMBER}), the next one": lambda n, a, *p: neighbours(a, *p),
+    f"element (\\d+) is ({SCALAR}), not ([≠≤<≥>]?) ?({SCALAR}), the next one": lambda n, a, *p: neighbours(a, *p),
     f"element (\\d+) is ({NUMBER}), which isn't in the cover": lambda n, a, k, v: at(a[0], k) == int(v) not in a[1],
-    f"no element is ({NUMBER})": lambda n, a, v: int(v) not in a[0] and int(v) == a[1],
-    f"the first difference is at element (\\d+): ({NUMBER}) and ({NUMBER})": lambda n, a, *p: first_difference(a, *p),
-    r"the second list ends before element (\d+), the first goes on": lambda n, a, k: a[1] == a[0][: int(k) - 1] != a[0],
-    r"the first list ends before element (\d+), the second goes on": lambda n, a, k: a[0] == a[1][: int(k) - 1] != a[1],
+    f"no element is ({SCALAR})": lambda n, a, v: scalar(v) not in a[0] and scalar(v) == a[1],
+    f"({NUMBER}) isn't in the set": lambda n, a, v: int(v) not in a[1] and int(v) == a[0],
+    "the sets are the same": lambda n, a: a[0] == a[1],
+    f"sets (\\d+) and (\\d+) both have ({NUMBER})": lambda n, a, *p: shared(a[0], *p),
+    f"the first difference is at element (\\d+): ({SCALAR}) and ({SCALAR})": lambda n, a, *p: first_difference(a[:2], *p),
+    f"in ascending order element (\\d+) is ({NUMBER}), not ({NUMBER})": lambda n, a, *p: first_difference(compared(n, a), *p),
+    r"the second list ends before element (\d+), the first goes on": lambda n, a, k: (
+        compared(n, a)[1] == compared(n, a)[0][: int(k) - 1] != compared(n, a)[0]),
+    r"the first list ends before element (\d+), the second goes on": lambda n, a, k: (
+        compared(n, a)[0] == compared(n, a)[1][: int(k) - 1] != compared(n, a)[1]),
     "the lists are the same": lambda n, a: a[0] == a[1],
     f"element (\\d+) is ({NUMBER}), and none before it is ({NUMBER})": lambda n, a, k, v, b: any(
         isinstance(x, list) and at(x, k) == int(v) and int(b) not in x[: int(k) - 1] for x in a),
     f"task (\\d+) lasts ({NUMBER})": lambda n, a, k, v: any(
         isinstance(x, list) and at(x, k) == int(v) < 0 for x in a),
+    f"task (\\d+) uses ({NUMBER})": lambda n, a, k, v: at(a[2], k) == int(v) < 0,
+    f"the limit is ({NUMBER}), not ≥ 0": lambda n, a, v: a[3] == int(v) < 0 < len(a[0]),
+    f"the number of thing (\\d+) is ({NUMBER}), not ≥ 0": lambda n, a, k, v: at(a[2], k) == int(v) < 0,
+    f"the weight is ({NUMBER}), not ≥ 0": lambda n, a, v: a[3] == int(v) < 0,
+    f"the profit is ({NUMBER}), not ≥ 0": lambda n, a, v: a[4] == int(v) < 0,
+    f"the number of neighbours is ({NUMBER}), not ≥ 0": lambda n, a, v: a[2] == int(v) < 0,
     f"tasks (\\d+) and (\\d+) overlap: {STRETCH}": lambda n, a, *p: tasks_overlap(a, *p),
     f"boxes (\\d+) and (\\d+) overlap: {STRETCH}, and {STRETCH}": lambda n, a, *p: boxes(n, a, *p),
     f"at ({NUMBER}) the tasks ([0-9, ]*) run and use ({NUMBER}), not ≤ ({NUMBER})": lambda n, a, *p: load(a, *p),
@@ -230,13 +295,22 @@ FORMS = {
     r"the circle (.*) has (\d+) of (\d+)": lambda n, a, *p: circle(n, a, p),
     f"element (\\d+) of the (first|second) list is ({NUMBER}), which doesn't lead back": lambda n, a, k, l, v: (
         leads_nowhere(int(k), int(v), *(a if l == "first" else (a[2], a[3], a[0], a[1])))),
+    f"the element with index ({NUMBER}) is ({NUMBER}), and set ({NUMBER}) hasn't ({NUMBER})": (
+        lambda n, a, *p: not_in_its_set(a, *p)),
+    f"set ({NUMBER}) has ({NUMBER}), and the element with index ({NUMBER}) is ({NUMBER})": (
+        lambda n, a, *p: in_another_set(a, *p)),
+    f"set ({NUMBER}) has ({NUMBER}), which is no index": lambda n, a, j, v: in_another_set(a, j, v, v, None),
     f"element (\\d+): there is no step from state ({NUMBER}) by ({NUMBER})": lambda n, a, k, q, s: (
         transitions(a)[0][-1] == int(q) and len(transitions(a)[0]) == int(k) and at(a[0], k) == int(s)
         and not 1 <= transitions(a)[1] <= a[1]),
     f"it ends in state ({NUMBER}), which isn't one of the last": lambda n, a, q: (
         transitions(a)[1] == int(q) not in a[5]),
+    f"it ends in ({NUMBER}), which is no state": lambda n, a, q: (
+        transitions(a)[1] == int(q) in a[5] and not 1 <= int(q) <= a[1]),
     f"element (\\d+) is ({NUMBER}), not from ({NUMBER}) to ({NUMBER})": lambda n, a, k, v, l, h: (
         any(isinstance(x, list) and at(x, k) == int(v) for x in a) and not int(l) <= int(v) <= int(h)),
+    f"the index is ({NUMBER}), not from ({NUMBER}) to ({NUMBER})": lambda n, a, v, l, h: (
+        a[0] == int(v) and [int(l), int(h)] == [1, len(a[1])] and not int(l) <= int(v) <= int(h)),
     r"the circle (.*) leaves out others that are moved": lambda n, a, path: leaves_out(a, path),
     f"in bin ({NUMBER}) lies ({NUMBER}), not ({NUMBER})": lambda n, a, b, w, m: (
         constraints.load(a[1], a[2], int(b)) == int(w) != int(m) == a[0][int(b) - a[3]]),
@@ -247,9 +321,13 @@ FORMS = {
     f"elements (\\d+) to (\\d+) add up to ({NUMBER}), not from ({NUMBER}) to ({NUMBER})": lambda n, a, i, j, s, l, h: (
         int(j) - int(i) + 1 == a[2] and sum(a[3][int(i) - 1 : int(j)]) == int(s)
         and [int(l), int(h)] == a[:2] and not int(l) <= int(s) <= int(h)),
-    f"no row fits; row (\\d+) differs at element (\\d+): ({NUMBER}), not ({NUMBER})": lambda n, a, *p: near_row(a, *p),
+    f"no row fits; row (\\d+) differs at element (\\d+): ({SCALAR}), not ({SCALAR})": lambda n, a, *p: near_row(a, *p),
     f"({NUMBER}) is (in|not in) the first, (in|not in) the second and (in|not in) the third": lambda n, a, *p: in_sets(a, *p),
     f"({NUMBER}) is (in|not in) the first and (in|not in) the second": lambda n, a, *p: in_sets(a, *p),
+    f"({NUMBER}) is (in|not in) the element and (in|not in) the set": lambda n, a, v, *there: (
+        in_sets([at(a[1], a[0]), a[2]], v, *there) and there[0] != there[1]),
+    f"({NUMBER}) is in (one|none) of the sets and (in|not in) the whole": lambda n, a, *p: in_one(a, *p),
+    f"({NUMBER}) is (in|not in) the set, and its Boolean (is|isn't) true": lambda n, a, *p: flagged(a, *p),
 }
 
 
@@ -281,7 +359,7 @@ def reason_of(program, folder, name, args):
 
 def outcome(name, args, told):
     base, _, form = name.rpartition("_")
-    if form not in ("reif", "imp"):
+    if name in slow.OTHER_TESTS or form not in ("reif", "imp"):
         return is_so(name, args, told)
     if held := re.fullmatch("(.*), but the Boolean is false", told):
         return form == "reif" and args[-1] is False and slow.Row(base).holds(args[:-1])

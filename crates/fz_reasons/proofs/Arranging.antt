@@ -1,13 +1,17 @@
 -- The rows fail by these reasons.
-use Rattle.std.proofs.Common.{◌≡◌, ℕ, ℤ, pos, ◌+ℤ◌, ◌-ℤ◌, false, ◌&&◌, List, length, sym, ap, ap₂, ◌∙◌}
+use Rattle.std.proofs.Common.{◌≡◌, ℕ, suc, zero, ℤ, pos, negsuc, ◌+ℤ◌, ◌-ℤ◌, false, ◌&&◌, List, [], ◌∷◌, length, None, Some, slice_get, refl, sym, ap, ap₂, ◌∙◌, arith}
+use Rattle.std.specs.Option.{option_map_or}
+use Rattle.std.proofs.lemmas.Int.{ints}
+use Rattle.std.proofs.lemmas.Option.{none-some, same_Some}
+use Rattle.fz_base.specs.Sets.{NumberSet}
 use Rattle.std.specs.List.{list_all}
 use Rattle.fz_base.proofs.Covers.{and-false}
 use Rattle.fz_builtins.specs.of_meaning.declared.builtin.Builtin.{Builtin}
 use Rattle.fz_builtins.specs.of_meaning.declared.builtin.Builtin.TheVariants as builtin
 use Rattle.fz_builtins.specs.of_meaning.Builtins.{row_at}
 use Rattle.fz_builtins.specs.of_meaning.Meaning.{Argument, Partial}
-use Rattle.fz_builtins.specs.of_meaning.Relations.{◌=ℤ◌, as_places, is_natural, is_knapsack, lies_between, load_of, loads_are, slides_between}
-use Rattle.fz_builtins.specs.of_kernel.Given.{int_at, ints_at}
+use Rattle.fz_builtins.specs.of_meaning.Relations.{◌=ℤ◌, ◌=ˢ◌, as_places, element_at, is_natural, is_knapsack, lies_between, load_of, loads_are, slides_between}
+use Rattle.fz_builtins.specs.of_kernel.Given.{int_at, ints_at, set_at, sets_at}
 use Rattle.fz_builtins.specs.Outcomes.{row_outcome, sum_outcome}
 use Rattle.fz_builtins.specs.declared.outcome.Outcome.TheVariants.{Truth}
 use Rattle.fz_reasons.specs.Arranged.{HasLoad, HasNoIndex, HasProfit, HasRing, HasRun, HasWeight, SaysArranged}
@@ -30,6 +34,26 @@ other_total : (t : Total) (sum wanted : ℤ) → sum ≡ t.total → wanted ≡ 
     → (t.total =ℤ t.wanted) ≡ false → (sum =ℤ wanted) ≡ false
 other_total t sum wanted is that other = ap₂ ◌=ℤ◌ is that ∙ other
 
+alone_is : (i : ℕ) (x v : ℤ) → slice_get (x ∷ []) i ≡ Some v → x ≡ v
+alone_is zero x v at = same_Some x v at
+alone_is (suc i) x v at = absurd (none-some v at)
+
+-- there is an element only at one of the indices
+none_outside : (ss : List NumberSet) (n : ℤ) → lies_between (pos 1) (pos (length ss)) n ≡ false
+    → element_at ss n ≡ None
+none_outside [] n beyond = refl
+none_outside (s ∷ ss) (pos zero) beyond = refl
+none_outside (s ∷ ss) (pos (suc zero)) beyond = absurd (within (length ss) beyond)
+  where
+    within : (m : ℕ) → lies_between (pos 1) (pos (suc m)) (pos 1) ≡ false → ⊥
+    within m e = grind (arith, ints)
+none_outside (s ∷ ss) (pos (suc (suc k))) beyond = none_outside ss (pos (suc k)) (less (length ss) k beyond)
+  where
+    less : (m k : ℕ) → lies_between (pos 1) (pos (suc m)) (pos (suc (suc k))) ≡ false
+        → lies_between (pos 1) (pos m) (pos (suc k)) ≡ false
+    less m k e = grind (arith, ints)
+none_outside (s ∷ ss) (negsuc k) beyond = refl
+
 index_fails : (b : Builtin) (K : Partial) (xs : List Argument) (o : NoIndex) → HasNoIndex b K xs o
     → row_outcome (row_at b) K xs ≡ Truth false
 unfolding row_outcome row_at
@@ -40,6 +64,13 @@ index_fails builtin.FzcheckSubcircuit K xs o says =
 index_fails builtin.GecodeBinPackingLoad K xs o says =
     let first = int_at K xs 3 in
     ap Truth (ap (λ b. b && loads_are first (ints_at K xs 1) (ints_at K xs 2) (ints_at K xs 0)) (one_fails (lies_between first ((first +ℤ pos (length (ints_at K xs 0))) -ℤ pos 1)) (ints_at K xs 1) o.place o.value says.value (lies_outside _ _ _ o says)))
+index_fails builtin.ArraySetElement K xs o says =
+    let ss = sets_at K xs 1 in
+    let n = length ss in
+    let last : ((pos 1 +ℤ pos n) -ℤ pos 1) ≡ pos n = omega (arith, ints) in
+    let beyond : lies_between (pos 1) (pos n) (int_at K xs 0) ≡ false =
+    ap (lies_between (pos 1) (pos n)) (alone_is o.place (int_at K xs 0) o.value says.value) ∙ ap (λ h. lies_between (pos 1) h o.value) (sym last) ∙ lies_outside _ _ _ o says in
+    ap (λ p. Truth (option_map_or (λ s. s =ˢ set_at K xs 2) p false)) (none_outside ss (int_at K xs 0) beyond)
 index_fails _ K xs o says = absurd says
 
 ring_fails : (b : Builtin) (K : Partial) (xs : List Argument) (c : Ring) → HasRing b K xs c

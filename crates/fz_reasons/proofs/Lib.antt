@@ -2,11 +2,13 @@ pub mod Lists
 pub mod Numbers
 pub mod Turning
 pub mod Misplaced
-pub mod Adding
-pub mod Sums
-pub mod Stepping
+pub mod Truths
+pub mod BelowZero
+pub mod Channels
 pub mod Scheduled
+pub mod Durations
 pub mod Ordered
+pub mod Flags
 pub mod SetRows
 pub mod Failing
 pub mod Touring

@@ -3,7 +3,8 @@ use Rattle.std.proofs.Common.{◌≡◌, ℕ, suc, zero, ◌+◌, ◌<◌, ℤ, 
 use Rattle.std.specs.Option.{option_map_or}
 use Rattle.std.specs.FinSet as sets
 use Rattle.std.proofs.lemmas.Int.{ints}
-use Rattle.std.proofs.lemmas.Option.{same_Some, slice_get-map}
+use Rattle.std.specs.Int.{int_max}
+use Rattle.std.proofs.lemmas.Option.{none-some, same_Some, slice_get-map}
 use Rattle.fz_builtins.proofs.of_meaning.Values.{int_itself}
 use Rattle.fz_builtins.specs.of_meaning.declared.builtin.Builtin.{Builtin}
 use Rattle.fz_builtins.specs.of_meaning.declared.builtin.Builtin.TheVariants as builtin
@@ -11,12 +12,15 @@ use Rattle.fz_builtins.specs.of_meaning.Builtins.{row_at}
 use Rattle.fz_builtins.specs.of_meaning.Meaning.{Argument, Partial}
 use Rattle.fz_builtins.specs.Outcomes.{row_outcome}
 use Rattle.fz_builtins.specs.declared.outcome.Outcome.TheVariants as outcomes
-use Rattle.fz_builtins.specs.of_meaning.Relations.{◌=ℤ◌, as_places, element_at, is_before, leads_back, lies_between, precedes}
-use Rattle.fz_builtins.specs.of_kernel.Given.{int_at, ints_at, set_at}
-use Rattle.fz_reasons.specs.Elements.{HasNoStep, IsDifference, IsEarly, IsOneWay, agree, comes_before}
+use Rattle.fz_builtins.specs.of_meaning.Relations.{◌=ℤ◌, as_number, as_places, element_at, is_before, is_same_list, leads_back, lies_between, precedes, rises_by_one}
+use Rattle.fz_builtins.specs.of_kernel.Given.{bools_at, int_at, ints_at, set_at, sets_at}
+use Rattle.fz_reasons.specs.Elements.{HasNoStep, IsDifference, IsEarly, IsOneWay, agree, comes_before, differ}
 use Rattle.fz_reasons.specs.Reasons.{ComesEarly, Differs, Ends, IsNearRow, LeadsOneWay, Stops}
-use Rattle.fz_reasons.proofs.Lists.{and_false}
+use Rattle.fz_globals.proofs.Ascending.{form_is}
+use Rattle.fz_reasons.proofs.Channels.{in_no_set, no_index_of}
+use Rattle.fz_reasons.proofs.Lists.{and_false, neighbours_fail}
 use Rattle.fz_reasons.proofs.Numbers.{comes_too_early}
+use Rattle.fz_reasons.proofs.Truths.{truths_before}
 use Rattle.fz_reasons.proofs.Turning.{decides, leads_off, stops}
 use Rattle.fz_reasons.specs.declared.reason.Difference.{Difference}
 use Rattle.fz_reasons.specs.declared.reason.Early.{Early}
@@ -45,6 +49,21 @@ before_apart None p b e = refl
 before_apart (Some x) None b e = e
 before_apart (Some x) (Some y) b e = absurd (true≢false (sym b ∙ ap (λ z. int_lt z y) (same_Some x y e) ∙ never_below y))
 
+-- lists differ where one has another number than the other, or ends first
+other_lists : (xs ys : List ℤ) (k : ℕ) (o p : Option ℤ) → slice_get xs k ≡ o → slice_get ys k ≡ p
+    → differ o p ≡ true → is_same_list ◌=ℤ◌ xs ys ≡ false
+other_lists [] [] k o p left right e = absurd (true≢false (sym e ∙ (λ i. differ (sym left i) (sym right i))))
+other_lists [] (y ∷ ys) k o p left right e = refl
+other_lists (x ∷ xs) [] k o p left right e = refl
+other_lists (x ∷ xs) (y ∷ ys) zero o p left right e =
+    ap (λ b. b && is_same_list ◌=ℤ◌ xs ys) (unequal (x =ℤ y) ((λ i. differ (left i) (right i)) ∙ e))
+  where
+    unequal : (b : Bool) → not b ≡ true → b ≡ false
+    unequal true e = absurd (true≢false (sym e))
+    unequal false e = refl
+other_lists (x ∷ xs) (y ∷ ys) (suc k) o p left right e =
+    ap (λ b. (x =ℤ y) && b) (other_lists xs ys k o p left right e) ∙ and_false (x =ℤ y)
+
 pub difference_fails : (b : Builtin) (K : Partial) (xs : List Argument) (d : Difference) → Differs b K xs d
     → row_outcome (row_at b) K xs ≡ outcomes.Truth false
 unfolding row_outcome row_at
@@ -53,19 +72,58 @@ difference_fails builtin.FznLexLessInt K xs d h =
 difference_fails builtin.FznLexLesseqInt K xs d h =
     ap (λ s. outcomes.Truth (not s))
     (told d.right d.left (before_apart d.right d.left h.1) (ints_at K xs 1) (ints_at K xs 0) d.place (λ j l. sym (h.0.same j l)) h.0.right h.0.left ∙ h.1)
+difference_fails builtin.FznLexLessBool K xs d h =
+    ap outcomes.Truth (truths_before (bools_at K xs 0) (bools_at K xs 1)
+    ∙ told d.left d.right (apart d.left d.right h.2) (map as_number (bools_at K xs 0)) (map as_number (bools_at K xs 1)) d.place h.0.same h.0.left h.0.right ∙ h.1)
+difference_fails builtin.FznLexLesseqBool K xs d h =
+    ap (λ s. outcomes.Truth (not s))
+    (truths_before (bools_at K xs 1) (bools_at K xs 0)
+    ∙ told d.right d.left (before_apart d.right d.left h.1) (map as_number (bools_at K xs 1)) (map as_number (bools_at K xs 0)) d.place (λ j l. sym (h.0.same j l)) h.0.right h.0.left ∙ h.1)
+difference_fails builtin.FznSort K xs d h =
+    ap outcomes.Truth (sym (form_is (ints_at K xs 0) h.ascending (ints_at K xs 1) h.same h.sorted)
+    ∙ other_lists h.ascending (ints_at K xs 1) d.place d.left d.right h.difference.left h.difference.right h.unlike)
 difference_fails b K xs d h = absurd h
 
-early : (s t : ℤ) (xs : List ℤ) (e : Early) → IsEarly s t xs e → precedes s t xs ≡ false
-early s t xs e h =
-    comes_too_early s t xs e.place (h.there ∙ ap Some h.value) (λ k l at. h.none k l (at ∙ ap Some (sym h.before)))
+early : (xs : List ℤ) (e : Early) → IsEarly xs e → precedes e.before e.value xs ≡ false
+early xs e h = comes_too_early e.before e.value xs e.place h.there h.none
+
+-- an element is greater by more than one than the greatest so far, and the number just below it
+-- doesn't come before it
+rises_too_fast : (v : ℤ) (xs : List ℤ) (i : ℕ) (most : ℤ) → int_lt (most +ℤ pos 1) v ≡ true
+    → slice_get xs i ≡ Some v → ((k : ℕ) → k < i → slice_get xs k ≡ Some (v -ℤ pos 1) → ⊥)
+    → rises_by_one most xs ≡ false
+rises_too_fast v [] i most far at none = absurd (none-some v at)
+rises_too_fast v (x ∷ xs) zero most far at none =
+    ap (λ b. b && rises_by_one (int_max most x) xs) (ap (λ y. int_le y (most +ℤ pos 1)) (same_Some x v at) ∙ too_far v most far)
+  where
+    too_far : (v most : ℤ) → int_lt (most +ℤ pos 1) v ≡ true → int_le v (most +ℤ pos 1) ≡ false
+    too_far v most far = grind (arith, ints)
+rises_too_fast v (x ∷ xs) (suc i) most far at none =
+    by (int_le x (most +ℤ pos 1)) refl (λ more. rises_too_fast v xs i (int_max most x) more at (λ k h. none (suc k) (omega arith)))
+  where
+    still_far : (v x most : ℤ) → int_lt (most +ℤ pos 1) v ≡ true → int_le x (most +ℤ pos 1) ≡ true
+        → (x ≡ v -ℤ pos 1 → ⊥) → int_lt (int_max most x +ℤ pos 1) v ≡ true
+    still_far v x most far low other = grind (arith, ints)
+
+    by : (b : Bool) → int_le x (most +ℤ pos 1) ≡ b
+        → (int_lt (int_max most x +ℤ pos 1) v ≡ true → rises_by_one (int_max most x) xs ≡ false)
+        → (b && rises_by_one (int_max most x) xs) ≡ false
+    by true low rest =
+        rest (still_far v x most far low (λ e. none 0 (omega arith) (ap Some e)))
+    by false low rest = refl
 
 pub early_fails : (b : Builtin) (K : Partial) (xs : List Argument) (e : Early) → ComesEarly b K xs e
     → row_outcome (row_at b) K xs ≡ outcomes.Truth false
 unfolding row_outcome row_at
 early_fails builtin.FznValuePrecedeInt K xs e h =
-    ap outcomes.Truth (early (int_at K xs 0) (int_at K xs 1) (ints_at K xs 2) e h)
+    ap outcomes.Truth ((λ i. precedes (sym h.1 i) (sym h.2 i) (ints_at K xs 2)) ∙ early (ints_at K xs 2) e h.0)
 early_fails builtin.GecodePrecede K xs e h =
-    ap outcomes.Truth (early (int_at K xs 1) (int_at K xs 2) (ints_at K xs 0) e h)
+    ap outcomes.Truth ((λ i. precedes (sym h.1 i) (sym h.2 i) (ints_at K xs 0)) ∙ early (ints_at K xs 0) e h.0)
+early_fails builtin.FznValuePrecedeChainInt K xs e h =
+    let elements = ints_at K xs 1 in
+    ap outcomes.Truth (neighbours_fail (λ s t. precedes s t elements) (ints_at K xs 0) h.link e.before e.value h.before h.value (early elements e h.early))
+early_fails builtin.FznSeqPrecedeChainInt K xs e h =
+    ap outcomes.Truth (rises_too_fast e.value (ints_at K xs 0) e.place (pos 0) h.2 h.0.there (λ k l at. h.0.none k l (at ∙ ap Some (sym h.1))))
 early_fails b K xs e h = absurd h
 
 pub place_of : (go : ℤ) (g : List ℤ) (n : ℤ) → element_at (as_places go g) n ≡ option_map (λ y. (y -ℤ go) +ℤ pos 1) (element_at g n)
@@ -100,6 +158,10 @@ one_way_fails builtin.InverseOffsets false K xs w h =
     let front = leads_back (pos 1) (as_places (int_at K xs 1) (ints_at K xs 0)) (as_places (int_at K xs 3) (ints_at K xs 2)) in
     ap (λ s. outcomes.Truth (front && s)) (one_way (ints_at K xs 2) (int_at K xs 3) (ints_at K xs 0) (int_at K xs 1) w h)
     ∙ ap outcomes.Truth (and_false front)
+one_way_fails builtin.GecodeIntSetChannel true K xs w h =
+    ap outcomes.Truth (in_no_set (ints_at K xs 0) (int_at K xs 1) (sets_at K xs 2) (int_at K xs 3) w h)
+one_way_fails builtin.GecodeIntSetChannel false K xs w h =
+    ap outcomes.Truth (no_index_of (ints_at K xs 0) (int_at K xs 1) (sets_at K xs 2) (int_at K xs 3) w h)
 one_way_fails b first K xs w h = absurd h
 
 pub no_step_fails : (b : Builtin) (K : Partial) (xs : List Argument) (n : NoStep) → Stops b K xs n
@@ -115,11 +177,12 @@ pub end_fails : (b : Builtin) (K : Partial) (xs : List Argument) (q : ℤ) → E
 unfolding row_outcome row_at
 end_fails builtin.FznRegular K xs q h =
     ap (λ o. outcomes.Truth (option_map_or (λ q. lies_between (pos 1) (int_at K xs 1) q && sets.contains (set_at K xs 5) q) o false)) h.0
-    ∙ ap (λ s. outcomes.Truth (lies_between (pos 1) (int_at K xs 1) q && s)) h.1 ∙ ap outcomes.Truth (and_false (lies_between (pos 1) (int_at K xs 1) q))
+    ∙ ap outcomes.Truth h.1
 end_fails b K xs q h = absurd h
 
 pub near_row_fails : (b : Builtin) (K : Partial) (xs : List Argument) (n : NearRow) → IsNearRow b K xs n
     → row_outcome (row_at b) K xs ≡ outcomes.Truth false
 unfolding row_outcome row_at
 near_row_fails builtin.FznTableInt K xs n h = ap outcomes.Truth h.0
+near_row_fails builtin.FznTableBool K xs n h = ap outcomes.Truth h.0
 near_row_fails b K xs n h = absurd h

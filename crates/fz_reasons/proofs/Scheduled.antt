@@ -1,5 +1,5 @@
 -- Rows of tasks, boxes and bins fail by their reasons.
-use Rattle.std.proofs.Common.{◌≡◌, ℕ, ◌+◌, ◌<◌, ℤ, pos, Bool, false, ◌&&◌, ◌||◌, List, Some, slice_get, get_or, length, int_le, nat_eq, refl, sym, ap, subst, ◌∙◌}
+use Rattle.std.proofs.Common.{◌≡◌, ℕ, ◌+◌, ◌<◌, ℤ, pos, Bool, false, ◌&&◌, ◌||◌, List, Some, slice_get, length, int_le, nat_eq, refl, sym, ap, subst, ◌∙◌}
 use Rattle.std.specs.List.{list_all, zip}
 use Rattle.fz_builtins.specs.of_meaning.declared.builtin.Builtin.{Builtin}
 use Rattle.fz_builtins.specs.of_meaning.declared.builtin.Builtin.TheVariants as builtin
@@ -9,32 +9,15 @@ use Rattle.fz_builtins.specs.Outcomes.{row_outcome}
 use Rattle.fz_builtins.specs.declared.outcome.Outcome.TheVariants as outcomes
 use Rattle.fz_builtins.specs.of_meaning.Relations.{◌=ℤ◌, all_pairs, are_apart, boxes, has_no_area, is_cumulative, is_empty_span, is_natural, last_naturally, lie_apart, load_of, used_at}
 use Rattle.fz_builtins.specs.of_kernel.Given.{int_at, ints_at}
-use Rattle.std.proofs.lemmas.Option.{slice_get-get_or}
-use Rattle.fz_reasons.specs.Elements.{AreBoxes, BothLast, IsBelowZero, IsBin, IsLoad, IsMore, IsOverlap, IsStretch, is_empty, span}
-use Rattle.fz_reasons.specs.Reasons.{Bins, BoxesOverlap, IsNegative, Loads, Overlaps}
+use Rattle.fz_reasons.specs.Elements.{AreBoxes, BothLast, IsBin, IsLoad, IsMore, IsOverlap, IsStretch, is_empty, span}
+use Rattle.fz_reasons.specs.Reasons.{Bins, BoxesOverlap, Loads, Overlaps}
 use Rattle.fz_reasons.specs.Relating.{relates}
 use Rattle.fz_reasons.proofs.Lists.{and_false, one_fails, pair_fails, zipped}
-use Rattle.fz_reasons.specs.declared.reason.Element.{Element}
 use Rattle.fz_reasons.specs.declared.reason.Stretch.{Stretch}
 use Rattle.fz_reasons.specs.declared.reason.Overlap.{Overlap}
 use Rattle.fz_reasons.specs.declared.reason.Boxes.{Boxes}
 use Rattle.fz_reasons.specs.declared.reason.Load.{Load}
 use Rattle.fz_reasons.specs.declared.reason.Sides.{Sides}
-
-negative : (xs ys : List ℤ) (e : Element) → IsBelowZero xs ys e → last_naturally (zip xs ys) ≡ false
-negative xs ys e h =
-    let start = get_or xs e.place (pos 0) in
-    one_fails (λ k. is_natural k.1) (zip xs ys) e.place (start, e.value) (zipped xs ys e.place start e.value (slice_get-get_or xs e.place (pos 0) h.started) h.there) h.below
-
-pub negative_fails : (b : Builtin) (K : Partial) (xs : List Argument) (e : Element) → IsNegative b K xs e
-    → row_outcome (row_at b) K xs ≡ outcomes.Truth false
-unfolding row_outcome row_at
-negative_fails builtin.FznDisjunctive K xs e h =
-    let tasks = zip (ints_at K xs 0) (ints_at K xs 1) in
-    ap (λ s. outcomes.Truth (s && all_pairs (λ a b. is_empty_span a || is_empty_span b || are_apart a b) tasks)) (negative (ints_at K xs 0) (ints_at K xs 1) e h)
-negative_fails builtin.FznDisjunctiveStrict K xs e h =
-    ap (λ s. outcomes.Truth (s && all_pairs are_apart (zip (ints_at K xs 0) (ints_at K xs 1)))) (negative (ints_at K xs 0) (ints_at K xs 1) e h)
-negative_fails b K xs e h = absurd h
 
 pub stretched : (xs ys : List ℤ) (i : ℕ) (s : Stretch) → IsStretch xs ys i s
     → slice_get (zip xs ys) i ≡ Some (span s)

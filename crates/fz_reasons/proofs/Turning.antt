@@ -24,6 +24,27 @@ leads_off (y ∷ f) g (suc i) p x at e =
 
 -- ---- automata
 
+-- one symbol more
+one_more : (states symbols : ℤ) (d : List ℤ) (xs : List ℤ) (i : ℕ) (first q x p : ℤ)
+    → run states symbols d first (take i xs) ≡ Some q → slice_get xs i ≡ Some x
+    → step states symbols d q x ≡ Some p → run states symbols d first (take (suc i) xs) ≡ Some p
+one_more states symbols d [] i first q x p reached at there = absurd (none-some x at)
+one_more states symbols d (y ∷ xs) zero first q x p reached at there =
+    ap (λ z. option_and_then (λ r. Some r) (step states symbols d z y)) (same_Some first q reached)
+    ∙ ap (λ z. option_and_then (λ r. Some r) (step states symbols d q z)) (same_Some y x at)
+    ∙ ap (option_and_then (λ r. Some r)) there
+one_more states symbols d (y ∷ xs) (suc i) first q x p reached at there =
+    elim (step states symbols d first y) as (λ o. option_and_then (λ r. run states symbols d r (take i xs)) o ≡ Some q → option_and_then (λ r. run states symbols d r (take (suc i) xs)) o ≡ Some p) [
+      | None ↦ λ e. absurd (none-some q e)
+      | Some r ↦ λ e. one_more states symbols d xs i r q x p e at there
+    ] reached
+
+pub goes_on : (states symbols : ℤ) (d : List ℤ) (xs : List ℤ) (i j : ℕ) (first q x p : ℤ) → j ≡ suc i
+    → run states symbols d first (take i xs) ≡ Some q → slice_get xs i ≡ Some x
+    → step states symbols d q x ≡ Some p → run states symbols d first (take j xs) ≡ Some p
+goes_on states symbols d xs i j first q x p is reached at there =
+    ap (λ k. run states symbols d first (take k xs)) is ∙ one_more states symbols d xs i first q x p reached at there
+
 pub stops : (states symbols : ℤ) (d : List ℤ) (xs : List ℤ) (i : ℕ) (first q x : ℤ)
     → run states symbols d first (take i xs) ≡ Some q → slice_get xs i ≡ Some x
     → step states symbols d q x ≡ None → run states symbols d first xs ≡ None

@@ -1,14 +1,14 @@
 -- What a reason says of rows over tours, bins, knapsacks and runs (this project's profile). Each
--- kind of reason belongs to the rows that are listed with it; of another row it says nothing that can be
--- so.
-use Rattle.std.specs.Prelude.{◌≡◌, ℤ, false, List, length}
+-- kind of reason belongs to the rows that are listed with it; of another row it says nothing that
+-- can be so.
+use Rattle.std.specs.Prelude.{◌≡◌, ℤ, pos, false, List, [], ◌∷◌, length}
 use Rattle.std.specs.List.{list_any}
 use Rattle.fz_builtins.specs.of_meaning.declared.builtin.Builtin.{Builtin}
 use Rattle.fz_builtins.specs.of_meaning.declared.builtin.Builtin.TheVariants as builtin
 use Rattle.fz_builtins.specs.of_meaning.Builtins.{row_at}
 use Rattle.fz_builtins.specs.of_meaning.Meaning.{Argument, Partial}
 use Rattle.fz_builtins.specs.of_meaning.Relations.{as_places}
-use Rattle.fz_builtins.specs.of_kernel.Given.{int_at, ints_at, read_leave}
+use Rattle.fz_builtins.specs.of_kernel.Given.{int_at, ints_at, read_leave, sets_at}
 use Rattle.fz_reasons.specs.Loads.{HasOtherLoad, IsOtherRun, IsOtherTotal}
 use Rattle.fz_reasons.specs.Places.{IsNoIndex}
 use Rattle.fz_reasons.specs.Tours.{IsShortRing, LeavesOut}
@@ -20,7 +20,7 @@ use Rattle.fz_reasons.specs.declared.arrangement.Ring.{Ring}
 use Rattle.fz_reasons.specs.declared.arrangement.Run.{Run}
 use Rattle.fz_reasons.specs.declared.arrangement.Total.{Total}
 
--- an element that has to be an index, or a bin that has a load
+-- an element that has to be an index, a bin that has a load, or an index of a set
 abbrev pub HasNoIndex : Builtin → Partial → List Argument → NoIndex → Type 0
 HasNoIndex builtin.GecodeCircuit K xs o =
     IsNoIndex (ints_at K xs 1) (int_at K xs 0) (length (ints_at K xs 1)) o
@@ -28,6 +28,8 @@ HasNoIndex builtin.FzcheckSubcircuit K xs o =
     IsNoIndex (ints_at K xs 1) (int_at K xs 0) (length (ints_at K xs 1)) o
 HasNoIndex builtin.GecodeBinPackingLoad K xs o =
     IsNoIndex (ints_at K xs 1) (int_at K xs 3) (length (ints_at K xs 0)) o
+HasNoIndex builtin.ArraySetElement K xs o =
+    IsNoIndex (int_at K xs 0 ∷ []) (pos 1) (length (sets_at K xs 1)) o
 HasNoIndex b K xs o = ⊥
 
 abbrev pub HasRing : Builtin → Partial → List Argument → Ring → Type 0

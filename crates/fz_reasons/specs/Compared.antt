@@ -1,58 +1,67 @@
--- The numbers that a row compares, and the relation that it asks of them. A row that isn't here
--- compares no two numbers, or has a result.
-use Rattle.std.specs.Prelude.{ℤ, Option, Some, None, List}
-use Rattle.fz_builtins.specs.of_meaning.Relations.{count_of, products, total, where_true}
+-- The numbers that a row compares, and how (this project's profile). Booleans are compared as 0 and
+-- 1. A row that isn't in `comparison` compares no two numbers, or has a result.
+use Rattle.std.specs.Prelude.{ℤ, Bool, false, not, ◌&&◌, ◌||◌, Option, Some, None, List}
+use Rattle.std.specs.List.{list_all, list_any}
+use Rattle.fz_builtins.specs.of_meaning.Relations.{◌=ᴮ◌, as_number, count_of, products, total, where_true}
+use Rattle.fz_builtins.specs.of_meaning.States.{leaves_128}
 use Rattle.fz_builtins.specs.of_meaning.Meaning.{Argument, Partial}
-use Rattle.fz_builtins.specs.of_kernel.Given.{int_at, ints_at, bools_at}
+use Rattle.fz_builtins.specs.of_kernel.Given.{bool_at, bools_at, int_at, ints_at}
 use Rattle.fz_builtins.specs.of_meaning.declared.builtin.Builtin.{Builtin}
 use Rattle.fz_builtins.specs.of_meaning.declared.builtin.Builtin.TheVariants as builtin
+use Rattle.fz_reasons.specs.declared.reason.Operands.{Operands}
+use Rattle.fz_reasons.specs.declared.reason.Operands.TheVariants as of
 use Rattle.fz_reasons.specs.declared.reason.Relation.{Relation}
 use Rattle.fz_reasons.specs.declared.reason.Relation.TheVariants.{Equal, NotEqual, AtMost, Below, AtLeast, Above}
 
-abbrev pub Compared : Type 0
-Compared = ℤ × Relation × ℤ
+-- the left and the right number
+abbrev pub operands : Operands → Partial → List Argument → ℤ × ℤ
+operands of.Scalars K xs = (int_at K xs 0, int_at K xs 1)
+operands of.Products K xs = (total (products (ints_at K xs 0) (ints_at K xs 1)), int_at K xs 2)
+operands of.Weights K xs = (total (where_true (ints_at K xs 0) (bools_at K xs 1)), int_at K xs 2)
+operands of.Count K xs = (count_of (ints_at K xs 0) (int_at K xs 1), int_at K xs 2)
+operands of.CountLast K xs = (count_of (ints_at K xs 1) (int_at K xs 2), int_at K xs 0)
+operands of.Truths K xs = (as_number (bool_at K xs 0), as_number (bool_at K xs 1))
+operands of.And K xs = (as_number (bool_at K xs 0 && bool_at K xs 1), as_number (bool_at K xs 2))
+operands of.Or K xs = (as_number (bool_at K xs 0 || bool_at K xs 1), as_number (bool_at K xs 2))
+operands of.Xor K xs =
+    (as_number (not (bool_at K xs 0 =ᴮ bool_at K xs 1)), as_number (bool_at K xs 2))
+operands of.All K xs = (as_number (list_all (λ x. x) (bools_at K xs 0)), as_number (bool_at K xs 1))
+operands of.Any K xs = (as_number (list_any (λ x. x) (bools_at K xs 0)), as_number (bool_at K xs 1))
 
-abbrev pub scalars : Partial → List Argument → Relation → Option Compared
-scalars K xs relation = Some (int_at K xs 0, relation, int_at K xs 1)
+-- a sum of them leaves 128 bits
+abbrev pub leave : Operands → Partial → List Argument → Bool
+leave of.Products K xs = leaves_128 (products (ints_at K xs 0) (ints_at K xs 1))
+leave o K xs = false
 
--- the sum of products, and the third argument
-abbrev pub sums : Partial → List Argument → Relation → Option Compared
-sums K xs relation = Some (total (products (ints_at K xs 0) (ints_at K xs 1)), relation, int_at K xs 2)
-
--- the sum of the numbers whose Booleans are true, and the third argument
-abbrev pub weights : Partial → List Argument → Relation → Option Compared
-weights K xs relation =
-    Some (total (where_true (ints_at K xs 0) (bools_at K xs 1)), relation, int_at K xs 2)
-
--- how often the second argument is an element of the first, and the third
-abbrev pub counts : Partial → List Argument → Relation → Option Compared
-counts K xs relation = Some (count_of (ints_at K xs 0) (int_at K xs 1), relation, int_at K xs 2)
-
--- how often the third argument is an element of the second, and the first
-abbrev pub counts_last : Partial → List Argument → Relation → Option Compared
-counts_last K xs relation =
-    Some (count_of (ints_at K xs 1) (int_at K xs 2), relation, int_at K xs 0)
-
-unfoldable pub compared : Builtin → Partial → List Argument → Option Compared
-compared builtin.IntNe K xs = scalars K xs NotEqual
-compared builtin.IntLe K xs = scalars K xs AtMost
-compared builtin.IntLt K xs = scalars K xs Below
-compared builtin.IntGe K xs = scalars K xs AtLeast
-compared builtin.IntGt K xs = scalars K xs Above
-compared builtin.IntLinEq K xs = sums K xs Equal
-compared builtin.IntLinNe K xs = sums K xs NotEqual
-compared builtin.IntLinLe K xs = sums K xs AtMost
-compared builtin.BoolLinNe K xs = weights K xs NotEqual
-compared builtin.BoolLinLe K xs = weights K xs AtMost
-compared builtin.BoolLinLt K xs = weights K xs Below
-compared builtin.BoolLinGe K xs = weights K xs AtLeast
-compared builtin.BoolLinGt K xs = weights K xs Above
-compared builtin.FznCountNeq K xs = counts K xs NotEqual
-compared builtin.FznCountGeq K xs = counts K xs AtMost
-compared builtin.FznCountGt K xs = counts K xs Below
-compared builtin.FznCountLeq K xs = counts K xs AtLeast
-compared builtin.FznCountLt K xs = counts K xs Above
-compared builtin.FznAtLeastInt K xs = counts_last K xs AtLeast
-compared builtin.FznAtMostInt K xs = counts_last K xs AtMost
-compared builtin.FznExactlyInt K xs = counts_last K xs Equal
-compared b K xs = None
+unfoldable pub comparison : Builtin → Option (Operands × Relation)
+comparison builtin.IntNe = Some (of.Scalars, NotEqual)
+comparison builtin.IntLe = Some (of.Scalars, AtMost)
+comparison builtin.IntLt = Some (of.Scalars, Below)
+comparison builtin.IntGe = Some (of.Scalars, AtLeast)
+comparison builtin.IntGt = Some (of.Scalars, Above)
+comparison builtin.IntLinEq = Some (of.Products, Equal)
+comparison builtin.IntLinNe = Some (of.Products, NotEqual)
+comparison builtin.IntLinLe = Some (of.Products, AtMost)
+comparison builtin.BoolLe = Some (of.Truths, AtMost)
+comparison builtin.BoolLt = Some (of.Truths, Below)
+comparison builtin.BoolGe = Some (of.Truths, AtLeast)
+comparison builtin.BoolGt = Some (of.Truths, Above)
+comparison builtin.BoolAndImp = Some (of.And, AtLeast)
+comparison builtin.BoolOrImp = Some (of.Or, AtLeast)
+comparison builtin.BoolXorImp = Some (of.Xor, AtLeast)
+comparison builtin.ArrayBoolAndImp = Some (of.All, AtLeast)
+comparison builtin.ArrayBoolOrImp = Some (of.Any, AtLeast)
+comparison builtin.BoolLinNe = Some (of.Weights, NotEqual)
+comparison builtin.BoolLinLe = Some (of.Weights, AtMost)
+comparison builtin.BoolLinLt = Some (of.Weights, Below)
+comparison builtin.BoolLinGe = Some (of.Weights, AtLeast)
+comparison builtin.BoolLinGt = Some (of.Weights, Above)
+comparison builtin.FznCountNeq = Some (of.Count, NotEqual)
+comparison builtin.FznCountGeq = Some (of.Count, AtMost)
+comparison builtin.FznCountGt = Some (of.Count, Below)
+comparison builtin.FznCountLeq = Some (of.Count, AtLeast)
+comparison builtin.FznCountLt = Some (of.Count, Above)
+comparison builtin.FznAtLeastInt = Some (of.CountLast, AtLeast)
+comparison builtin.FznAtMostInt = Some (of.CountLast, AtMost)
+comparison builtin.FznExactlyInt = Some (of.CountLast, Equal)
+comparison b = None

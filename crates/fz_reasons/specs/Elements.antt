@@ -1,6 +1,9 @@
 -- What reasons say of the elements of arrays (this project's profile). Indices count from 0.
-use Rattle.std.specs.Prelude.{◌≡◌, ◌<◌, ◌+◌, ◌*◌, ℕ, suc, ℤ, pos, ◌+ℤ◌, ◌-ℤ◌, Bool, true, false, ◌&&◌, ◌||◌, List, Option, None, Some, length, slice_get, take, int_lt}
+use Rattle.std.specs.Prelude.{◌≡◌, ◌<◌, ◌+◌, ◌*◌, ℕ, suc, ℤ, pos, ◌+ℤ◌, ◌-ℤ◌, Bool, true, false, not, ◌&&◌, ◌||◌, List, Option, None, Some, length, slice_get, take, int_lt}
 use Rattle.std.specs.List.{zip}
+use Rattle.std.specs.List.Sorted.{IsSorted, IsPermutation}
+use Rattle.std.specs.Ordering.{int_cmp}
+use Rattle.std.specs.FinSet as sets
 use Rattle.std.specs.Option.{option_map_or}
 use Rattle.fz_builtins.specs.of_meaning.Relations.{◌=ℤ◌, Span, are_apart, as_places, count_of, element_at, end_of_tour, is_among, is_natural, load_of, run, step, used_at}
 use Rattle.fz_base.specs.Sets.{NumberSet}
@@ -27,6 +30,12 @@ pub record IsClash (xs : List ℤ) (c : Clash) : Type 0 where
   pub order : c.one < c.other
   pub one : slice_get xs c.one ≡ Some c.value
   pub other : slice_get xs c.other ≡ Some c.value
+
+-- two sets with the same element
+pub record IsShared (ss : List NumberSet) (c : Clash) : Type 0 where
+  pub order : c.one < c.other
+  pub one : option_map_or (λ s. sets.contains s c.value) (slice_get ss c.one) false ≡ true
+  pub other : option_map_or (λ s. sets.contains s c.value) (slice_get ss c.other) false ≡ true
 
 -- an element and the next one, which don't compare so
 pub record AreUnlike (relation : Relation) (xs : List ℤ) (n : Neighbours) : Type 0 where
@@ -64,12 +73,6 @@ pub record IsOverlap (starts lengths : List ℤ) (o : Overlap) : Type 0 where
 
 abbrev pub is_empty : Stretch → Bool
 is_empty s = s.length =ℤ pos 0
-
--- the length of one of them is below 0
-pub record IsBelowZero (starts lengths : List ℤ) (e : Element) : Type 0 where
-  pub started : e.place < length starts
-  pub there : slice_get lengths e.place ≡ Some e.value
-  pub below : is_natural e.value ≡ false
 
 -- both of them last
 pub record BothLast (o : Overlap) : Type 0 where
@@ -127,11 +130,31 @@ comes_before None (Some y) = true
 comes_before (Some x) (Some y) = int_lt x y
 comes_before o None = false
 
-pub record IsEarly (s t : ℤ) (xs : List ℤ) (e : Early) : Type 0 where
-  pub value : e.value ≡ t
-  pub before : e.before ≡ s
+-- whether there are different numbers, or one alone
+abbrev pub differ : Option ℤ → Option ℤ → Bool
+differ (Some x) (Some y) = not (x =ℤ y)
+differ None None = false
+differ o p = true
+
+-- the first list in ascending order, and the second, differ at the index
+pub record IsUnsorted (xs ys : List ℤ) (d : Difference) : Type 0 where
+  pub ascending : List ℤ
+  pub same : IsPermutation xs ascending
+  pub sorted : IsSorted int_cmp ascending
+  pub difference : IsDifference ascending ys d
+  pub unlike : differ d.left d.right ≡ true
+
+-- the value comes at the index, and the other doesn't come before it
+pub record IsEarly (xs : List ℤ) (e : Early) : Type 0 where
   pub there : slice_get xs e.place ≡ Some e.value
   pub none : (k : ℕ) → k < e.place → slice_get xs k ≡ Some e.before → ⊥
+
+-- a value of a chain comes where the one before it in the chain doesn't come before it
+pub record IsEarlyInChain (chain xs : List ℤ) (e : Early) : Type 0 where
+  pub link : ℕ
+  pub before : slice_get chain link ≡ Some e.before
+  pub value : slice_get chain (suc link) ≡ Some e.value
+  pub early : IsEarly xs e
 
 -- ---- successors and automata
 
@@ -140,6 +163,21 @@ pub record IsOneWay (f : List ℤ) (fo : ℤ) (g : List ℤ) (go : ℤ) (w : One
   pub there : slice_get f w.place ≡ Some w.value
   pub back : element_at g ((w.value -ℤ fo) +ℤ pos 1) ≡ w.back
   pub other : option_map_or (λ y. ((y -ℤ go) +ℤ pos 1) =ℤ pos (suc w.place)) w.back false ≡ false
+
+-- the index of an element isn't in the set whose index the element is, if there is one
+pub record IsInNoSet (xs : List ℤ) (xo : ℤ) (ss : List NumberSet) (so : ℤ) (w : OneWay)
+    : Type 0 where
+  pub there : slice_get xs w.place ≡ Some w.value
+  pub back : w.back ≡ None
+  pub none : option_map_or (λ s. sets.contains s (xo +ℤ pos w.place))
+      (element_at ss ((w.value -ℤ so) +ℤ pos 1)) false ≡ false
+
+-- an element of a set isn't the index of an element that is the set's index
+pub record IsNoIndexOf (ss : List NumberSet) (so : ℤ) (xs : List ℤ) (xo : ℤ) (w : OneWay)
+    : Type 0 where
+  pub there : option_map_or (λ s. sets.contains s w.value) (slice_get ss w.place) false ≡ true
+  pub back : element_at xs ((w.value -ℤ xo) +ℤ pos 1) ≡ w.back
+  pub other : option_map_or (λ y. ((y -ℤ so) +ℤ pos 1) =ℤ pos (suc w.place)) w.back false ≡ false
 
 pub record HasNoStep (xs : List ℤ) (states symbols : ℤ) (d : List ℤ) (first : ℤ) (n : NoStep)
     : Type 0 where

@@ -1,8 +1,9 @@
 -- What a reason says of the values of a constraint's arguments, and that from it the row fails
 -- (this project's profile). Each kind of reason belongs to the rows that are listed with it; of
 -- another row it says nothing that can be so.
-use Rattle.std.specs.Prelude.{◌≡◌, ◌+◌, ◌*◌, ℕ, ℤ, Bool, true, false, not, ◌&&◌, ◌||◌, List, Option, None, Some, length, slice_get}
-use Rattle.std.specs.List.{filter, list_any}
+use Rattle.std.specs.Prelude.{◌≡◌, ◌+◌, ◌*◌, ◌+ℤ◌, ◌-ℤ◌, ℕ, ℤ, pos, Bool, true, false, not, ◌&&◌, ◌||◌, if◌then◌else◌, List, [], ◌∷◌, Option, None, Some, int_lt, length, map, nat_eq, slice_get}
+use Rattle.std.specs.List.{filter, list_any, zip}
+use Rattle.std.specs.Option.{option_map_or}
 use Rattle.std.specs.FinSet as sets
 use Rattle.fz_base.specs.declared.value.Value.TheVariants.{Int, Bool as Truth}
 use Rattle.fz_builtins.specs.of_meaning.declared.builtin.Builtin.{Builtin}
@@ -10,15 +11,22 @@ use Rattle.fz_builtins.specs.of_meaning.declared.builtin.Builtin.TheVariants as 
 use Rattle.fz_builtins.specs.of_meaning.declared.kind.Kind.TheVariants.{Int as IntKind, Bool as BoolKind}
 use Rattle.fz_builtins.specs.of_meaning.Builtins.{row_at}
 use Rattle.fz_builtins.specs.of_meaning.Meaning.{Argument, Partial}
-use Rattle.fz_builtins.specs.of_meaning.Relations.{◌=ℤ◌, ◌=ᴮ◌, as_places, is_among, is_nonzero, is_odd, is_row_of, run}
-use Rattle.fz_builtins.specs.of_kernel.Given.{bool_at, bools_at, int_at, ints_at, read_leave, set_at}
+use Rattle.fz_builtins.specs.of_meaning.declared.term.Term.{Term}
+use Rattle.fz_builtins.specs.of_meaning.Relations.{◌=ℤ◌, ◌=ᴮ◌, ◌=ˢ◌, Span, as_number, element_at, is_among, is_natural, is_nonzero, is_odd, is_row_of, lies_between, run}
+use Rattle.fz_builtins.specs.of_kernel.Given.{bool_at, bools_at, bools_of, int_at, ints_at, ints_of, set_at, sets_at, slots_at}
 use Rattle.fz_builtins.specs.Outcomes.{row_outcome}
 use Rattle.fz_builtins.specs.declared.outcome.Outcome.TheVariants as outcomes
 use Rattle.fz_builtins.specs.Said.{HasResult, is_result, row_with}
-use Rattle.fz_reasons.specs.Arranged.{SaysArranged}
-use Rattle.fz_reasons.specs.Compared.{compared}
-use Rattle.fz_reasons.specs.Elements.{AreBoxes, AreUnlike, BothLast, HasNoStep, IsBelowZero, IsBin, IsClash, IsCount, IsDifference, IsDifferentRow, IsEarly, IsLoad, IsOneWay, IsOutside, IsOverlap, agree, comes_before}
+use Rattle.fz_reasons.specs.Arranged.{AddsUp, SaysArranged}
+use Rattle.fz_reasons.specs.Compared.{comparison, leave, operands}
+use Rattle.fz_reasons.specs.Elements.{AreBoxes, AreUnlike, BothLast, HasNoStep, IsBin, IsClash, IsCount, IsDifference, IsDifferentRow, IsEarly, IsEarlyInChain, IsInNoSet, IsLoad, IsNoIndexOf, IsOneWay, IsOutside, IsOverlap, IsShared, IsUnsorted, agree, comes_before}
 use Rattle.fz_reasons.specs.Relating.{relates}
+use Rattle.fz_reasons.specs.declared.reason.ElementKind.{ElementKind}
+use Rattle.fz_reasons.specs.declared.reason.ElementKind.TheVariants as kinds
+use Rattle.fz_reasons.specs.declared.reason.Negative.{Negative}
+use Rattle.fz_reasons.specs.declared.reason.Operands.{Operands}
+use Rattle.fz_reasons.specs.declared.reason.Quantity.{Quantity}
+use Rattle.fz_reasons.specs.declared.reason.Quantity.TheVariants as of
 use Rattle.fz_reasons.specs.declared.reason.Relation.{Relation}
 use Rattle.fz_reasons.specs.declared.reason.Relation.TheVariants.{Equal, AtMost, Below, AtLeast}
 use Rattle.fz_reasons.specs.declared.reason.Sides.{Sides}
@@ -43,8 +51,11 @@ use Rattle.fz_reasons.specs.declared.reason.Reason.TheVariants as reasons
 
 -- the row compares these two numbers, and adds no sum up that leaves 128 bits
 pub record AreCompared (b : Builtin) (K : Partial) (xs : List Argument) (s : Sides) : Type 0 where
-  pub compared : compared b K xs ≡ Some (s.left, s.relation, s.right)
-  pub added : list_any (read_leave K xs) (row_at b).sums ≡ false
+  pub what : Operands
+  pub compared : comparison b ≡ Some (what, s.relation)
+  pub left : (operands what K xs).0 ≡ s.left
+  pub right : (operands what K xs).1 ≡ s.right
+  pub added : leave what K xs ≡ false
 
 -- and they don't compare as it asks
 pub record Unlike (b : Builtin) (K : Partial) (xs : List Argument) (s : Sides) : Type 0 where
@@ -65,14 +76,16 @@ pub record HasOtherTruth (b : Builtin) (K : Partial) (xs : List Argument) (o : O
     : Type 0 where
   pub result : HasResult (row_at b) false o.argument BoolKind
   pub value : bool_at K xs o.argument ≡ o.value
-  pub holds_with : (v : Bool) → row_with (row_at b) K xs o.argument (Truth v) ≡ is_result ◌=ᴮ◌ o.wanted v
+  pub holds_with : (v : Bool)
+      → row_with (row_at b) K xs o.argument (Truth v) ≡ is_result ◌=ᴮ◌ o.wanted v
   pub other : is_result ◌=ᴮ◌ o.wanted o.value ≡ false
 
 -- ---- literals
 
 abbrev pub HasNoLiteral : Builtin → Partial → List Argument → Type 0
 HasNoLiteral builtin.BoolClause K xs =
-    (list_any (λ x. x) (bools_at K xs 0) ≡ false) × (list_any (λ x. not x) (bools_at K xs 1) ≡ false)
+    (list_any (λ x. x) (bools_at K xs 0) ≡ false)
+    × (list_any (λ x. not x) (bools_at K xs 1) ≡ false)
 HasNoLiteral b K xs = ⊥
 
 abbrev pub HasEven : Builtin → Partial → List Argument → Type 0
@@ -81,11 +94,30 @@ HasEven b K xs = ⊥
 
 -- ---- elements of arrays
 
+-- the rows whose lists have Booleans
+abbrev pub element_kind : Builtin → ElementKind
+element_kind builtin.FznIncreasingBool = kinds.Bool
+element_kind builtin.FznDecreasingBool = kinds.Bool
+element_kind builtin.FznLexLessBool = kinds.Bool
+element_kind builtin.FznLexLesseqBool = kinds.Bool
+element_kind builtin.FznMemberBool = kinds.Bool
+element_kind builtin.FznTableBool = kinds.Bool
+element_kind b = kinds.Int
+
+-- the elements of a list as numbers
+abbrev pub numbers_of : ElementKind → Partial → List (Option Term) → List ℤ
+numbers_of kinds.Int K ss = ints_of K ss
+numbers_of kinds.Bool K ss = map as_number (bools_of K ss)
+
+abbrev pub numbers_at : ElementKind → Partial → List Argument → ℕ → List ℤ
+numbers_at kind K xs i = numbers_of kind K (slots_at xs i)
+
 abbrev pub Clashes : Builtin → Partial → List Argument → Clash → Type 0
 Clashes builtin.FznAllDifferentInt K xs c = IsClash (ints_at K xs 0) c
 Clashes builtin.FznAlldifferentExcept0 K xs c =
     IsClash (ints_at K xs 0) c × (is_nonzero c.value ≡ true)
 Clashes builtin.FzcheckSubcircuit K xs c = IsClash (ints_at K xs 1) c
+Clashes builtin.FznPartitionSet K xs c = IsShared (sets_at K xs 0) c
 Clashes b K xs c = ⊥
 
 -- how each element of the first argument has to compare with the next one
@@ -94,6 +126,8 @@ neighbours_of builtin.FznAllEqualInt = Some Equal
 neighbours_of builtin.FznIncreasingInt = Some AtMost
 neighbours_of builtin.FznDecreasingInt = Some AtLeast
 neighbours_of builtin.FznStrictlyIncreasingInt = Some Below
+neighbours_of builtin.FznIncreasingBool = Some AtMost
+neighbours_of builtin.FznDecreasingBool = Some AtLeast
 neighbours_of b = None
 
 -- a value of the cover that comes too often or too seldom, by how its number compares
@@ -116,22 +150,45 @@ Counts b relation K xs c = ⊥
 
 -- an element that isn't a value of the cover
 abbrev pub LiesOutside : Builtin → Partial → List Argument → Element → Type 0
-LiesOutside builtin.FznGlobalCardinalityClosed K xs e = IsOutside (ints_at K xs 0) (ints_at K xs 1) e
+LiesOutside builtin.FznGlobalCardinalityClosed K xs e =
+    IsOutside (ints_at K xs 0) (ints_at K xs 1) e
 LiesOutside builtin.FznGlobalCardinalityLowUpClosed K xs e =
     IsOutside (ints_at K xs 0) (ints_at K xs 1) e
 LiesOutside b K xs e = ⊥
 
+-- a number, or a Boolean as one, that isn't in the list or in the set
 abbrev pub NotListed : Builtin → Partial → List Argument → ℤ → Type 0
 NotListed builtin.FznMemberInt K xs v = (int_at K xs 1 ≡ v) × (is_among v (ints_at K xs 0) ≡ false)
+NotListed builtin.FznMemberBool K xs v = (as_number (bool_at K xs 1) ≡ v)
+    × (list_any (λ x. x =ᴮ bool_at K xs 1) (bools_at K xs 0) ≡ false)
+NotListed builtin.SetIn K xs v = (int_at K xs 0 ≡ v) × (sets.contains (set_at K xs 1) v ≡ false)
 NotListed b K xs v = ⊥
 
 -- ---- tasks, boxes and bins
 
--- a duration below 0
-abbrev pub IsNegative : Builtin → Partial → List Argument → Element → Type 0
-IsNegative builtin.FznDisjunctive K xs e = IsBelowZero (ints_at K xs 0) (ints_at K xs 1) e
-IsNegative builtin.FznDisjunctiveStrict K xs e = IsBelowZero (ints_at K xs 0) (ints_at K xs 1) e
-IsNegative b K xs e = ⊥
+abbrev pub tasks : Partial → List Argument → List (Span × ℤ)
+tasks K xs = zip (zip (ints_at K xs 0) (ints_at K xs 1)) (ints_at K xs 2)
+
+-- the numbers of a row that must not be below 0; a limit counts only where there are tasks
+abbrev pub naturals : Builtin → Quantity → Partial → List Argument → List ℤ
+naturals builtin.FznDisjunctive of.Duration K xs =
+    map (λ k. k.1) (zip (ints_at K xs 0) (ints_at K xs 1))
+naturals builtin.FznDisjunctiveStrict of.Duration K xs =
+    map (λ k. k.1) (zip (ints_at K xs 0) (ints_at K xs 1))
+naturals builtin.FznCumulative of.Duration K xs = map (λ k. k.0.1) (tasks K xs)
+naturals builtin.FznCumulative of.Use K xs = map (λ k. k.1) (tasks K xs)
+naturals builtin.FznCumulative of.Limit K xs =
+    if nat_eq (length (tasks K xs)) 0 then [] else int_at K xs 3 ∷ []
+naturals builtin.FznKnapsack of.Number K xs = ints_at K xs 2
+naturals builtin.FznKnapsack of.Weight K xs = int_at K xs 3 ∷ []
+naturals builtin.FznKnapsack of.Profit K xs = int_at K xs 4 ∷ []
+naturals builtin.FznSlidingSum of.Width K xs = int_at K xs 2 ∷ []
+naturals b q K xs = []
+
+pub record IsNegative (b : Builtin) (K : Partial) (xs : List Argument) (n : Negative) : Type 0 where
+  pub there : slice_get (naturals b n.quantity K xs) n.place ≡ Some n.value
+  pub below : is_natural n.value ≡ false
+  pub added : AddsUp b K xs
 
 abbrev pub Overlaps : Builtin → Partial → List Argument → Overlap → Type 0
 Overlaps builtin.FznDisjunctive K xs o =
@@ -161,29 +218,47 @@ Bins b K xs l = ⊥
 
 -- ---- orders
 
--- the first list comes before the second, or doesn't come after it
+-- the first list comes before the second, or doesn't come after it; or, in ascending order, is the
+-- second
 abbrev pub Differs : Builtin → Partial → List Argument → Difference → Type 0
 Differs builtin.FznLexLessInt K xs d =
     IsDifference (ints_at K xs 0) (ints_at K xs 1) d × (comes_before d.left d.right ≡ false)
     × (agree d.left d.right ≡ false)
 Differs builtin.FznLexLesseqInt K xs d =
     IsDifference (ints_at K xs 0) (ints_at K xs 1) d × (comes_before d.right d.left ≡ true)
+Differs builtin.FznLexLessBool K xs d =
+    IsDifference (numbers_at kinds.Bool K xs 0) (numbers_at kinds.Bool K xs 1) d
+    × (comes_before d.left d.right ≡ false) × (agree d.left d.right ≡ false)
+Differs builtin.FznLexLesseqBool K xs d =
+    IsDifference (numbers_at kinds.Bool K xs 0) (numbers_at kinds.Bool K xs 1) d
+    × (comes_before d.right d.left ≡ true)
+Differs builtin.FznSort K xs d = IsUnsorted (ints_at K xs 0) (ints_at K xs 1) d
 Differs b K xs d = ⊥
 
 -- a value comes too early
 abbrev pub ComesEarly : Builtin → Partial → List Argument → Early → Type 0
-ComesEarly builtin.FznValuePrecedeInt K xs e = IsEarly (int_at K xs 0) (int_at K xs 1) (ints_at K xs 2) e
-ComesEarly builtin.GecodePrecede K xs e = IsEarly (int_at K xs 1) (int_at K xs 2) (ints_at K xs 0) e
+ComesEarly builtin.FznValuePrecedeInt K xs e =
+    IsEarly (ints_at K xs 2) e × (e.before ≡ int_at K xs 0) × (e.value ≡ int_at K xs 1)
+ComesEarly builtin.GecodePrecede K xs e =
+    IsEarly (ints_at K xs 0) e × (e.before ≡ int_at K xs 1) × (e.value ≡ int_at K xs 2)
+ComesEarly builtin.FznValuePrecedeChainInt K xs e =
+    IsEarlyInChain (ints_at K xs 0) (ints_at K xs 1) e
+ComesEarly builtin.FznSeqPrecedeChainInt K xs e =
+    IsEarly (ints_at K xs 0) e × (e.before ≡ e.value -ℤ pos 1) × (int_lt (pos 1) e.value ≡ true)
 ComesEarly b K xs e = ⊥
 
 -- ---- successors and automata
 
--- a list that leads where the other doesn't lead back
+-- a list that leads where the other, which may be one of sets, doesn't lead back
 abbrev pub LeadsOneWay : Builtin → Bool → Partial → List Argument → OneWay → Type 0
 LeadsOneWay builtin.InverseOffsets true K xs w =
     IsOneWay (ints_at K xs 0) (int_at K xs 1) (ints_at K xs 2) (int_at K xs 3) w
 LeadsOneWay builtin.InverseOffsets false K xs w =
     IsOneWay (ints_at K xs 2) (int_at K xs 3) (ints_at K xs 0) (int_at K xs 1) w
+LeadsOneWay builtin.GecodeIntSetChannel true K xs w =
+    IsInNoSet (ints_at K xs 0) (int_at K xs 1) (sets_at K xs 2) (int_at K xs 3) w
+LeadsOneWay builtin.GecodeIntSetChannel false K xs w =
+    IsNoIndexOf (sets_at K xs 2) (int_at K xs 3) (ints_at K xs 0) (int_at K xs 1) w
 LeadsOneWay b first K xs w = ⊥
 
 abbrev pub Stops : Builtin → Partial → List Argument → NoStep → Type 0
@@ -191,11 +266,11 @@ Stops builtin.FznRegular K xs n =
     HasNoStep (ints_at K xs 0) (int_at K xs 1) (int_at K xs 2) (ints_at K xs 3) (int_at K xs 4) n
 Stops b K xs n = ⊥
 
--- the automaton ends in the state
+-- the automaton ends in what is no state, or not one of the last
 abbrev pub Ends : Builtin → Partial → List Argument → ℤ → Type 0
 Ends builtin.FznRegular K xs q =
     (run (int_at K xs 1) (int_at K xs 2) (ints_at K xs 3) (int_at K xs 4) (ints_at K xs 0) ≡ Some q)
-    × (sets.contains (set_at K xs 5) q ≡ false)
+    × ((lies_between (pos 1) (int_at K xs 1) q && sets.contains (set_at K xs 5) q) ≡ false)
 Ends b K xs q = ⊥
 
 -- no row of the table is the list; the one that is told differs from it at the index that is told
@@ -203,6 +278,9 @@ abbrev pub IsNearRow : Builtin → Partial → List Argument → NearRow → Typ
 IsNearRow builtin.FznTableInt K xs n =
     (is_row_of ◌=ℤ◌ (ints_at K xs 0) (ints_at K xs 1) ≡ false)
     × IsDifferentRow (ints_at K xs 0) (ints_at K xs 1) n
+IsNearRow builtin.FznTableBool K xs n =
+    (is_row_of ◌=ᴮ◌ (bools_at K xs 0) (bools_at K xs 1) ≡ false)
+    × IsDifferentRow (numbers_at kinds.Bool K xs 0) (numbers_at kinds.Bool K xs 1) n
 IsNearRow b K xs n = ⊥
 
 -- ---- sets
@@ -218,13 +296,40 @@ is_misplaced builtin.SetIntersect x y z = not (z =ᴮ (x && y))
 is_misplaced builtin.SetDiff x y z = not (z =ᴮ (x && not y))
 is_misplaced builtin.SetSymdiff x y z = not (z =ᴮ not (x =ᴮ y))
 is_misplaced builtin.FznDisjoint x y z = x && y
+is_misplaced builtin.ArraySetElement x y z = not (x =ᴮ y)
+is_misplaced builtin.FznPartitionSet x y z = not (x =ᴮ y)
+is_misplaced builtin.GecodeLinkSetToBooleans x y z = not (x =ᴮ y)
 is_misplaced b x y z = false
 
+-- in which of the sets that the row compares a number is: in the element at the index, and in the
+-- set; in one of the sets, and in the whole; in the set, and among the indices of what is true; or
+-- in its arguments
+abbrev pub in_sets : Builtin → Partial → List Argument → ℤ → Bool × Bool × Bool
+in_sets builtin.ArraySetElement K xs q = (
+  option_map_or (λ s. sets.contains s q) (element_at (sets_at K xs 1) (int_at K xs 0)) false,
+  sets.contains (set_at K xs 2) q,
+  false,
+)
+in_sets builtin.FznPartitionSet K xs q =
+    (list_any (λ s. sets.contains s q) (sets_at K xs 0), sets.contains (set_at K xs 1) q, false)
+in_sets builtin.GecodeLinkSetToBooleans K xs q = (
+  sets.contains (set_at K xs 0) q,
+  option_map_or (λ t. t) (element_at (bools_at K xs 1) ((q -ℤ int_at K xs 2) +ℤ pos 1)) false,
+  false,
+)
+in_sets b K xs q = (
+  sets.contains (set_at K xs 0) q,
+  sets.contains (set_at K xs 1) q,
+  sets.contains (set_at K xs 2) q,
+)
+
 pub record IsMisplaced (b : Builtin) (K : Partial) (xs : List Argument) (m : Member) : Type 0 where
-  pub first : sets.contains (set_at K xs 0) m.number ≡ m.first
-  pub second : sets.contains (set_at K xs 1) m.number ≡ m.second
-  pub third : sets.contains (set_at K xs 2) m.number ≡ m.third
+  pub places : in_sets b K xs m.number ≡ (m.first, m.second, m.third)
   pub misplaced : is_misplaced b m.first m.second m.third ≡ true
+
+abbrev pub AreSame : Builtin → Partial → List Argument → Type 0
+AreSame builtin.SetNe K xs = (set_at K xs 0 =ˢ set_at K xs 1) ≡ true
+AreSame b K xs = ⊥
 
 -- ---- all kinds
 
@@ -236,10 +341,11 @@ Says b K xs reasons.NoLiteral = HasNoLiteral b K xs
 Says b K xs reasons.Even = HasEven b K xs
 Says b K xs (reasons.Clash c) = Clashes b K xs c
 Says b K xs (reasons.Neighbours n) =
-    (neighbours_of b ≡ Some n.sides.relation) × AreUnlike n.sides.relation (ints_at K xs 0) n
+    (neighbours_of b ≡ Some n.sides.relation)
+    × AreUnlike n.sides.relation (numbers_at (element_kind b) K xs 0) n
 Says b K xs (reasons.Count c) = Counts b c.sides.relation K xs c
 Says b K xs (reasons.Outside e) = LiesOutside b K xs e
-Says b K xs (reasons.Negative e) = IsNegative b K xs e
+Says b K xs (reasons.Negative n) = IsNegative b K xs n
 Says b K xs (reasons.Overlap o) = Overlaps b K xs o
 Says b K xs (reasons.Boxes t) = BoxesOverlap b K xs t
 Says b K xs (reasons.Load l) = Loads b K xs l
@@ -253,6 +359,7 @@ Says b K xs (reasons.NearRow n) = IsNearRow b K xs n
 Says b K xs (reasons.Member m) = IsMisplaced b K xs m
 Says b K xs (reasons.Arranged a) = SaysArranged b K xs a
 Says b K xs (reasons.NotListed v) = NotListed b K xs v
+Says b K xs reasons.Same = AreSame b K xs
 
 -- the contract of `a_row_fails_by_its_reason`: where a reason is so, the row fails, whatever else
 -- the values are

@@ -1,13 +1,15 @@
 //! Why a row over tours, bins, knapsacks or runs fails.
 
-ghost use Rattle.std.specs.Prelude.{IfSome, IsTrue};
+ghost use Rattle.std.specs.Prelude.{◌∷◌, [], pos, length, IfSome, IsTrue};
 ghost use Rattle.fz_builtins.specs.of_meaning.declared.builtin.Builtin.TheVariants as builtin;
 ghost use Rattle.fz_builtins.specs.of_kernel.Views.{arguments_of, assigned};
+ghost use Rattle.fz_builtins.specs.Readings.{int, sets_of};
 ghost use Rattle.fz_reasons.specs.Arranged.{AddsUp, SaysArranged};
+ghost use Rattle.fz_reasons.specs.Places.{IsNoIndex};
 
-use crate::arrangement::Arrangement;
+use crate::arrangement::{Arrangement, NoIndex};
 use crate::loads::{other_load, other_run, other_total};
-use crate::places::no_index;
+use crate::places::{lies_between, no_index};
 use crate::readings::number_count;
 use crate::rings::{ring_of_moved, short_ring};
 use fz_builtins::fz_kernel::ArgumentView;
@@ -16,6 +18,7 @@ use fz_builtins::products_leave;
 
 /// Why a row over a tour, bins with given loads, a knapsack or runs of neighbours fails. None of
 /// another row.
+#[tactic(auto, unfolding(crate::specs::Arranged::SaysArranged))]
 pub(crate) fn by_arrangement(builtin: Builtin, view: &ArgumentView<'_, '_>) -> Option<Arrangement>
     ensures { IfSome result
         (SaysArranged builtin (assigned view.now) (arguments_of view.now)) }
@@ -25,7 +28,11 @@ pub(crate) fn by_arrangement(builtin: Builtin, view: &ArgumentView<'_, '_>) -> O
         Builtin::FzcheckSubcircuit => subcircuit(view),
         Builtin::GecodeBinPackingLoad => bin_packing_load(view),
         Builtin::FznKnapsack => knapsack(view),
-        Builtin::FznSlidingSum => sliding_sum(view),
+        Builtin::FznSlidingSum => {
+            let (low, high, count) = (view.int(0), view.int(1), view.int(2));
+            Some(Arrangement::Run(other_run(low, high, count, &view.elements(3))?))
+        }
+        Builtin::ArraySetElement => Some(Arrangement::NoIndex(no_set_index(view)?)),
         _ => None,
     }
 }
@@ -66,13 +73,22 @@ fn bin_packing_load(view: &ArgumentView<'_, '_>) -> Option<Arrangement>
     }
 }
 
-#[tactic(auto, unfolding(crate::specs::Arranged::SaysArranged))]
-fn sliding_sum(view: &ArgumentView<'_, '_>) -> Option<Arrangement>
+// The index of a set, where it is none.
+fn no_set_index(view: &ArgumentView<'_, '_>) -> Option<NoIndex>
     ensures { IfSome result
-        (SaysArranged builtin.FznSlidingSum (assigned view.now) (arguments_of view.now)) }
+        (IsNoIndex (int view.now 0 ∷ []) (pos 1) (length (sets_of view.now 1))) }
 {
-    let run = other_run(view.int(0), view.int(1), view.int(2), &view.elements(3))?;
-    Some(Arrangement::Run(run))
+    let (value, low) = (view.int(0), 1);
+    let high = view.elements(1).len() as i128;
+    if lies_between(low, high, i128::from(value)) {
+        return None;
+    }
+    Some(NoIndex {
+        place: 0,
+        value,
+        low,
+        high,
+    })
 }
 
 #[tactic(auto, unfolding(crate::specs::Arranged::SaysArranged))]
@@ -90,8 +106,8 @@ fn knapsack(view: &ArgumentView<'_, '_>) -> Option<Arrangement>
     }
 }
 
-// Whether no sum of a knapsack leaves 128 bits.
-fn adds_up(view: &ArgumentView<'_, '_>) -> bool
+/// Whether no sum of a knapsack leaves 128 bits.
+pub(crate) fn adds_up(view: &ArgumentView<'_, '_>) -> bool
     ensures { IsTrue result
         → AddsUp builtin.FznKnapsack (assigned view.now) (arguments_of view.now) }
 {

@@ -1,8 +1,8 @@
 //! Why a row over tours, bins, knapsacks or runs fails, in words. Elements count from 1.
 
 use crate::arrangement::{Arrangement, BinLoad, NoIndex, Ring, Run, Total};
+use crate::element_words::from_one;
 use crate::rings::follow;
-use crate::words::from_one;
 use fz_builtins::fz_kernel::{ArgumentView, Elements};
 use fz_builtins::fz_meaning::Builtin;
 use std::alloc::{AllocError, Global};
@@ -26,8 +26,15 @@ pub(crate) fn arrangement_text(
                 high,
             },
         ) => {
-            let place = from_one(place);
-            format!(in alloc; "element {place} is {value}, not from {low} to {high}")
+            match builtin {
+                Builtin::ArraySetElement => {
+                    format!(in alloc; "the index is {value}, not from {low} to {high}")
+                }
+                _ => {
+                    let place = from_one(place);
+                    format!(in alloc; "element {place} is {value}, not from {low} to {high}")
+                }
+            }
         }
         Arrangement::Ring(ring) => ring_text(alloc, builtin, view.int(0), &view.elements(1), ring),
         Arrangement::BinLoad(
@@ -44,7 +51,11 @@ pub(crate) fn arrangement_text(
         Arrangement::Profit(Total { total, wanted }) => {
             format!(in alloc; "the profit is {total}, not {wanted}")
         }
-        Arrangement::Run(run) => run_text(alloc, view, run),
+        Arrangement::Run(Run { place, count, sum }) => {
+            let (low, high) = (view.int(0), view.int(1));
+            let (one, last) = (from_one(place), place.saturating_add(count));
+            format!(in alloc; "elements {one} to {last} add up to {sum}, not from {low} to {high}")
+        }
     }
 }
 
@@ -80,10 +91,4 @@ fn ring_text(
 /// The index of a position, which counts from 1.
 fn index_of(first: i64, position: i128) -> i128 {
     position.saturating_add(i128::from(first)).saturating_sub(1)
-}
-
-fn run_text(alloc: Global, view: &ArgumentView<'_, '_>, run: Run) -> Result<String, AllocError> {
-    let (low, high, sum) = (view.int(0), view.int(1), run.sum);
-    let (one, last) = (from_one(run.place), run.place.saturating_add(run.count));
-    format!(in alloc; "elements {one} to {last} add up to {sum}, not from {low} to {high}")
 }

@@ -1,36 +1,59 @@
 //! Words that an automaton doesn't accept, and lists that are no row of a table.
 
-ghost use Rattle.std.specs.Prelude.{◌≡◌, ◌⊎◌, ◌+ℤ◌, ◌*ℤ◌, pos, IfErr, IfOk, IfSome, Some};
+ghost use Rattle.std.specs.Prelude.{◌≡◌, ◌⊎◌, ◌&&◌, pos, IfErr, IfOk, IfSome, Some};
+ghost use Rattle.std.specs.FinSet.{contains};
 ghost use Rattle.fz_builtins.specs.of_meaning.declared.builtin.Builtin.TheVariants.{FznRegular};
-ghost use Rattle.fz_builtins.specs.of_meaning.Relations.{lies_between, run, step};
+ghost use Rattle.fz_builtins.specs.of_meaning.Relations.{lies_between, run};
 ghost use Rattle.fz_builtins.specs.of_kernel.Views.{arguments_of, assigned, ints};
+ghost use Rattle.fz_builtins.specs.Readings.{int, numbers};
 ghost use Rattle.fz_reasons.specs.Elements.{HasNoStep, IsDifferentRow};
-ghost use Rattle.fz_reasons.specs.Reasons.{Says};
+ghost use Rattle.fz_reasons.specs.Reasons.{Says, numbers_at};
 
-use crate::reason::{NearRow, NoStep, Reason};
-use fz_builtins::fz_globals::tables::is_int_row;
-use fz_builtins::fz_kernel::arrays::int_element_at;
-use fz_builtins::fz_kernel::numbers::product;
+use crate::places::lies_between;
+use crate::readings::numbers_in;
+use crate::reason::{ElementKind, NearRow, NoStep, Reason};
+use fz_builtins::fz_globals::tables::{is_bool_row, is_int_row};
 use fz_builtins::fz_kernel::{ArgumentView, Elements};
 use fz_builtins::fz_meaning::Builtin;
+use fz_scheduling::words::next_state;
+use std::alloc::{AllocError, Global};
 
 /// The symbol that has no step or the state in which the automaton ends; or the row of the table
 /// that is nearest.
 #[tactic(auto, unfolding(crate::specs::Reasons::Says))]
-pub(crate) fn by_table(builtin: Builtin, view: &ArgumentView<'_, '_>) -> Option<Reason>
-    ensures { IfSome result (Says builtin (assigned view.now) (arguments_of view.now)) }
+pub(crate) fn by_table(
+    alloc: Global,
+    builtin: Builtin,
+    view: &ArgumentView<'_, '_>,
+) -> Result<Option<Reason>, AllocError>
+    ensures { IfOk result (λ o. IfSome o
+        (Says builtin (assigned view.now) (arguments_of view.now))) }
 {
     match builtin {
-        Builtin::FznRegular => by_automaton(view),
-        Builtin::FznTableInt => {
-            let (list, table) = (view.elements(0), view.elements(1));
-            if is_int_row(&list, &table) {
-                return None;
-            }
-            Some(Reason::NearRow(nearest(&list, &table)?))
+        Builtin::FznRegular => Ok(by_automaton(view)),
+        Builtin::FznTableInt if !is_int_row(&view.elements(0), &view.elements(1)) => {
+            Ok(near_row(alloc, ElementKind::Int, view)?.map(Reason::NearRow))
         }
-        _ => None,
+        Builtin::FznTableBool if !is_bool_row(&view.elements(0), &view.elements(1)) => {
+            Ok(near_row(alloc, ElementKind::Bool, view)?.map(Reason::NearRow))
+        }
+        _ => Ok(None),
     }
+}
+
+/// The row of the table that agrees longest with the list.
+fn near_row(
+    alloc: Global,
+    kind: ElementKind,
+    view: &ArgumentView<'_, '_>,
+) -> Result<Option<NearRow>, AllocError>
+    ensures { IfOk result (λ o. IfSome o (IsDifferentRow
+        (numbers_at kind (assigned view.now) (arguments_of view.now) 0)
+        (numbers_at kind (assigned view.now) (arguments_of view.now) 1))) }
+{
+    let list = numbers_in(alloc, kind, &view.elements(0))?;
+    let table = numbers_in(alloc, kind, &view.elements(1))?;
+    Ok(nearest(&list, &table))
 }
 
 /// The first symbol that has no step, or the state at the end where that isn't one of the last.
@@ -40,10 +63,19 @@ fn by_automaton(view: &ArgumentView<'_, '_>) -> Option<Reason>
 {
     let (list, transitions) = (view.elements(0), view.elements(3));
     match run(view.int(1), view.int(2), &transitions, view.int(4), &list) {
-        Ok(state) if !view.set(5).contains(state) => Some(Reason::EndsIn(state)),
+        Ok(state) if !is_last(view, state) => Some(Reason::EndsIn(state)),
         Ok(_) => None,
         Err(found) => Some(Reason::NoStep(found)),
     }
+}
+
+/// Whether it is one of the states, and of the last ones.
+fn is_last(view: &ArgumentView<'_, '_>, state: i64) -> bool
+    ensures { result ≡ (lies_between (pos 1) (int view.now 1) state
+        && contains (numbers view.now 5) state) }
+{
+    let last = view.set(5);
+    lies_between(1, i128::from(view.int(1)), i128::from(state)) && last.contains(state)
 }
 
 /// The state to which a word leads from a state, or the symbol at which it has no step.
@@ -62,7 +94,7 @@ fn run(
     let mut state = first;
     for place in 0..list.len() {
         let symbol = list.int(place);
-        match step(states, symbols, transitions, state, symbol) {
+        match next_state(states, symbols, transitions, state, symbol) {
             Some(next) => state = next,
             None => {
                 return Err(NoStep {
@@ -76,31 +108,9 @@ fn run(
     Ok(state)
 }
 
-/// The state to which a symbol leads from a state; none where there is no step.
-fn step(states: i64, symbols: i64, transitions: &Elements, state: i64, symbol: i64) -> Option<i64>
-    ensures exact { result ≡ step states symbols (ints transitions.now) state symbol }
-{
-    if !lies_from_one(states, state) || !lies_from_one(symbols, symbol) {
-        return None;
-    }
-    int_element_at(product_and_more(state - 1, symbols, symbol), transitions)
-}
-
-fn lies_from_one(most: i64, number: i64) -> bool
-    ensures { result ≡ lies_between (pos 1) most number }
-{
-    1 <= number && number <= most
-}
-
-fn product_and_more(a: i64, b: i64, more: i64) -> i128
-    ensures exact { result ≡ ((a *ℤ b) +ℤ more) }
-{
-    product(a, b) + i128::from(more)
-}
-
 /// The row of a table that agrees longest with a list, and where it differs.
-fn nearest(list: &Elements, table: &Elements) -> Option<NearRow>
-    ensures { IfSome result (IsDifferentRow (ints list.now) (ints table.now)) }
+fn nearest(list: &[i64], table: &[i64]) -> Option<NearRow>
+    ensures { IfSome result (IsDifferentRow list.now table.now) }
 {
     let mut best = first_difference(list, table, 0)?;
     for row in 1..table.len() {
@@ -124,8 +134,8 @@ fn nearer(best: NearRow, found: NearRow) -> NearRow
 }
 
 /// The first index at which a row of the table differs from a list.
-fn first_difference(list: &Elements, table: &Elements, row: usize) -> Option<NearRow>
-    ensures { IfSome result (IsDifferentRow (ints list.now) (ints table.now)) }
+fn first_difference(list: &[i64], table: &[i64], row: usize) -> Option<NearRow>
+    ensures { IfSome result (IsDifferentRow list.now table.now) }
 {
     let start = row.checked_mul(list.len())?;
     for place in 0..list.len() {
@@ -133,7 +143,7 @@ fn first_difference(list: &Elements, table: &Elements, row: usize) -> Option<Nea
         if at >= table.len() {
             return None;
         }
-        let (value, wanted) = (list.int(place), table.int(at));
+        let (value, wanted) = (list[place], table[at]);
         if value != wanted {
             return Some(NearRow {
                 row,

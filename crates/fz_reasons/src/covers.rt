@@ -1,16 +1,16 @@
 //! The rows that count the values of a cover, and the one that looks for a number in a list.
 
-ghost use Rattle.std.specs.Prelude.{◌≡◌, IfSome, true, false};
-ghost use Rattle.fz_builtins.specs.of_meaning.Relations.{is_among};
+ghost use Rattle.std.specs.Prelude.{◌≡◌, IfSome};
 ghost use Rattle.fz_builtins.specs.of_kernel.Views.{arguments_of, assigned, ints};
 ghost use Rattle.fz_builtins.specs.of_meaning.declared.builtin.Builtin.TheVariants.{FznGlobalCardinalityLowUp};
-ghost use Rattle.fz_builtins.specs.Readings.{int, ints as ints_in};
+ghost use Rattle.fz_builtins.specs.Readings.{ints as ints_in};
 ghost use Rattle.fz_reasons.specs.Elements.{IsCount, IsOutside};
 ghost use Rattle.fz_reasons.specs.Reasons.{Counts, Says};
 ghost use Rattle.fz_reasons.specs.declared.reason.Relation.TheVariants.{Equal};
 
 use crate::reason::{Count, Element, Reason, Relation, Sides};
-use fz_builtins::fz_globals::counts::{count_of, is_listed};
+use fz_builtins::fz_globals::counts::{count_of, is_listed, is_truth_listed};
+use fz_builtins::fz_kernel::numbers::number_of_truth;
 use fz_builtins::fz_kernel::{ArgumentView, Elements};
 use fz_builtins::fz_meaning::Builtin;
 
@@ -21,29 +21,36 @@ pub(crate) fn by_cover(builtin: Builtin, view: &ArgumentView<'_, '_>) -> Option<
     ensures { IfSome result (Says builtin (assigned view.now) (arguments_of view.now)) }
 {
     match builtin {
-        Builtin::FznGlobalCardinality => Some(Reason::Count(exactly(view)?)),
-        Builtin::FznGlobalCardinalityClosed => match exactly(view) {
+        Builtin::FznGlobalCardinality => Some(Reason::Count(exactly(view, 0, 2)?)),
+        Builtin::FznGlobalCardinalityClosed => match exactly(view, 0, 2) {
             Some(count) => Some(Reason::Count(count)),
-            None => Some(Reason::Outside(outside(view)?)),
+            None => Some(Reason::Outside(outside(&view.elements(0), &view.elements(1))?)),
         },
         Builtin::FznGlobalCardinalityLowUp => Some(Reason::Count(between(view)?)),
         Builtin::FznGlobalCardinalityLowUpClosed => match between(view) {
             Some(count) => Some(Reason::Count(count)),
-            None => Some(Reason::Outside(outside(view)?)),
+            None => Some(Reason::Outside(outside(&view.elements(0), &view.elements(1))?)),
         },
-        Builtin::FznDistribute => Some(Reason::Count(distributed(view)?)),
-        Builtin::FznMemberInt if is_missing(view) => Some(Reason::NotListed(view.int(1))),
+        Builtin::FznDistribute => Some(Reason::Count(exactly(view, 2, 0)?)),
+        Builtin::FznMemberInt if !is_listed(view.int(1), &view.elements(0)) => {
+            Some(Reason::NotListed(view.int(1)))
+        }
+        Builtin::FznMemberBool if !is_truth_listed(view.truth(1), &view.elements(0)) => {
+            Some(Reason::NotListed(number_of_truth(view.truth(1))))
+        }
         _ => None,
     }
 }
 
-fn exactly(view: &ArgumentView<'_, '_>) -> Option<Count>
+/// A value that doesn't come as often among the elements as is asked, by the indices of the
+/// arguments that have the elements and the numbers.
+fn exactly(view: &ArgumentView<'_, '_>, elements: usize, numbers: usize) -> Option<Count>
     ensures counted { IfSome result
-        (IsCount (ints_in view.now 0) (ints_in view.now 1) (ints_in view.now 2)) }
+        (IsCount (ints_in view.now elements) (ints_in view.now 1) (ints_in view.now numbers)) }
     ensures asked { IfSome result (λ c. c.sides.relation ≡ Equal) }
 {
-    let (elements, cover, numbers) = (view.elements(0), view.elements(1), view.elements(2));
-    miscounted(&elements, &cover, Relation::Equal, &numbers)
+    let (elements, numbers) = (view.elements(elements), view.elements(numbers));
+    miscounted(&elements, &view.elements(1), Relation::Equal, &numbers)
 }
 
 /// The same, where there are a least and a most number.
@@ -56,15 +63,6 @@ fn between(view: &ArgumentView<'_, '_>) -> Option<Count>
         Some(count) => Some(count),
         None => miscounted(&elements, &cover, Relation::AtMost, &view.elements(3)),
     }
-}
-
-fn distributed(view: &ArgumentView<'_, '_>) -> Option<Count>
-    ensures counted { IfSome result
-        (IsCount (ints_in view.now 2) (ints_in view.now 1) (ints_in view.now 0)) }
-    ensures asked { IfSome result (λ c. c.sides.relation ≡ Equal) }
-{
-    let (numbers, cover, elements) = (view.elements(0), view.elements(1), view.elements(2));
-    miscounted(&elements, &cover, Relation::Equal, &numbers)
 }
 
 /// The first value of the cover of which the number of elements doesn't compare so with the number
@@ -97,14 +95,8 @@ fn miscounted(
     None
 }
 
-fn outside(view: &ArgumentView<'_, '_>) -> Option<Element>
-    ensures { IfSome result (IsOutside (ints_in view.now 0) (ints_in view.now 1)) }
-{
-    element_outside(&view.elements(0), &view.elements(1))
-}
-
 /// The first element that isn't in the cover.
-fn element_outside(elements: &Elements, cover: &Elements) -> Option<Element>
+fn outside(elements: &Elements, cover: &Elements) -> Option<Element>
     ensures { IfSome result (IsOutside (ints elements.now) (ints cover.now)) }
 {
     for place in 0..elements.len() {
@@ -114,10 +106,4 @@ fn element_outside(elements: &Elements, cover: &Elements) -> Option<Element>
         }
     }
     None
-}
-
-fn is_missing(view: &ArgumentView<'_, '_>) -> bool
-    ensures { result ≡ true → is_among (int view.now 1) (ints_in view.now 0) ≡ false }
-{
-    !is_listed(view.int(1), &view.elements(0))
 }

@@ -1,8 +1,7 @@
 //! Why a constraint fails, in values: what can be checked by hand, such as two elements that are
 //! equal where all have to differ. A `Reason` is data; `Says` of `specs/` tells what each kind of
-//! reason says of the values of the arguments, and that a row fails by each of its reasons is a law.
-//! Only some rows have reasons of their own. `reason_at` puts the reason of a point into words, of
-//! which no contract speaks.
+//! reason says of the values of the arguments, and that a row fails by each of its reasons is a
+//! law. `reason_at` puts the reason of a point into words, of which no contract speaks.
 #![tactic(auto)]
 
 mod arranged;
@@ -10,9 +9,11 @@ mod arrangement;
 mod arrangement_words;
 mod automata;
 mod covers;
+mod element_words;
 mod literals;
 mod loads;
 mod members;
+mod negatives;
 mod orders;
 mod pairs;
 mod places;
@@ -28,10 +29,10 @@ mod words;
 
 pub use arrangement::{Arrangement, BinLoad, NoIndex, Ring, Run, Total};
 pub use reason::{
-    Boxes, Clash, Count, Difference, Early, Element, Load, Member, NearRow, Neighbours, NoStep,
-    OneWay, OtherNumber, OtherTruth, Overlap, Reason, Relation, Sides, Stretch, Why,
+    Boxes, Clash, Count, Difference, Early, Element, ElementKind, Load, Member, NearRow, Negative,
+    Neighbours, NoStep, OneWay, Operands, OtherNumber, OtherTruth, Overlap, Quantity, Reason,
+    Relation, Sides, Stretch, Why,
 };
 pub use rows::{a_form_fails_by_its_reason, a_row_fails_by_its_reason, holds, reason_of, why};
 pub use sides::sides_of;
-pub use tasks::runs_at;
 pub use words::{giving_at, reason_at};

@@ -1,8 +1,7 @@
 //! The loads of bins, the totals of knapsacks, and the sums of runs of neighbours.
 
 ghost use Rattle.std.specs.Prelude.{◌≡◌, ◌+◌, ◌<◌, ◌≤◌, pos, IfSome, drop, length, take};
-ghost use Rattle.std.specs.List.{zip};
-ghost use Rattle.fz_builtins.specs.of_meaning.Relations.{◌=ℤ◌, load_of, total};
+ghost use Rattle.fz_builtins.specs.of_meaning.Relations.{total};
 ghost use Rattle.fz_builtins.specs.of_kernel.Views.{ints};
 ghost use Rattle.fz_scheduling.specs.Places.{number_at};
 ghost use Rattle.fz_reasons.specs.Loads.{HasOtherLoad, IsOtherRun, IsOtherTotal};
@@ -12,6 +11,7 @@ use crate::places::lies_between;
 use crate::readings::number_count;
 use fz_builtins::fz_kernel::Elements;
 use fz_builtins::fz_kernel::arrays::sum_of_products;
+use fz_scheduling::bins::load_of;
 
 /// The first bin, from `first` on, that has another load than the one that is given for it.
 pub(crate) fn other_load(
@@ -37,32 +37,6 @@ pub(crate) fn other_load(
         }
     }
     None
-}
-
-// The sum of the weights of what lies in a bin. No array is long enough for it to leave 128 bits.
-fn load_of(bin: i128, bins: &Elements, weights: &Elements) -> i128
-    ensures { result ≡ load_of (ints bins.now) (ints weights.now) bin }
-{
-    let mut load: i128 = 0;
-    for place in 0..common_places(bins, weights) {
-        if lies_in(bin, bins, place) {
-            load += i128::from(number_or_zero(weights, place));
-        }
-    }
-    load
-}
-
-// The length of the shorter list.
-fn common_places(bins: &Elements, weights: &Elements) -> usize
-    ensures { result ≡ length (zip (ints bins.now) (ints weights.now)) }
-{
-    number_count(bins).min(number_count(weights))
-}
-
-fn lies_in(bin: i128, bins: &Elements, place: usize) -> bool
-    ensures { result ≡ (number_at (ints bins.now) place =ℤ bin) }
-{
-    i128::from(number_or_zero(bins, place)) == bin
 }
 
 // The number at an index; 0 past the end.

@@ -1,18 +1,59 @@
 //! A number that is in one set and not in another.
 
-ghost use Rattle.std.specs.Prelude.{◌≡◌, IfOk, IfSome, true};
-ghost use Rattle.fz_builtins.specs.of_kernel.Views.{arguments_of, assigned};
-ghost use Rattle.fz_reasons.specs.Reasons.{IsMisplaced, is_misplaced};
+ghost use Rattle.std.specs.Prelude.{◌≡◌, ◌+ℤ◌, ◌-ℤ◌, pos, IfOk, IfSome, false};
+ghost use Rattle.std.specs.FinSet as number_sets;
+ghost use Rattle.std.specs.List.{list_any};
+ghost use Rattle.std.specs.Option.{option_map_or};
+ghost use Rattle.fz_builtins.specs.of_meaning.Relations.{element_at};
+ghost use Rattle.fz_builtins.specs.of_kernel.Views.{arguments_of, assigned, sets};
+ghost use Rattle.fz_builtins.specs.Readings.{int, sets_of, truths};
+ghost use Rattle.fz_reasons.specs.Reasons.{IsMisplaced, Says, in_sets, is_misplaced};
 
-use crate::reason::Member;
+use crate::reason::{Member, Reason};
 use fz_base::IntSet;
-use fz_builtins::fz_kernel::ArgumentView;
+use fz_builtins::fz_globals::place_from;
+use fz_builtins::fz_kernel::arrays::set_element;
+use fz_builtins::fz_kernel::sets::same_set;
+use fz_builtins::fz_kernel::{ArgumentView, Elements};
 use fz_builtins::fz_meaning::Builtin;
 use std::alloc::{AllocError, Global};
 
-/// A number by which a row over sets fails: where one does, so does the first of a range or the one
-/// behind a range.
-pub(crate) fn by_member(
+/// A number that is in one set and not in another, or that isn't in the set; or that two sets are
+/// the same.
+#[tactic(auto, unfolding(crate::specs::Reasons::Says))]
+pub(crate) fn by_sets(
+    alloc: Global,
+    builtin: Builtin,
+    view: &ArgumentView<'_, '_>,
+) -> Result<Option<Reason>, AllocError>
+    ensures { IfOk result (λ o. IfSome o
+        (Says builtin (assigned view.now) (arguments_of view.now))) }
+{
+    match builtin {
+        Builtin::SetIn if !view.set(1).contains(view.int(0)) => {
+            Ok(Some(Reason::NotListed(view.int(0))))
+        }
+        Builtin::SetNe if same_set(view.set(0), view.set(1)) => Ok(Some(Reason::Same)),
+        Builtin::SetEq
+        | Builtin::SetSubset
+        | Builtin::SetSuperset
+        | Builtin::SetUnion
+        | Builtin::SetIntersect
+        | Builtin::SetDiff
+        | Builtin::SetSymdiff
+        | Builtin::FznDisjoint
+        | Builtin::ArraySetElement
+        | Builtin::FznPartitionSet
+        | Builtin::GecodeLinkSetToBooleans => {
+            Ok(by_member(alloc, builtin, view)?.map(Reason::Member))
+        }
+        _ => Ok(None),
+    }
+}
+
+/// A number by which a row over sets fails: where one does, so does an end of a range of a set or
+/// the one behind it, or the index of a Boolean.
+fn by_member(
     alloc: Global,
     builtin: Builtin,
     view: &ArgumentView<'_, '_>,
@@ -21,11 +62,36 @@ pub(crate) fn by_member(
         (IsMisplaced builtin (assigned view.now) (arguments_of view.now))) }
 {
     for argument in 0..3 {
-        for range in &view.set(argument).ranges(alloc)? {
-            if let Some(member) = misplaced(builtin, view, range.lo) {
+        if let Some(member) = at_ends(alloc, builtin, view, view.set(argument))? {
+            return Ok(Some(member));
+        }
+        let elements = view.elements(argument);
+        for place in 0..elements.len() {
+            if let Some(member) = at_ends(alloc, builtin, view, elements.set(place))? {
                 return Ok(Some(member));
             }
-            if let Some(member) = misplaced(builtin, view, range.hi.saturating_add(1)) {
+            let index = view.int(2).saturating_add(place as i64);
+            if let Some(member) = misplaced(builtin, view, index) {
+                return Ok(Some(member));
+            }
+        }
+    }
+    Ok(None)
+}
+
+/// An end of a range of a set, or the number behind it, where the row fails by it.
+fn at_ends(
+    alloc: Global,
+    builtin: Builtin,
+    view: &ArgumentView<'_, '_>,
+    set: &IntSet,
+) -> Result<Option<Member>, AllocError>
+    ensures { IfOk result (λ o. IfSome o
+        (IsMisplaced builtin (assigned view.now) (arguments_of view.now))) }
+{
+    for range in &set.ranges(alloc)? {
+        for number in [range.lo, range.hi, range.hi.saturating_add(1)] {
+            if let Some(member) = misplaced(builtin, view, number) {
                 return Ok(Some(member));
             }
         }
@@ -37,16 +103,79 @@ pub(crate) fn by_member(
 fn misplaced(builtin: Builtin, view: &ArgumentView<'_, '_>, number: i64) -> Option<Member>
     ensures { IfSome result (IsMisplaced builtin (assigned view.now) (arguments_of view.now)) }
 {
-    let member = Member {
-        number,
-        first: view.set(0).contains(number),
-        second: view.set(1).contains(number),
-        third: view.set(2).contains(number),
-    };
-    if is_misplaced(builtin, member.first, member.second, member.third) {
-        Some(member)
+    let (first, second, third) = in_sets(builtin, view, number);
+    if is_misplaced(builtin, first, second, third) {
+        Some(Member {
+            number,
+            first,
+            second,
+            third,
+        })
     } else {
         None
+    }
+}
+
+/// In which of the sets that a row compares a number is.
+fn in_sets(builtin: Builtin, view: &ArgumentView<'_, '_>, number: i64) -> (bool, bool, bool)
+    ensures { in_sets builtin (assigned view.now) (arguments_of view.now) number ≡ result }
+{
+    match builtin {
+        Builtin::ArraySetElement => {
+            let first = is_in_element(view, number);
+            (first, view.set(2).contains(number), false)
+        }
+        Builtin::FznPartitionSet => {
+            let first = is_in_one(&view.elements(0), number);
+            (first, view.set(1).contains(number), false)
+        }
+        Builtin::GecodeLinkSetToBooleans => {
+            (
+                view.set(0).contains(number),
+                is_true_at(view, number),
+                false,
+            )
+        }
+        _ => (
+            view.set(0).contains(number),
+            view.set(1).contains(number),
+            view.set(2).contains(number),
+        ),
+    }
+}
+
+/// Whether a number is in the element at the index.
+fn is_in_element(view: &ArgumentView<'_, '_>, number: i64) -> bool
+    ensures { result ≡ option_map_or (λ s. number_sets.contains s number)
+        (element_at (sets_of view.now 1) (int view.now 0)) false }
+{
+    match set_element(view.int(0), &view.elements(1)) {
+        Some(set) => set.contains(number),
+        None => false,
+    }
+}
+
+/// Whether a number is in one of the sets.
+fn is_in_one(parts: &Elements, number: i64) -> bool
+    ensures { result ≡ list_any (λ s. number_sets.contains s number) (sets parts.now) }
+{
+    for place in 0..parts.len() {
+        if parts.set(place).contains(number) {
+            return true;
+        }
+    }
+    false
+}
+
+/// Whether the Boolean whose index is the number is true.
+fn is_true_at(view: &ArgumentView<'_, '_>, number: i64) -> bool
+    ensures { result ≡ option_map_or (λ t. t)
+        (element_at (truths view.now 1) ((number -ℤ int view.now 2) +ℤ pos 1)) false }
+{
+    let flags = view.elements(1);
+    match place_from(number, view.int(2), flags.len()) {
+        Some(place) => flags.truth(place),
+        None => false,
     }
 }
 
@@ -55,7 +184,10 @@ fn is_misplaced(builtin: Builtin, first: bool, second: bool, third: bool) -> boo
     ensures { result ≡ is_misplaced builtin first second third }
 {
     match builtin {
-        Builtin::SetEq => first != second,
+        Builtin::SetEq
+        | Builtin::ArraySetElement
+        | Builtin::FznPartitionSet
+        | Builtin::GecodeLinkSetToBooleans => first != second,
         Builtin::SetSubset => first && !second,
         Builtin::SetSuperset => second && !first,
         Builtin::SetUnion => third != (first || second),

@@ -1,78 +1,119 @@
 //! Lists that come in another order than a row asks.
 
-ghost use Rattle.std.specs.Prelude.{◌≡◌, IfSome, slice_get};
+ghost use Rattle.std.specs.Prelude.{◌≡◌, ◌-ℤ◌, pos, true, int_lt, IfOk, IfSome, slice_get};
 ghost use Rattle.fz_builtins.specs.of_kernel.Views.{arguments_of, assigned, ints};
-ghost use Rattle.fz_reasons.specs.Elements.{IsDifference, IsEarly, agree, comes_before};
-ghost use Rattle.fz_reasons.specs.Reasons.{Says};
+ghost use Rattle.fz_reasons.specs.Elements.{IsDifference, IsEarly, IsEarlyInChain, IsUnsorted, agree, comes_before, differ};
+ghost use Rattle.fz_reasons.specs.Reasons.{ComesEarly, Says, numbers_at};
 
-use crate::reason::{Difference, Early, Reason};
+use crate::readings::{element_kind, numbers_in};
+use crate::reason::{Difference, Early, ElementKind, Reason};
+use fz_builtins::fz_globals::numbers_in_order;
+use fz_builtins::fz_kernel::arrays::numbers_of;
 use fz_builtins::fz_kernel::{ArgumentView, Elements};
 use fz_builtins::fz_meaning::Builtin;
+use std::alloc::{AllocError, Global};
 
 /// Where two lists first differ, or where a value comes too early.
 #[tactic(auto, unfolding(crate::specs::Reasons::Says))]
-pub(crate) fn by_order(builtin: Builtin, view: &ArgumentView<'_, '_>) -> Option<Reason>
-    ensures { IfSome result (Says builtin (assigned view.now) (arguments_of view.now)) }
+pub(crate) fn by_order(
+    alloc: Global,
+    builtin: Builtin,
+    view: &ArgumentView<'_, '_>,
+) -> Result<Option<Reason>, AllocError>
+    ensures { IfOk result (λ o. IfSome o
+        (Says builtin (assigned view.now) (arguments_of view.now))) }
 {
     match builtin {
-        Builtin::FznLexLessInt => {
-            let found = difference(&view.elements(0), &view.elements(1));
+        Builtin::FznLexLessInt | Builtin::FznLexLessBool => {
+            let found = difference_of(alloc, element_kind(builtin), view)?;
             if comes_before(found.left, found.right) || agree(found.left, found.right) {
-                return None;
+                return Ok(None);
             }
-            Some(Reason::Difference(found))
+            Ok(Some(Reason::Difference(found)))
         }
-        Builtin::FznLexLesseqInt => {
-            let found = difference(&view.elements(0), &view.elements(1));
+        Builtin::FznLexLesseqInt | Builtin::FznLexLesseqBool => {
+            let found = difference_of(alloc, element_kind(builtin), view)?;
             if !comes_before(found.right, found.left) {
-                return None;
+                return Ok(None);
             }
-            Some(Reason::Difference(found))
+            Ok(Some(Reason::Difference(found)))
         }
-        Builtin::FznValuePrecedeInt => {
-            Some(Reason::Early(early(view.int(0), view.int(1), &view.elements(2))?))
+        Builtin::FznSort => {
+            Ok(unsorted(alloc, &view.elements(0), &view.elements(1))?.map(Reason::Difference))
         }
-        Builtin::GecodePrecede => {
-            Some(Reason::Early(early(view.int(1), view.int(2), &view.elements(0))?))
-        }
+        _ => Ok(by_early(builtin, view).map(Reason::Early)),
+    }
+}
+
+/// A value that comes too early.
+fn by_early(builtin: Builtin, view: &ArgumentView<'_, '_>) -> Option<Early>
+    ensures { IfSome result
+        (ComesEarly builtin (assigned view.now) (arguments_of view.now)) }
+{
+    match builtin {
+        Builtin::FznValuePrecedeInt => early(view.int(0), view.int(1), &view.elements(2)),
+        Builtin::GecodePrecede => early(view.int(1), view.int(2), &view.elements(0)),
+        Builtin::FznValuePrecedeChainInt => early_in_chain(&view.elements(0), &view.elements(1)),
+        Builtin::FznSeqPrecedeChainInt => early_in_sequence(&view.elements(0)),
         _ => None,
     }
 }
 
-/// What is at an index, or nothing behind the end.
-fn element_at(elements: &Elements, place: usize) -> Option<i64>
-    ensures { result ≡ slice_get (ints elements.now) place }
+/// The first index at which the first two arguments differ.
+fn difference_of(
+    alloc: Global,
+    kind: ElementKind,
+    view: &ArgumentView<'_, '_>,
+) -> Result<Difference, AllocError>
+    ensures { IfOk result (IsDifference
+        (numbers_at kind (assigned view.now) (arguments_of view.now) 0)
+        (numbers_at kind (assigned view.now) (arguments_of view.now) 1)) }
 {
-    if place < elements.len() {
-        Some(elements.int(place))
+    let one = numbers_in(alloc, kind, &view.elements(0))?;
+    let other = numbers_in(alloc, kind, &view.elements(1))?;
+    Ok(difference(&one, &other))
+}
+
+/// The first index at which the first list in ascending order and the second differ.
+fn unsorted(
+    alloc: Global,
+    elements: &Elements,
+    ascending: &Elements,
+) -> Result<Option<Difference>, AllocError>
+    ensures { IfOk result (λ o. IfSome o (IsUnsorted (ints elements.now) (ints ascending.now))) }
+{
+    let sorted = numbers_in_order(alloc, elements)?;
+    let found = difference(&sorted, &numbers_of(alloc, ascending)?);
+    if differ(found.left, found.right) {
+        Ok(Some(found))
     } else {
-        None
+        Ok(None)
     }
 }
 
 /// The first index at which two lists differ, or the end of both.
-fn difference(one: &Elements, other: &Elements) -> Difference
-    ensures { IsDifference (ints one.now) (ints other.now) result }
+fn difference(one: &[i64], other: &[i64]) -> Difference
+    ensures { IsDifference one.now other.now result }
 {
-    let count = one.len().min(other.len());
-    for place in 0..count {
-        if one.int(place) != other.int(place) {
-            return at(one, other, place);
-        }
+    let mut place = 0;
+    while place < one.len() && place < other.len() && one[place] == other[place] {
+        place += 1;
     }
-    at(one, other, count)
-}
-
-/// What two lists have at an index.
-fn at(one: &Elements, other: &Elements, place: usize) -> Difference
-    ensures place { result.place ≡ place }
-    ensures left { slice_get (ints one.now) result.place ≡ result.left }
-    ensures right { slice_get (ints other.now) result.place ≡ result.right }
-{
     Difference {
         place,
-        left: element_at(one, place),
-        right: element_at(other, place),
+        left: one.get(place).copied(),
+        right: other.get(place).copied(),
+    }
+}
+
+/// Whether there are different numbers, or one alone.
+fn differ(left: Option<i64>, right: Option<i64>) -> bool
+    ensures { result ≡ differ left right }
+{
+    match (left, right) {
+        (Some(left), Some(right)) => left != right,
+        (None, None) => false,
+        _ => true,
     }
 }
 
@@ -99,7 +140,9 @@ fn agree(left: Option<i64>, right: Option<i64>) -> bool
 
 /// The first element with this value, where the other value doesn't come before it.
 fn early(before: i64, value: i64, elements: &Elements) -> Option<Early>
-    ensures { IfSome result (IsEarly before value (ints elements.now)) }
+    ensures early { IfSome result (IsEarly (ints elements.now)) }
+    ensures before { IfSome result (λ e. e.before ≡ before) }
+    ensures value { IfSome result (λ e. e.value ≡ value) }
 {
     for place in 0..elements.len() {
         if elements.int(place) == value {
@@ -112,6 +155,38 @@ fn early(before: i64, value: i64, elements: &Elements) -> Option<Early>
         if elements.int(place) == before {
             return None;
         }
+    }
+    None
+}
+
+/// The first value of a chain that comes where the one before it in the chain doesn't come before
+/// it.
+fn early_in_chain(chain: &Elements, elements: &Elements) -> Option<Early>
+    ensures { IfSome result (IsEarlyInChain (ints chain.now) (ints elements.now)) }
+{
+    for next in 1..chain.len() {
+        let (before, value) = (chain.int(next - 1), chain.int(next));
+        if let Some(found) = early(before, value, elements) {
+            return Some(found);
+        }
+    }
+    None
+}
+
+/// The first element above 1 that is greater by more than one than all before it: the number just
+/// below it doesn't come before it.
+fn early_in_sequence(elements: &Elements) -> Option<Early>
+    ensures early { IfSome result (IsEarly (ints elements.now)) }
+    ensures below { IfSome result (λ e. e.before ≡ e.value -ℤ pos 1) }
+    ensures above { IfSome result (λ e. int_lt (pos 1) e.value ≡ true) }
+{
+    let mut most: i64 = 0;
+    for place in 0..elements.len() {
+        let value = elements.int(place);
+        if value > 1 && value - 1 > most {
+            return early(value - 1, value, elements);
+        }
+        most = most.max(value);
     }
     None
 }

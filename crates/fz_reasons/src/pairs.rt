@@ -1,51 +1,49 @@
 //! Two elements that clash.
 
-ghost use Rattle.std.specs.Prelude.{◌≡◌, ◌<◌, true, IfSome, Some, length, slice_get};
+ghost use Rattle.std.specs.Prelude.{◌≡◌, ◌<◌, true, IfOk, IfSome, Some, length, slice_get};
 ghost use Rattle.fz_builtins.specs.of_meaning.Relations.{is_nonzero};
-ghost use Rattle.fz_builtins.specs.of_kernel.Views.{arguments_of, assigned, ints, slots_of};
-ghost use Rattle.fz_reasons.specs.Elements.{AreUnlike, IsClash};
+ghost use Rattle.fz_builtins.specs.of_kernel.Views.{arguments_of, assigned, ints, sets, slots_of};
+ghost use Rattle.fz_reasons.specs.Elements.{AreUnlike, IsClash, IsShared};
 ghost use Rattle.fz_reasons.specs.Reasons.{Says, neighbours_of};
 
+use crate::readings::{element_kind, numbers_in};
 use crate::reason::{Clash, Neighbours, Reason, Relation, Sides};
+use fz_builtins::fz_globals::partition::are_disjoint;
 use fz_builtins::fz_kernel::{ArgumentView, Elements};
 use fz_builtins::fz_meaning::Builtin;
+use std::alloc::{AllocError, Global};
 
-/// Two elements that are equal, or two neighbours that don't compare as they have to.
+/// Two elements that are equal, two sets that have an element in common, or two neighbours that
+/// don't compare as they have to.
 #[tactic(auto, unfolding(crate::specs::Reasons::Says))]
-pub(crate) fn by_pair(builtin: Builtin, view: &ArgumentView<'_, '_>) -> Option<Reason>
-    ensures { IfSome result (Says builtin (assigned view.now) (arguments_of view.now)) }
+pub(crate) fn by_pair(
+    alloc: Global,
+    builtin: Builtin,
+    view: &ArgumentView<'_, '_>,
+) -> Result<Option<Reason>, AllocError>
+    ensures { IfOk result (λ o. IfSome o
+        (Says builtin (assigned view.now) (arguments_of view.now))) }
 {
     match builtin {
-        Builtin::FznAllDifferentInt => Some(Reason::Clash(clash(&view.elements(0))?)),
-        Builtin::FzcheckSubcircuit => Some(Reason::Clash(clash(&view.elements(1))?)),
-        Builtin::FznAlldifferentExcept0 => {
-            Some(Reason::Clash(clash_but_zero(&view.elements(0))?))
-        },
-        _ => by_neighbours(builtin, view),
+        Builtin::FznAllDifferentInt => Ok(clash(&view.elements(0), false).map(Reason::Clash)),
+        Builtin::FzcheckSubcircuit => Ok(clash(&view.elements(1), false).map(Reason::Clash)),
+        Builtin::FznAlldifferentExcept0 => Ok(clash(&view.elements(0), true).map(Reason::Clash)),
+        Builtin::FznPartitionSet => Ok(shared(alloc, &view.elements(0))?.map(Reason::Clash)),
+        _ => by_neighbours(alloc, builtin, view),
     }
 }
 
-/// Two equal elements: the first that has an equal one before it, and that one.
-fn clash(elements: &Elements) -> Option<Clash>
-    ensures { IfSome result (IsClash (ints elements.now)) }
-{
-    for other in 0..elements.len() {
-        if let Some(clash) = equal_before(elements, other) {
-            return Some(clash);
-        }
-    }
-    None
-}
-
-/// The same of elements that aren't 0.
-fn clash_but_zero(elements: &Elements) -> Option<Clash>
+/// Two equal elements: the first that has an equal one before it, and that one; where zeros are
+/// spared, of those that aren't 0.
+fn clash(elements: &Elements, spare: bool) -> Option<Clash>
     ensures clash { IfSome result (IsClash (ints elements.now)) }
-    ensures nonzero { IfSome result (λ c. is_nonzero c.value ≡ true) }
+    ensures nonzero { spare ≡ true → IfSome result (λ c. is_nonzero c.value ≡ true) }
 {
     for other in 0..elements.len() {
-        if elements.int(other) != 0
-            && let Some(clash) = equal_before(elements, other)
-        {
+        if spare && elements.int(other) == 0 {
+            continue;
+        }
+        if let Some(clash) = equal_before(elements, other) {
             return Some(clash);
         }
     }
@@ -67,13 +65,61 @@ fn equal_before(elements: &Elements, other: usize) -> Option<Clash>
     None
 }
 
-#[tactic(auto, unfolding(crate::specs::Reasons::Says))]
-fn by_neighbours(builtin: Builtin, view: &ArgumentView<'_, '_>) -> Option<Reason>
-    ensures { IfSome result (Says builtin (assigned view.now) (arguments_of view.now)) }
+/// Two sets that have an element in common: the first that has one with a set before it, and that
+/// one.
+fn shared(alloc: Global, parts: &Elements) -> Result<Option<Clash>, AllocError>
+    ensures { IfOk result (λ o. IfSome o (IsShared (sets parts.now))) }
 {
-    let relation = neighbours_of(builtin)?;
-    let found = unlike_neighbours(relation, &view.elements(0))?;
-    Some(Reason::Neighbours(found))
+    for other in 0..parts.len() {
+        for one in 0..other {
+            if let Some(clash) = shared_by(alloc, parts, one, other)? {
+                return Ok(Some(clash));
+            }
+        }
+    }
+    Ok(None)
+}
+
+/// An element that two sets have in common: where there is one, so is the first of a range.
+fn shared_by(
+    alloc: Global,
+    parts: &Elements,
+    one: usize,
+    other: usize,
+) -> Result<Option<Clash>, AllocError>
+    requires order { one < other }
+    requires in_range { other < length (slots_of parts.now) }
+    ensures { IfOk result (λ o. IfSome o (IsShared (sets parts.now))) }
+{
+    let (first, second) = (parts.set(one), parts.set(other));
+    if are_disjoint(first, second) {
+        return Ok(None);
+    }
+    for set in [first, second] {
+        for range in &set.ranges(alloc)? {
+            let value = range.lo;
+            if first.contains(value) && second.contains(value) {
+                return Ok(Some(Clash { one, other, value }));
+            }
+        }
+    }
+    Ok(None)
+}
+
+#[tactic(auto, unfolding(crate::specs::Reasons::Says))]
+fn by_neighbours(
+    alloc: Global,
+    builtin: Builtin,
+    view: &ArgumentView<'_, '_>,
+) -> Result<Option<Reason>, AllocError>
+    ensures { IfOk result (λ o. IfSome o
+        (Says builtin (assigned view.now) (arguments_of view.now))) }
+{
+    let Some(relation) = neighbours_of(builtin) else {
+        return Ok(None);
+    };
+    let numbers = numbers_in(alloc, element_kind(builtin), &view.elements(0))?;
+    Ok(unlike_neighbours(relation, &numbers).map(Reason::Neighbours))
 }
 
 fn neighbours_of(builtin: Builtin) -> Option<Relation>
@@ -84,19 +130,21 @@ fn neighbours_of(builtin: Builtin) -> Option<Relation>
         Builtin::FznIncreasingInt => Some(Relation::AtMost),
         Builtin::FznDecreasingInt => Some(Relation::AtLeast),
         Builtin::FznStrictlyIncreasingInt => Some(Relation::Below),
+        Builtin::FznIncreasingBool => Some(Relation::AtMost),
+        Builtin::FznDecreasingBool => Some(Relation::AtLeast),
         _ => None,
     }
 }
 
-/// The first element that doesn't compare so with the next one.
-fn unlike_neighbours(relation: Relation, elements: &Elements) -> Option<Neighbours>
-    ensures { IfSome result (AreUnlike relation (ints elements.now)) }
+/// The first number that doesn't compare so with the next one.
+fn unlike_neighbours(relation: Relation, numbers: &[i64]) -> Option<Neighbours>
+    ensures { IfSome result (AreUnlike relation numbers.now) }
 {
-    for next in 1..elements.len() {
+    for next in 1..numbers.len() {
         let sides = Sides {
-            left: i128::from(elements.int(next - 1)),
+            left: i128::from(numbers[next - 1]),
             relation,
-            right: i128::from(elements.int(next)),
+            right: i128::from(numbers[next]),
         };
         if !sides.hold() {
             return Some(Neighbours {

@@ -16,6 +16,41 @@ pub enum Relation {
     Above,
 }
 
+/// What a row compares: a number that it reads or computes, with another argument. Booleans are
+/// compared as 0 and 1.
+#[derive(Clone, Copy)]
+pub enum Operands {
+    /// The first two arguments.
+    Scalars,
+    /// The sum of products of the first two, with the third.
+    Products,
+    /// The sum of the numbers of the first whose Booleans in the second are true, with the third.
+    Weights,
+    /// How often the second is an element of the first, with the third.
+    Count,
+    /// How often the third is an element of the second, with the first.
+    CountLast,
+    /// The first two Booleans.
+    Truths,
+    /// Whether both of the first two are true, with the third.
+    And,
+    /// Whether one of the first two is true, with the third.
+    Or,
+    /// Whether just one of the first two is true, with the third.
+    Xor,
+    /// Whether all elements of the first are true, with the second.
+    All,
+    /// Whether an element of the first is true, with the second.
+    Any,
+}
+
+/// What the elements of a list are. Booleans are read as 0 and 1.
+#[derive(Clone, Copy)]
+pub enum ElementKind {
+    Int,
+    Bool,
+}
+
 /// Two numbers that a row compares.
 #[derive(Clone, Copy)]
 pub struct Sides {
@@ -56,7 +91,7 @@ pub struct OtherTruth {
     pub wanted: Option<bool>,
 }
 
-/// Two elements at different indices that have this value.
+/// Two elements at different indices that are this value, or sets that have it.
 #[derive(Clone, Copy)]
 pub struct Clash {
     pub one: usize,
@@ -84,6 +119,33 @@ pub struct Count {
 /// The element at an index, with a value that it must not have.
 #[derive(Clone, Copy)]
 pub struct Element {
+    pub place: usize,
+    pub value: i64,
+}
+
+/// What has to be 0 or more.
+#[derive(Clone, Copy)]
+pub enum Quantity {
+    /// How long a task lasts.
+    Duration,
+    /// How much a task uses.
+    Use,
+    /// How much there is of what tasks use.
+    Limit,
+    /// How many there are of a thing.
+    Number,
+    /// The weight of a knapsack.
+    Weight,
+    /// The profit of a knapsack.
+    Profit,
+    /// How many neighbours are added up.
+    Width,
+}
+
+/// A quantity that is below 0, at an index where there are several.
+#[derive(Clone, Copy)]
+pub struct Negative {
+    pub quantity: Quantity,
     pub place: usize,
     pub value: i64,
 }
@@ -135,7 +197,8 @@ pub struct Early {
     pub before: i64,
 }
 
-/// Of the index of an element of one list the other list doesn't have this element's index.
+/// Of the index of an element of one list the other list doesn't have this element's index. Where
+/// the second list has sets, the value is an element of the set at the index.
 #[derive(Clone, Copy)]
 pub struct OneWay {
     pub of_first: bool,
@@ -184,9 +247,9 @@ pub enum Reason {
     Clash(Clash),
     Neighbours(Neighbours),
     Count(Count),
-    /// An element that isn't in the cover, or that is negative.
+    /// An element that isn't in the cover.
     Outside(Element),
-    Negative(Element),
+    Negative(Negative),
     Overlap(Overlap),
     Boxes(Boxes),
     Load(Load),
@@ -195,13 +258,15 @@ pub enum Reason {
     Early(Early),
     OneWay(OneWay),
     NoStep(NoStep),
-    /// The automaton ends in this state, which isn't one of the last.
+    /// The automaton ends in this, which is no state or not one of the last.
     EndsIn(i64),
     NearRow(NearRow),
     Member(Member),
     Arranged(Arrangement),
-    /// The number isn't an element of the list.
+    /// The number, or the Boolean as 0 or 1, isn't an element of the list or of the set.
     NotListed(i64),
+    /// The sets have the same elements.
+    Same,
 }
 
 /// Why a row or one of its reified forms fails.

@@ -15,7 +15,8 @@ use crate::arranged::by_arrangement;
 use crate::automata::by_table;
 use crate::covers::by_cover;
 use crate::literals::by_literals;
-use crate::members::by_member;
+use crate::members::by_sets;
+use crate::negatives::by_negative;
 use crate::orders::by_order;
 use crate::pairs::by_pair;
 use crate::reason::{Reason, Why};
@@ -29,7 +30,7 @@ use fz_builtins::{Outcome, of_builtin};
 use std::alloc::{AllocError, Global};
 
 /// Why the row of a builtin fails at the values that the argument view gives; none where it holds,
-/// and none of a row that has no reasons of its own.
+/// and where there is no reason to tell.
 ///
 /// # Errors
 ///
@@ -43,37 +44,48 @@ pub fn reason_of(
     ensures says { IfOk result (λ o. IfSome o
         (Says builtin (assigned view.now) (arguments_of view.now))) }
 {
-    if let Some(sides) = unlike(builtin, view) {
-        return Ok(Some(Reason::Sides(sides)));
-    }
-    if let Some(reason) = by_literals(builtin, view) {
+    if let Some(reason) = by_numbers(builtin, view) {
         return Ok(Some(reason));
     }
-    if let Some(reason) = by_pair(builtin, view) {
+    if let Some(reason) = by_pair(alloc, builtin, view)? {
         return Ok(Some(reason));
     }
-    if let Some(reason) = by_cover(builtin, view) {
+    if let Some(reason) = by_order(alloc, builtin, view)? {
         return Ok(Some(reason));
     }
-    if let Some(reason) = by_tasks(builtin, view) {
+    if let Some(reason) = by_tour(alloc, builtin, view)? {
         return Ok(Some(reason));
     }
-    if let Some(reason) = by_order(builtin, view) {
-        return Ok(Some(reason));
-    }
-    if let Some(reason) = by_tour(builtin, view) {
-        return Ok(Some(reason));
-    }
-    if let Some(reason) = by_table(builtin, view) {
+    if let Some(reason) = by_table(alloc, builtin, view)? {
         return Ok(Some(reason));
     }
     if let Some(found) = by_arrangement(builtin, view) {
         return Ok(Some(Reason::Arranged(found)));
     }
-    if let Some(member) = by_member(alloc, builtin, view)? {
-        return Ok(Some(Reason::Member(member)));
+    if let Some(reason) = by_sets(alloc, builtin, view)? {
+        return Ok(Some(reason));
     }
     by_result(alloc, builtin, view)
+}
+
+/// A reason that compares, counts or adds up numbers.
+#[tactic(auto, unfolding(crate::specs::Reasons::Says))]
+fn by_numbers(builtin: Builtin, view: &ArgumentView<'_, '_>) -> Option<Reason>
+    ensures { IfSome result (Says builtin (assigned view.now) (arguments_of view.now)) }
+{
+    if let Some(sides) = unlike(builtin, view) {
+        return Some(Reason::Sides(sides));
+    }
+    if let Some(reason) = by_literals(builtin, view) {
+        return Some(reason);
+    }
+    if let Some(reason) = by_cover(builtin, view) {
+        return Some(reason);
+    }
+    if let Some(found) = by_negative(builtin, view) {
+        return Some(Reason::Negative(found));
+    }
+    by_tasks(builtin, view)
 }
 
 /// Whether the row of a builtin holds at the values that the argument view gives.

@@ -1,17 +1,16 @@
 //! The rows that compare two numbers.
 
-ghost use Rattle.std.specs.Prelude.{◌≡◌, IfSome, Some, false};
-ghost use Rattle.fz_builtins.specs.of_meaning.Relations.{products, total};
-ghost use Rattle.fz_builtins.specs.of_meaning.States.{leaves_128};
+ghost use Rattle.std.specs.Prelude.{◌≡◌, IfSome, false};
 ghost use Rattle.fz_builtins.specs.of_kernel.Views.{arguments_of, assigned};
-ghost use Rattle.fz_builtins.specs.Readings.{ints};
-ghost use Rattle.fz_reasons.specs.Compared.{counts, counts_last, scalars, sums, weights};
+ghost use Rattle.fz_builtins.specs.of_meaning.Relations.{as_number};
+ghost use Rattle.fz_reasons.specs.Compared.{comparison, leave, operands};
 ghost use Rattle.fz_reasons.specs.Reasons.{AreCompared, Unlike};
 
-use crate::reason::{Relation, Sides};
+use crate::reason::{Operands, Relation, Sides};
 use fz_builtins::fz_globals::counts::count_of;
 use fz_builtins::fz_kernel::ArgumentView;
-use fz_builtins::fz_kernel::arrays::{sum_of_products, sum_where_true};
+use fz_builtins::fz_kernel::arrays::{all_true, any_true, sum_of_products, sum_where_true};
+use fz_builtins::fz_kernel::numbers::number_of_truth;
 use fz_builtins::fz_meaning::Builtin;
 
 /// The numbers that a row compares, and how.
@@ -19,88 +18,94 @@ pub fn sides_of(builtin: Builtin, view: &ArgumentView<'_, '_>) -> Option<Sides>
     ensures exact { IfSome result
         (AreCompared builtin (assigned view.now) (arguments_of view.now)) }
 {
+    let (compared, relation) = comparison(builtin)?;
+    Some(Sides {
+        left: left_of(compared, view)?,
+        relation,
+        right: right_of(compared, view),
+    })
+}
+
+/// What a row compares, and how.
+#[tactic(auto, unfolding(crate::specs::Compared::comparison))]
+pub(crate) fn comparison(builtin: Builtin) -> Option<(Operands, Relation)>
+    ensures { result ≡ comparison builtin }
+{
     match builtin {
-        Builtin::IntNe => Some(scalars(view, Relation::NotEqual)),
-        Builtin::IntLe => Some(scalars(view, Relation::AtMost)),
-        Builtin::IntLt => Some(scalars(view, Relation::Below)),
-        Builtin::IntGe => Some(scalars(view, Relation::AtLeast)),
-        Builtin::IntGt => Some(scalars(view, Relation::Above)),
-        Builtin::IntLinEq => sums(view, Relation::Equal),
-        Builtin::IntLinNe => sums(view, Relation::NotEqual),
-        Builtin::IntLinLe => sums(view, Relation::AtMost),
-        Builtin::BoolLinNe => Some(weights(view, Relation::NotEqual)),
-        Builtin::BoolLinLe => Some(weights(view, Relation::AtMost)),
-        Builtin::BoolLinLt => Some(weights(view, Relation::Below)),
-        Builtin::BoolLinGe => Some(weights(view, Relation::AtLeast)),
-        Builtin::BoolLinGt => Some(weights(view, Relation::Above)),
-        Builtin::FznCountNeq => Some(counts(view, Relation::NotEqual)),
-        Builtin::FznCountGeq => Some(counts(view, Relation::AtMost)),
-        Builtin::FznCountGt => Some(counts(view, Relation::Below)),
-        Builtin::FznCountLeq => Some(counts(view, Relation::AtLeast)),
-        Builtin::FznCountLt => Some(counts(view, Relation::Above)),
-        Builtin::FznAtLeastInt => Some(counts_last(view, Relation::AtLeast)),
-        Builtin::FznAtMostInt => Some(counts_last(view, Relation::AtMost)),
-        Builtin::FznExactlyInt => Some(counts_last(view, Relation::Equal)),
+        Builtin::IntNe => Some((Operands::Scalars, Relation::NotEqual)),
+        Builtin::IntLe => Some((Operands::Scalars, Relation::AtMost)),
+        Builtin::IntLt => Some((Operands::Scalars, Relation::Below)),
+        Builtin::IntGe => Some((Operands::Scalars, Relation::AtLeast)),
+        Builtin::IntGt => Some((Operands::Scalars, Relation::Above)),
+        Builtin::IntLinEq => Some((Operands::Products, Relation::Equal)),
+        Builtin::IntLinNe => Some((Operands::Products, Relation::NotEqual)),
+        Builtin::IntLinLe => Some((Operands::Products, Relation::AtMost)),
+        Builtin::BoolLe => Some((Operands::Truths, Relation::AtMost)),
+        Builtin::BoolLt => Some((Operands::Truths, Relation::Below)),
+        Builtin::BoolGe => Some((Operands::Truths, Relation::AtLeast)),
+        Builtin::BoolGt => Some((Operands::Truths, Relation::Above)),
+        Builtin::BoolAndImp => Some((Operands::And, Relation::AtLeast)),
+        Builtin::BoolOrImp => Some((Operands::Or, Relation::AtLeast)),
+        Builtin::BoolXorImp => Some((Operands::Xor, Relation::AtLeast)),
+        Builtin::ArrayBoolAndImp => Some((Operands::All, Relation::AtLeast)),
+        Builtin::ArrayBoolOrImp => Some((Operands::Any, Relation::AtLeast)),
+        Builtin::BoolLinNe => Some((Operands::Weights, Relation::NotEqual)),
+        Builtin::BoolLinLe => Some((Operands::Weights, Relation::AtMost)),
+        Builtin::BoolLinLt => Some((Operands::Weights, Relation::Below)),
+        Builtin::BoolLinGe => Some((Operands::Weights, Relation::AtLeast)),
+        Builtin::BoolLinGt => Some((Operands::Weights, Relation::Above)),
+        Builtin::FznCountNeq => Some((Operands::Count, Relation::NotEqual)),
+        Builtin::FznCountGeq => Some((Operands::Count, Relation::AtMost)),
+        Builtin::FznCountGt => Some((Operands::Count, Relation::Below)),
+        Builtin::FznCountLeq => Some((Operands::Count, Relation::AtLeast)),
+        Builtin::FznCountLt => Some((Operands::Count, Relation::Above)),
+        Builtin::FznAtLeastInt => Some((Operands::CountLast, Relation::AtLeast)),
+        Builtin::FznAtMostInt => Some((Operands::CountLast, Relation::AtMost)),
+        Builtin::FznExactlyInt => Some((Operands::CountLast, Relation::Equal)),
         _ => None,
     }
 }
 
-fn scalars(view: &ArgumentView<'_, '_>, relation: Relation) -> Sides
-    ensures { Some (result.left, result.relation, result.right)
-        ≡ scalars (assigned view.now) (arguments_of view.now) relation }
+/// The left number; none where it is a sum that leaves 128 bits.
+fn left_of(compared: Operands, view: &ArgumentView<'_, '_>) -> Option<i128>
+    ensures number { IfSome result (λ n.
+        (operands compared (assigned view.now) (arguments_of view.now)).0 ≡ n) }
+    ensures added { IfSome result (λ n.
+        leave compared (assigned view.now) (arguments_of view.now) ≡ false) }
 {
-    Sides {
-        left: i128::from(view.int(0)),
-        relation,
-        right: i128::from(view.int(1)),
+    match compared {
+        Operands::Scalars => Some(i128::from(view.int(0))),
+        Operands::Products => sum_of_products(&view.elements(0), &view.elements(1)),
+        Operands::Weights => Some(sum_where_true(&view.elements(0), &view.elements(1))),
+        Operands::Count => Some(count_of(&view.elements(0), view.int(1))),
+        Operands::CountLast => Some(count_of(&view.elements(1), view.int(2))),
+        Operands::Truths => Some(of_truth(view.truth(0))),
+        Operands::And => Some(of_truth(view.truth(0) && view.truth(1))),
+        Operands::Or => Some(of_truth(view.truth(0) || view.truth(1))),
+        Operands::Xor => Some(of_truth(view.truth(0) != view.truth(1))),
+        Operands::All => Some(of_truth(all_true(&view.elements(0)))),
+        Operands::Any => Some(of_truth(any_true(&view.elements(0)))),
     }
 }
 
-fn sums(view: &ArgumentView<'_, '_>, relation: Relation) -> Option<Sides>
-    ensures sides { IfSome result (λ s. Some (s.left, s.relation, s.right)
-        ≡ sums (assigned view.now) (arguments_of view.now) relation) }
-    ensures added { IfSome result (λ s. leaves_128 (products (ints view.now 0) (ints view.now 1))
-        ≡ false) }
+/// The right number.
+fn right_of(compared: Operands, view: &ArgumentView<'_, '_>) -> i128
+    ensures { (operands compared (assigned view.now) (arguments_of view.now)).1 ≡ result }
 {
-    let left = sum_of_products(&view.elements(0), &view.elements(1))?;
-    Some(Sides {
-        left,
-        relation,
-        right: i128::from(view.int(2)),
-    })
-}
-
-fn weights(view: &ArgumentView<'_, '_>, relation: Relation) -> Sides
-    ensures { Some (result.left, result.relation, result.right)
-        ≡ weights (assigned view.now) (arguments_of view.now) relation }
-{
-    Sides {
-        left: sum_where_true(&view.elements(0), &view.elements(1)),
-        relation,
-        right: i128::from(view.int(2)),
+    match compared {
+        Operands::Scalars => i128::from(view.int(1)),
+        Operands::Products | Operands::Weights | Operands::Count => i128::from(view.int(2)),
+        Operands::CountLast => i128::from(view.int(0)),
+        Operands::Truths | Operands::All | Operands::Any => of_truth(view.truth(1)),
+        Operands::And | Operands::Or | Operands::Xor => of_truth(view.truth(2)),
     }
 }
 
-fn counts(view: &ArgumentView<'_, '_>, relation: Relation) -> Sides
-    ensures { Some (result.left, result.relation, result.right)
-        ≡ counts (assigned view.now) (arguments_of view.now) relation }
+/// 1 for true and 0 for false.
+fn of_truth(truth: bool) -> i128
+    ensures { result ≡ as_number truth }
 {
-    Sides {
-        left: count_of(&view.elements(0), view.int(1)),
-        relation,
-        right: i128::from(view.int(2)),
-    }
-}
-
-fn counts_last(view: &ArgumentView<'_, '_>, relation: Relation) -> Sides
-    ensures { Some (result.left, result.relation, result.right)
-        ≡ counts_last (assigned view.now) (arguments_of view.now) relation }
-{
-    Sides {
-        left: count_of(&view.elements(1), view.int(2)),
-        relation,
-        right: i128::from(view.int(0)),
-    }
+    i128::from(number_of_truth(truth))
 }
 
 /// What the row compares, where it doesn't compare so.

@@ -1,18 +1,18 @@
 //! Tasks that run at the same time, boxes that overlap, and bins that are too full.
 
-ghost use Rattle.std.specs.Prelude.{◌≡◌, ◌<◌, true, pos, cond, IfSome, length};
-ghost use Rattle.std.specs.List.{zip};
-ghost use Rattle.fz_builtins.specs.of_meaning.Relations.{◌=ℤ◌, are_apart, ends_before, is_natural, load_of, runs_at, used_at};
+ghost use Rattle.std.specs.Prelude.{◌≡◌, ◌<◌, true, IfSome, length};
+ghost use Rattle.fz_builtins.specs.of_meaning.Relations.{are_apart};
 ghost use Rattle.fz_builtins.specs.of_kernel.Views.{arguments_of, assigned, ints, slots_of};
-ghost use Rattle.fz_builtins.specs.of_meaning.declared.builtin.Builtin.TheVariants.{FznDisjunctive, FznDisjunctiveStrict};
 ghost use Rattle.fz_builtins.specs.Readings.{int, ints as ints_in};
-ghost use Rattle.fz_reasons.specs.Elements.{AreBoxes, BothLast, IsBelowZero, IsBin, IsLoad, IsMore, IsOverlap, IsStretch, span};
+ghost use Rattle.fz_reasons.specs.Elements.{AreBoxes, BothLast, IsBin, IsLoad, IsMore, IsOverlap, IsStretch, span};
 ghost use Rattle.fz_reasons.specs.Reasons.{Says};
 
-use crate::reason::{Boxes, Element, Load, Overlap, Reason, Relation, Sides, Stretch};
+use crate::reason::{Boxes, Load, Overlap, Reason, Relation, Sides, Stretch};
 use fz_builtins::fz_kernel::numbers::sum;
 use fz_builtins::fz_kernel::{ArgumentView, Elements};
 use fz_builtins::fz_meaning::Builtin;
+use fz_scheduling::bins::load_of;
+use fz_scheduling::tasks::used_at;
 
 /// Two tasks or boxes that overlap, a time at which more is used than there is, or a bin in which
 /// lies more than there is room for.
@@ -21,8 +21,12 @@ pub(crate) fn by_tasks(builtin: Builtin, view: &ArgumentView<'_, '_>) -> Option<
     ensures { IfSome result (Says builtin (assigned view.now) (arguments_of view.now)) }
 {
     match builtin {
-        Builtin::FznDisjunctive => by_spans(view, true),
-        Builtin::FznDisjunctiveStrict => by_spans(view, false),
+        Builtin::FznDisjunctive => {
+            Some(Reason::Overlap(overlap(&view.elements(0), &view.elements(1), true)?))
+        }
+        Builtin::FznDisjunctiveStrict => {
+            Some(Reason::Overlap(overlap(&view.elements(0), &view.elements(1), false)?))
+        }
         Builtin::FznDiffn => Some(Reason::Boxes(boxes(view, 1, 2, false)?)),
         Builtin::FznDiffnNonstrict => Some(Reason::Boxes(boxes(view, 1, 2, true)?)),
         Builtin::GecodeNooverlap => Some(Reason::Boxes(boxes(view, 2, 1, false)?)),
@@ -33,7 +37,7 @@ pub(crate) fn by_tasks(builtin: Builtin, view: &ArgumentView<'_, '_>) -> Option<
 }
 
 /// From where what is at an index lasts, and how long.
-fn stretch_at(starts: &Elements, lengths: &Elements, place: usize) -> Stretch
+pub(crate) fn stretch_at(starts: &Elements, lengths: &Elements, place: usize) -> Stretch
     requires started { place < length (slots_of starts.now) }
     requires lasting { place < length (slots_of lengths.now) }
     ensures { IsStretch (ints starts.now) (ints lengths.now) place result }
@@ -44,16 +48,11 @@ fn stretch_at(starts: &Elements, lengths: &Elements, place: usize) -> Stretch
     }
 }
 
-fn ends_before(first: Stretch, second: Stretch) -> bool
-    ensures { result ≡ ends_before (span first) (span second) }
-{
-    sum(first.start, first.length) <= i128::from(second.start)
-}
-
 fn are_apart(first: Stretch, second: Stretch) -> bool
     ensures { result ≡ are_apart (span first) (span second) }
 {
-    ends_before(first, second) || ends_before(second, first)
+    sum(first.start, first.length) <= i128::from(second.start)
+        || sum(second.start, second.length) <= i128::from(first.start)
 }
 
 /// What is at an index before another one and isn't apart from what is there; where empty ones are
@@ -89,40 +88,6 @@ fn overlap_at(
     })
 }
 
-/// A negative duration, or two tasks that run at the same time.
-#[tactic(auto, unfolding(crate::specs::Reasons::Says))]
-fn by_spans(view: &ArgumentView<'_, '_>, spare: bool) -> Option<Reason>
-    ensures strict { IfSome result
-        (Says FznDisjunctiveStrict (assigned view.now) (arguments_of view.now)) }
-    ensures spared { spare ≡ true → IfSome result
-        (Says FznDisjunctive (assigned view.now) (arguments_of view.now)) }
-{
-    let (starts, lengths) = (view.elements(0), view.elements(1));
-    match below_zero(&starts, &lengths) {
-        Some(element) => Some(Reason::Negative(element)),
-        None => Some(Reason::Overlap(overlap(&starts, &lengths, spare)?)),
-    }
-}
-
-/// The first length that is below 0.
-fn below_zero(starts: &Elements, lengths: &Elements) -> Option<Element>
-    ensures { IfSome result (IsBelowZero (ints starts.now) (ints lengths.now)) }
-{
-    for place in 0..starts.len().min(lengths.len()) {
-        let value = lengths.int(place);
-        if !is_natural(value) {
-            return Some(Element { place, value });
-        }
-    }
-    None
-}
-
-fn is_natural(number: i64) -> bool
-    ensures { result ≡ is_natural number }
-{
-    0 <= number
-}
-
 /// The first two that aren't apart.
 fn overlap(starts: &Elements, lengths: &Elements, spare: bool) -> Option<Overlap>
     ensures overlap { IfSome result (IsOverlap (ints starts.now) (ints lengths.now)) }
@@ -141,8 +106,8 @@ fn overlap(starts: &Elements, lengths: &Elements, spare: bool) -> Option<Overlap
 /// The first two boxes that aren't apart, whose starts along the second axis and lengths along the
 /// first are these arguments.
 fn boxes(view: &ArgumentView<'_, '_>, y: usize, width: usize, spare: bool) -> Option<Boxes>
-    ensures boxes { IfSome result (AreBoxes (ints_in view.now 0) (ints_in view.now y) (ints_in view.now width)
-        (ints_in view.now 3)) }
+    ensures boxes { IfSome result (AreBoxes (ints_in view.now 0) (ints_in view.now y)
+        (ints_in view.now width) (ints_in view.now 3)) }
     ensures last { IfSome result (λ b. spare ≡ true → BothLast b.across × BothLast b.along) }
 {
     let (x, y) = (view.elements(0), view.elements(y));
@@ -174,28 +139,12 @@ fn overload(view: &ArgumentView<'_, '_>) -> Option<Load>
         let need = uses.int(task);
         if length != 0
             && need != 0
-            && let Some(sides) = load_at(&starts, &lengths, &uses, most, time)
+            && let Some(sides) = more_than(used_at(time, &starts, &lengths, &uses), most)
         {
             return Some(Load { task, time, sides });
         }
     }
     None
-}
-
-/// What is used at a time, where that is more than there is.
-fn load_at(
-    starts: &Elements,
-    lengths: &Elements,
-    uses: &Elements,
-    most: i64,
-    time: i64,
-) -> Option<Sides>
-    ensures used { IfSome result (λ s. used_at time
-        (zip (zip (ints starts.now) (ints lengths.now)) (ints uses.now)) ≡ s.left) }
-    ensures most { IfSome result (λ s. s.right ≡ most) }
-    ensures more { IfSome result IsMore }
-{
-    more_than(used_at(starts, lengths, uses, time)?, most)
 }
 
 /// A load and what there is room for, where the load is more.
@@ -212,43 +161,6 @@ fn more_than(load: i128, most: i64) -> Option<Sides>
     if sides.hold() { None } else { Some(sides) }
 }
 
-/// What is used at a time; none where the sum leaves 128 bits.
-fn used_at(starts: &Elements, lengths: &Elements, uses: &Elements, time: i64) -> Option<i128>
-    ensures { IfSome result (λ sum. used_at time
-        (zip (zip (ints starts.now) (ints lengths.now)) (ints uses.now)) ≡ sum) }
-{
-    let mut total: i128 = 0;
-    for task in 0..starts.len().min(lengths.len()).min(uses.len()) {
-        let stretch = stretch_at(starts, lengths, task);
-        let need = counted(runs_at(time, stretch), uses.int(task));
-        match total.checked_add(i128::from(need)) {
-            Some(more) => total = more,
-            None => return None,
-        }
-    }
-    Some(total)
-}
-
-/// The number, or 0 where it doesn't count.
-fn counted(counts: bool, number: i64) -> i64
-    ensures { result ≡ cond counts number (pos 0) }
-{
-    if counts { number } else { 0 }
-}
-
-fn is_in(bin: i64, number: i64) -> bool
-    ensures { result ≡ (number =ℤ bin) }
-{
-    number == bin
-}
-
-/// Whether what lasts so is there at the time.
-pub fn runs_at(time: i64, stretch: Stretch) -> bool
-    ensures { result ≡ runs_at time (span stretch) }
-{
-    stretch.start <= time && i128::from(time) < sum(stretch.start, stretch.length)
-}
-
 /// The first thing in whose bin lies more than there is room for.
 fn full_bin(view: &ArgumentView<'_, '_>) -> Option<Load>
     ensures { IfSome result (IsBin (ints_in view.now 1) (ints_in view.now 2) (int view.now 0)) }
@@ -256,9 +168,8 @@ fn full_bin(view: &ArgumentView<'_, '_>) -> Option<Load>
     let (bins, weights) = (view.elements(1), view.elements(2));
     for task in 0..bins.len() {
         let bin = bins.int(task);
-        if let Some(load) = load_of(&bins, &weights, bin)
-            && let Some(sides) = more_than(load, view.int(0))
-        {
+        let load = load_of(i128::from(bin), &bins, &weights);
+        if let Some(sides) = more_than(load, view.int(0)) {
             return Some(Load {
                 task,
                 time: bin,
@@ -267,19 +178,4 @@ fn full_bin(view: &ArgumentView<'_, '_>) -> Option<Load>
         }
     }
     None
-}
-
-/// The sum of the weights of what lies in a bin; none where it leaves 128 bits.
-fn load_of(bins: &Elements, weights: &Elements, bin: i64) -> Option<i128>
-    ensures { IfSome result (λ sum. load_of (ints bins.now) (ints weights.now) bin ≡ sum) }
-{
-    let mut total: i128 = 0;
-    for place in 0..bins.len().min(weights.len()) {
-        let weight = counted(is_in(bin, bins.int(place)), weights.int(place));
-        match total.checked_add(i128::from(weight)) {
-            Some(more) => total = more,
-            None => return None,
-        }
-    }
-    Some(total)
 }

@@ -3,21 +3,17 @@
 ghost use Rattle.std.specs.Prelude.{◌<◌, length};
 ghost use Rattle.fz_model.specs.Meaning.{points};
 
-use crate::arrangement_words::arrangement_text;
-use crate::reason::{
-    Difference, Load, Member, OtherNumber, OtherTruth, Overlap, Reason, Relation, Sides, Stretch,
-    Why,
-};
+use crate::element_words::{from_one, of_elements};
+use crate::reason::{Operands, OtherNumber, OtherTruth, Reason, Relation, Sides, Why};
 use crate::rows::{holds, reason_of, why};
-use crate::sides::sides_of;
-use crate::tasks::runs_at;
+use crate::sides::{comparison, sides_of};
 use fz_base::SetError;
 use fz_builtins::fz_kernel::{ArgumentView, Elements};
 use fz_builtins::{Said, said_of};
-use fz_model::{Builtin, Form, Model, Partial, PointParts};
+use fz_model::{Builtin, Form, Known, Model, Partial, PointParts};
 use std::alloc::{AllocError, Global};
 
-/// The most products, tasks or positions that are listed.
+/// The most products that are listed.
 const MOST_LISTED: usize = 8;
 
 /// Why the constraint at a point fails, in words; none of another point, and none where there is no
@@ -34,13 +30,9 @@ pub fn reason_at(
 ) -> Result<Option<String>, AllocError>
     requires in_range { point < length (points model.now) }
 {
-    let PointParts::Constraint(parts) = model.point_parts(point) else {
+    let Some((known, view)) = known_at(model, filling, point) else {
         return Ok(None);
     };
-    let Some(known) = parts.posted.known else {
-        return Ok(None);
-    };
-    let view = ArgumentView::new(parts, filling);
     match why(alloc, known, &view)? {
         Some(Why::Fails(reason)) => Ok(Some(reason_text(alloc, known.builtin, &view, &reason)?)),
         Some(Why::Holds) => {
@@ -64,15 +56,16 @@ pub fn giving_at(
 ) -> Result<Option<String>, AllocError>
     requires in_range { point < length (points model.now) }
 {
-    let PointParts::Constraint(parts) = model.point_parts(point) else {
+    let Some((known, view)) = known_at(model, filling, point) else {
         return Ok(None);
     };
-    let Some(known) = parts.posted.known else {
-        return Ok(None);
-    };
-    let view = ArgumentView::new(parts, filling);
     match known.form {
-        Form::Base if is_equality(known.builtin) => Ok(None),
+        // that two values are the same, which the values say
+        Form::Base
+            if matches!(
+                known.builtin,
+                Builtin::IntEq | Builtin::BoolEq | Builtin::Bool2Int
+            ) => Ok(None),
         Form::Base => match result_text(alloc, known.builtin, &view)? {
             Some(result) => Ok(Some(result)),
             None if sides_of(known.builtin, &view).is_some() => {
@@ -90,12 +83,20 @@ pub fn giving_at(
     }
 }
 
-/// Whether a row only says that two values are the same.
-fn is_equality(builtin: Builtin) -> bool {
-    matches!(
-        builtin,
-        Builtin::IntEq | Builtin::BoolEq | Builtin::Bool2Int
-    )
+/// The row of the constraint at a point, and its arguments.
+fn known_at<'s, 'a>(
+    model: &'s Model<'a>,
+    filling: &'s Partial,
+    point: usize,
+) -> Option<(Known, ArgumentView<'s, 'a>)>
+    requires in_range { point < length (points model.now) }
+{
+    match model.point_parts(point) {
+        PointParts::Constraint(parts) => {
+            Some((parts.posted.known?, ArgumentView::new(parts, filling)))
+        }
+        _ => None,
+    }
 }
 
 /// That a row holds, with both sides where it compares two.
@@ -104,29 +105,23 @@ fn held_text(
     builtin: Builtin,
     view: &ArgumentView<'_, '_>,
 ) -> Result<String, AllocError> {
-    let Some(
-        Sides {
-            relation,
-            right,
-            ..
-        },
-    ) = sides_of(builtin, view)
-    else {
+    let Some(sides) = sides_of(builtin, view) else {
         return String::from_str(alloc, "what it reifies holds");
     };
-    let left = left_text(alloc, builtin, view)?;
-    match relation {
+    let left = left_text(alloc, builtin, view, sides)?;
+    match sides.relation {
         Relation::Equal => Ok(left),
-        _ => {
-            let sign = sign(relation);
+        relation => {
+            let (sign, right) = (sign(relation), right_text(alloc, builtin, sides)?);
             format!(in alloc; "{left} {sign}{right}")
         }
     }
 }
 
-fn sign(relation: Relation) -> &'static str {
+/// The sign of a relation, with a blank; that two are equal is told without a sign.
+pub(crate) fn sign(relation: Relation) -> &'static str {
     match relation {
-        Relation::Equal => "= ",
+        Relation::Equal => "",
         Relation::NotEqual => "≠ ",
         Relation::AtMost => "≤ ",
         Relation::Below => "< ",
@@ -140,31 +135,55 @@ fn left_text(
     alloc: Global,
     builtin: Builtin,
     view: &ArgumentView<'_, '_>,
+    sides: Sides,
 ) -> Result<String, AllocError> {
-    let Some(Sides { left, .. }) = sides_of(builtin, view) else {
-        return Ok(String::new(alloc));
-    };
-    match builtin {
-        Builtin::IntLinEq | Builtin::IntLinNe | Builtin::IntLinLe => {
+    let left = sides.left;
+    match comparison(builtin) {
+        Some((Operands::Products, _)) => {
             let sum = sum_text(alloc, &view.elements(0), &view.elements(1))?;
             format!(in alloc; "{sum} = {left}")
         }
-        Builtin::BoolLinNe
-        | Builtin::BoolLinLe
-        | Builtin::BoolLinLt
-        | Builtin::BoolLinGe
-        | Builtin::BoolLinGt => format!(in alloc; "the sum where it is true is {left}"),
-        Builtin::IntNe | Builtin::IntLe | Builtin::IntLt | Builtin::IntGe | Builtin::IntGt => {
-            format!(in alloc; "{left}")
+        Some((Operands::Weights, _)) => format!(in alloc; "the sum where it is true is {left}"),
+        Some((Operands::Count, _)) => comes_text(alloc, view.int(1), left),
+        Some((Operands::CountLast, _)) => comes_text(alloc, view.int(2), left),
+        Some((Operands::Scalars, _)) | None => format!(in alloc; "{left}"),
+        Some(_) => {
+            let (front, left) = (
+                front_text(alloc, builtin, view)?,
+                value_text(alloc, true, left)?,
+            );
+            format!(in alloc; "{front}{left}")
         }
-        Builtin::FznAtLeastInt | Builtin::FznAtMostInt | Builtin::FznExactlyInt => {
-            comes_text(alloc, view.int(2), left)
-        }
-        _ => comes_text(alloc, view.int(1), left),
     }
 }
 
-fn comes_text(alloc: Global, value: i64, count: i128) -> Result<String, AllocError> {
+/// The right one of two sides.
+fn right_text(alloc: Global, builtin: Builtin, sides: Sides) -> Result<String, AllocError> {
+    let is_truth = matches!(
+        comparison(builtin),
+        Some((
+            Operands::Truths
+                | Operands::And
+                | Operands::Or
+                | Operands::Xor
+                | Operands::All
+                | Operands::Any,
+            _,
+        ))
+    );
+    value_text(alloc, is_truth, sides.right)
+}
+
+/// A number, or the Boolean that it stands for.
+pub(crate) fn value_text(alloc: Global, is_truth: bool, value: i128) -> Result<String, AllocError> {
+    match value {
+        0 if is_truth => String::from_str(alloc, "false"),
+        _ if is_truth => String::from_str(alloc, "true"),
+        _ => format!(in alloc; "{value}"),
+    }
+}
+
+pub(crate) fn comes_text(alloc: Global, value: i64, count: i128) -> Result<String, AllocError> {
     format!(in alloc; "{value} comes {count} times")
 }
 
@@ -211,14 +230,6 @@ fn least_listed(alloc: Global, a: &Elements, b: &Elements) -> Result<u128, Alloc
     }
 }
 
-/// How what isn't so is told: that two sides are equal without a sign.
-fn asked(relation: Relation) -> &'static str {
-    match relation {
-        Relation::Equal => "",
-        _ => sign(relation),
-    }
-}
-
 /// A reason of a row in words.
 fn reason_text(
     alloc: Global,
@@ -227,16 +238,10 @@ fn reason_text(
     reason: &Reason,
 ) -> Result<String, AllocError> {
     match *reason {
-        Reason::Sides(
-            Sides {
-                relation,
-                right,
-                ..
-            },
-        ) => {
-            let left = left_text(alloc, builtin, view)?;
-            let asked = asked(relation);
-            format!(in alloc; "{left}, not {asked}{right}")
+        Reason::Sides(sides) => {
+            let left = left_text(alloc, builtin, view, sides)?;
+            let (sign, right) = (sign(sides.relation), right_text(alloc, builtin, sides)?);
+            format!(in alloc; "{left}, not {sign}{right}")
         }
         Reason::Number(OtherNumber { value, .. }) => match result_text(alloc, builtin, view)? {
             Some(result) => format!(in alloc; "{result}, not {value}"),
@@ -248,205 +253,9 @@ fn reason_text(
         },
         Reason::NoLiteral => String::from_str(alloc, "no literal is true"),
         Reason::Even => String::from_str(alloc, "an even number of elements are true"),
+        Reason::Same => String::from_str(alloc, "the sets are the same"),
         _ => of_elements(alloc, builtin, view, reason),
     }
-}
-
-/// A reason that tells of elements.
-fn of_elements(
-    alloc: Global,
-    builtin: Builtin,
-    view: &ArgumentView<'_, '_>,
-    reason: &Reason,
-) -> Result<String, AllocError> {
-    match *reason {
-        Reason::Clash(clash) => {
-            let (one, other) = (from_one(clash.one), from_one(clash.other));
-            let value = clash.value;
-            format!(in alloc; "elements {one} and {other} are both {value}")
-        }
-        Reason::Neighbours(found) => {
-            let (place, asked) = (from_one(found.place), asked(found.sides.relation));
-            let Sides { left, right, .. } = found.sides;
-            format!(in alloc; "element {place} is {left}, not {asked}{right}, the next one")
-        }
-        Reason::Count(count) => {
-            let Sides {
-                left,
-                relation,
-                right,
-            } = count.sides;
-            let told = comes_text(alloc, count.value, left)?;
-            let asked = asked(relation);
-            format!(in alloc; "{told}, not {asked}{right}")
-        }
-        Reason::Outside(found) => {
-            let (place, value) = (from_one(found.place), found.value);
-            format!(in alloc; "element {place} is {value}, which isn't in the cover")
-        }
-        Reason::NotListed(value) => format!(in alloc; "no element is {value}"),
-        Reason::Difference(found) => difference_text(alloc, found),
-        Reason::Early(found) => {
-            let (place, value, before) = (from_one(found.place), found.value, found.before);
-            format!(in alloc; "element {place} is {value}, and none before it is {before}")
-        }
-        _ => of_tasks(alloc, builtin, view, reason),
-    }
-}
-
-/// An index that is counted from 0, from 1.
-pub(crate) fn from_one(place: usize) -> usize {
-    place.saturating_add(1)
-}
-
-fn difference_text(alloc: Global, found: Difference) -> Result<String, AllocError> {
-    let place = from_one(found.place);
-    match (found.left, found.right) {
-        (Some(left), Some(right)) => {
-            format!(in alloc; "the first difference is at element {place}: {left} and {right}")
-        }
-        (Some(_), None) => {
-            format!(in alloc; "the second list ends before element {place}, the first goes on")
-        }
-        (None, Some(_)) => {
-            format!(in alloc; "the first list ends before element {place}, the second goes on")
-        }
-        (None, None) => String::from_str(alloc, "the lists are the same"),
-    }
-}
-
-/// A reason that tells of tasks, boxes or bins.
-fn of_tasks(
-    alloc: Global,
-    builtin: Builtin,
-    view: &ArgumentView<'_, '_>,
-    reason: &Reason,
-) -> Result<String, AllocError> {
-    match *reason {
-        Reason::Negative(found) => {
-            let (place, value) = (from_one(found.place), found.value);
-            format!(in alloc; "task {place} lasts {value}")
-        }
-        Reason::Overlap(overlap) => {
-            let told = overlap_text(alloc, &overlap)?;
-            let (one, other) = (from_one(overlap.one), from_one(overlap.other));
-            format!(in alloc; "tasks {one} and {other} overlap: {told}")
-        }
-        Reason::Boxes(boxes) => {
-            let across = overlap_text(alloc, &boxes.across)?;
-            let along = overlap_text(alloc, &boxes.along)?;
-            let (one, other) = (from_one(boxes.across.one), from_one(boxes.across.other));
-            format!(in alloc; "boxes {one} and {other} overlap: {across}, and {along}")
-        }
-        Reason::Load(load) => load_text(alloc, view, &load),
-        Reason::Bin(load) => {
-            let Load { time, sides, .. } = load;
-            let Sides { left, right, .. } = sides;
-            format!(in alloc; "in bin {time} lies {left}, not ≤ {right}")
-        }
-        _ => of_places(alloc, builtin, view, reason),
-    }
-}
-
-fn overlap_text(alloc: Global, overlap: &Overlap) -> Result<String, AllocError> {
-    let first = stretch_text(alloc, overlap.first)?;
-    let second = stretch_text(alloc, overlap.second)?;
-    format!(in alloc; "{first} and {second}")
-}
-
-fn stretch_text(alloc: Global, stretch: Stretch) -> Result<String, AllocError> {
-    let start = stretch.start;
-    let end = i128::from(start) + i128::from(stretch.length);
-    format!(in alloc; "from {start} to {end}")
-}
-
-/// The tasks that run at a time, what they use together, and what there is.
-fn load_text(
-    alloc: Global,
-    view: &ArgumentView<'_, '_>,
-    load: &Load,
-) -> Result<String, AllocError> {
-    let Load { time, sides, .. } = load;
-    let Sides { left, right, .. } = sides;
-    let (starts, lengths) = (view.elements(0), view.elements(1));
-    let mut tasks = String::new(alloc);
-    let mut count: usize = 0;
-    for task in 0..starts.len().min(lengths.len()) {
-        let stretch = Stretch {
-            start: starts.int(task),
-            length: lengths.int(task),
-        };
-        if runs_at(*time, stretch) {
-            if count < MOST_LISTED {
-                let comma = if count > 0 { ", " } else { "" };
-                write!(tasks, "{comma}{}", from_one(task))?;
-            }
-            count = count.saturating_add(1);
-        }
-    }
-    let left_out = count.saturating_sub(MOST_LISTED);
-    if left_out > 0 {
-        write!(tasks, ", ... and {left_out} more")?;
-    }
-    format!(in alloc; "at {time} the tasks {tasks} run and use {left}, not ≤ {right}")
-}
-
-/// A reason that tells of positions, states, rows or sets.
-fn of_places(
-    alloc: Global,
-    builtin: Builtin,
-    view: &ArgumentView<'_, '_>,
-    reason: &Reason,
-) -> Result<String, AllocError> {
-    match *reason {
-        Reason::Arranged(found) => arrangement_text(alloc, builtin, view, &found),
-        Reason::OneWay(found) => {
-            let (value, first) = (found.value, if found.of_first { "first" } else { "second" });
-            let place = from_one(found.place);
-            format!(in alloc;
-                "element {place} of the {first} list is {value}, which doesn't lead back"
-            )
-        }
-        Reason::NoStep(found) => {
-            let (place, state, symbol) = (from_one(found.place), found.state, found.symbol);
-            format!(in alloc; "element {place}: there is no step from state {state} by {symbol}")
-        }
-        Reason::EndsIn(state) => {
-            format!(in alloc; "it ends in state {state}, which isn't one of the last")
-        }
-        Reason::NearRow(found) => {
-            let (row, place) = (from_one(found.row), from_one(found.place));
-            let (value, wanted) = (found.value, found.wanted);
-            format!(in alloc;
-                "no row fits; row {row} differs at element {place}: {wanted}, not {value}"
-            )
-        }
-        Reason::Member(member) => member_text(alloc, builtin, member),
-        _ => String::from_str(alloc, "it fails"),
-    }
-}
-
-/// In which of the sets a number is, and in which it isn't.
-fn member_text(alloc: Global, builtin: Builtin, member: Member) -> Result<String, AllocError> {
-    let Member {
-        number,
-        first,
-        second,
-        third,
-    } = member;
-    let (first, second, third) = (is_in(first), is_in(second), is_in(third));
-    match builtin {
-        Builtin::SetUnion | Builtin::SetIntersect | Builtin::SetDiff | Builtin::SetSymdiff => {
-            format!(in alloc;
-                "{number} is {first} the first, {second} the second and {third} the third"
-            )
-        }
-        _ => format!(in alloc; "{number} is {first} the first and {second} the second"),
-    }
-}
-
-fn is_in(there: bool) -> &'static str {
-    if there { "in" } else { "not in" }
 }
 
 /// The result of a row by its other arguments, as it is computed; none of a row without one.
@@ -455,10 +264,7 @@ fn result_text(
     builtin: Builtin,
     view: &ArgumentView<'_, '_>,
 ) -> Result<Option<String>, AllocError> {
-    let front = match literals_text(alloc, builtin, view)? {
-        Some(front) => front,
-        None => term_text(alloc, builtin, view)?,
-    };
+    let front = front_text(alloc, builtin, view)?;
     match said_of(alloc, builtin, false, view) {
         Ok(Said::Number(_, Some(number))) => Ok(Some(format!(in alloc; "{front}{number}")?)),
         Ok(Said::Boolean(_, Some(truth))) => Ok(Some(format!(in alloc; "{front}{truth}")?)),
@@ -467,6 +273,18 @@ fn result_text(
         }
         Ok(Said::Whether(_) | Said::Set(_, _) | Said::Given(_, _)) => Ok(None),
         Err(SetError::Memory) => Err(AllocError),
+    }
+}
+
+/// How a result is told: which element decides on it, or the term whose value it is.
+fn front_text(
+    alloc: Global,
+    builtin: Builtin,
+    view: &ArgumentView<'_, '_>,
+) -> Result<String, AllocError> {
+    match literals_text(alloc, builtin, view)? {
+        Some(front) => Ok(front),
+        None => term_text(alloc, builtin, view),
     }
 }
 
@@ -507,9 +325,9 @@ fn connective_text(
 ) -> Result<String, AllocError> {
     let (a, b) = (view.truth(0), view.truth(1));
     match builtin {
-        Builtin::BoolAnd => format!(in alloc; "{a} and {b} = "),
-        Builtin::BoolOr => format!(in alloc; "{a} or {b} = "),
-        Builtin::BoolXor => format!(in alloc; "{a} xor {b} = "),
+        Builtin::BoolAnd | Builtin::BoolAndImp => format!(in alloc; "{a} and {b} = "),
+        Builtin::BoolOr | Builtin::BoolOrImp => format!(in alloc; "{a} or {b} = "),
+        Builtin::BoolXor | Builtin::BoolXorImp => format!(in alloc; "{a} xor {b} = "),
         Builtin::BoolNot => format!(in alloc; "not {a} = "),
         _ => Ok(String::new(alloc)),
     }
@@ -522,8 +340,8 @@ fn literals_text(
     view: &ArgumentView<'_, '_>,
 ) -> Result<Option<String>, AllocError> {
     let (decides, all) = match builtin {
-        Builtin::ArrayBoolAnd => (false, "each element is true: "),
-        Builtin::ArrayBoolOr => (true, "no element is true: "),
+        Builtin::ArrayBoolAnd | Builtin::ArrayBoolAndImp => (false, "each element is true: "),
+        Builtin::ArrayBoolOr | Builtin::ArrayBoolOrImp => (true, "no element is true: "),
         _ => return Ok(None),
     };
     let elements = view.elements(0);

@@ -1,6 +1,5 @@
-use Rattle.fz_builtins.specs.of_kernel.Views.{ints}
 use Rattle.fz_reasons.specs.Elements.{IsDifferentRow}
 use Rattle.fz_reasons.proofs.automata.nearest.Given as goal
 
 abbrev pub invariant-loop-row : goal.invariant-loop-row
-invariant-loop-row l = IsDifferentRow (ints l.list) (ints l.table) l.best
+invariant-loop-row l = IsDifferentRow l.list l.table l.best

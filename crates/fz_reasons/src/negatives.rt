@@ -1,0 +1,138 @@
+//! Quantities that are below 0 and must not be.
+
+ghost use Rattle.std.specs.Prelude.{◌≡◌, IfSome};
+ghost use Rattle.fz_builtins.specs.of_meaning.declared.builtin.Builtin.TheVariants as builtin;
+ghost use Rattle.fz_builtins.specs.of_meaning.Relations.{is_natural};
+ghost use Rattle.fz_builtins.specs.of_kernel.Views.{arguments_of, assigned};
+ghost use Rattle.fz_reasons.specs.Reasons.{IsNegative};
+
+use crate::arranged::adds_up;
+use crate::reason::{Negative, Quantity};
+use crate::tasks::stretch_at;
+use fz_builtins::fz_kernel::ArgumentView;
+use fz_builtins::fz_meaning::Builtin;
+
+/// The first quantity that is below 0 and must not be.
+pub(crate) fn by_negative(builtin: Builtin, view: &ArgumentView<'_, '_>) -> Option<Negative>
+    ensures { IfSome result (IsNegative builtin (assigned view.now) (arguments_of view.now)) }
+{
+    match builtin {
+        Builtin::FznDisjunctive => disjunctive(view),
+        Builtin::FznDisjunctiveStrict => disjunctive(view),
+        Builtin::FznCumulative => cumulative(view),
+        Builtin::FznKnapsack => knapsack(view),
+        Builtin::FznSlidingSum => sliding_sum(view),
+        _ => None,
+    }
+}
+
+/// The first duration below 0.
+fn disjunctive(view: &ArgumentView<'_, '_>) -> Option<Negative>
+    ensures free { IfSome result
+        (IsNegative builtin.FznDisjunctive (assigned view.now) (arguments_of view.now)) }
+    ensures strict { IfSome result
+        (IsNegative builtin.FznDisjunctiveStrict (assigned view.now) (arguments_of view.now)) }
+{
+    let (starts, lengths) = (view.elements(0), view.elements(1));
+    for place in 0..starts.len().min(lengths.len()) {
+        let value = stretch_at(&starts, &lengths, place).length;
+        if !is_natural(value) {
+            return Some(Negative {
+                quantity: Quantity::Duration,
+                place,
+                value,
+            });
+        }
+    }
+    None
+}
+
+/// The first duration or use below 0, or the limit.
+fn cumulative(view: &ArgumentView<'_, '_>) -> Option<Negative>
+    ensures { IfSome result
+        (IsNegative builtin.FznCumulative (assigned view.now) (arguments_of view.now)) }
+{
+    let (starts, lengths, uses) = (view.elements(0), view.elements(1), view.elements(2));
+    for place in 0..starts.len().min(lengths.len()).min(uses.len()) {
+        let length = stretch_at(&starts, &lengths, place).length;
+        let need = uses.int(place);
+        if !is_natural(length) {
+            return Some(Negative {
+                quantity: Quantity::Duration,
+                place,
+                value: length,
+            });
+        }
+        if !is_natural(need) {
+            return Some(Negative {
+                quantity: Quantity::Use,
+                place,
+                value: need,
+            });
+        }
+        if !is_natural(view.int(3)) {
+            return Some(Negative {
+                quantity: Quantity::Limit,
+                place: 0,
+                value: view.int(3),
+            });
+        }
+    }
+    None
+}
+
+/// The first number of things below 0, or the weight, or the profit.
+fn knapsack(view: &ArgumentView<'_, '_>) -> Option<Negative>
+    ensures { IfSome result
+        (IsNegative builtin.FznKnapsack (assigned view.now) (arguments_of view.now)) }
+{
+    if !adds_up(view) {
+        return None;
+    }
+    let numbers = view.elements(2);
+    for place in 0..numbers.len() {
+        let value = numbers.int(place);
+        if !is_natural(value) {
+            return Some(Negative {
+                quantity: Quantity::Number,
+                place,
+                value,
+            });
+        }
+    }
+    let (quantity, value) = if is_natural(view.int(3)) {
+        (Quantity::Profit, view.int(4))
+    } else {
+        (Quantity::Weight, view.int(3))
+    };
+    if is_natural(value) {
+        return None;
+    }
+    Some(Negative {
+        quantity,
+        place: 0,
+        value,
+    })
+}
+
+/// A number of neighbours below 0.
+fn sliding_sum(view: &ArgumentView<'_, '_>) -> Option<Negative>
+    ensures { IfSome result
+        (IsNegative builtin.FznSlidingSum (assigned view.now) (arguments_of view.now)) }
+{
+    let value = view.int(2);
+    if is_natural(value) {
+        return None;
+    }
+    Some(Negative {
+        quantity: Quantity::Width,
+        place: 0,
+        value,
+    })
+}
+
+fn is_natural(number: i64) -> bool
+    ensures { result ≡ is_natural number }
+{
+    0 <= number
+}
