@@ -72,11 +72,11 @@ front_ended : (bytes : List ℕ) (xs body last : List Line) → body ≢ []
 front_ended bytes xs [] last some e = absurd (some refl)
 front_ended bytes xs (y ∷ body) last some e = ended_before bytes xs y (body ++ last) e
 
-half_claim : {limits : Limits} → (text : List ℕ) (last : List Line) → CannotEnd limits text last
+half_claim : (limits : Limits) (text : List ℕ) (last : List Line) → CannotEnd limits text last
     → IsNoneOrClaim (first_kind last) → IsHalfClaim last
-half_claim text [] cannot claim = tt
-half_claim text (line ∷ []) cannot claim = (cannot.0, claim)
-half_claim text (line ∷ next ∷ lines) cannot claim = cannot
+half_claim limits text [] cannot claim = tt
+half_claim limits text (line ∷ []) cannot claim = (cannot.0, claim)
+half_claim limits text (line ∷ next ∷ lines) cannot claim = cannot
 
 module _ {limits : Limits} (given : List ℕ) (frames : List Frame) (span : Span)
     (b : BreaksAfter limits CannotEnd given frames (stream.Unfinished span)) where
@@ -115,7 +115,7 @@ module _ {limits : Limits} (given : List ℕ) (frames : List Frame) (span : Span
     front_is = refl;
     begun = b.begun;
     own = b.covers.own;
-    half = half_claim (joined b.body) b.rest b.breaks b.tells.0;
+    half = half_claim limits (joined b.body) b.rest b.breaks b.tells.0;
     start_is = b.tells.1 ∙ sym (two_parts b.covers.covered b.gap);
     end_is = omega (arith, b.tells.2, two_parts b.covers.covered b.gap);
   }

@@ -39,7 +39,7 @@ none_is None n = refl
 none_is (Some x) n = absurd (n refl)
 
 -- what `feed` promises, from what the splitter's own promises
-module _ {limits : Limits} (old : ReaderState) (s : SplitterState) (p : PiecesState) (view : record { splitter = s; pieces = p } ≡ old) (new : ReaderState) (piece : List ℕ) (n : ℕ) (is : piece ≡ p.pending)
+module _ (old : ReaderState) (s : SplitterState) (p : PiecesState) (view : record { splitter = s; pieces = p } ≡ old) (new : ReaderState) (piece : List ℕ) (n : ℕ) (is : piece ≡ p.pending)
     (fed : (bytes : List ℕ) (frames : List Frame) → Fits s bytes frames → Fits new.splitter (bytes ++ take n piece) (frames ++ frames_in new.splitter.waits)) (taken : new.pieces.pending ≡ drop n p.pending) (most : new.splitter.taken ≤ most_taken) where
   pending : piece ≡ old.pieces.pending
   pending = is ∙ ap (λ (t : ReaderState). t.pieces.pending) view
@@ -47,7 +47,7 @@ module _ {limits : Limits} (old : ReaderState) (s : SplitterState) (p : PiecesSt
   behind : new.pieces.pending ≡ drop n piece
   behind = taken ∙ ap (drop n) (sym is)
 
-  module _ (given : List ℕ) (parts : List StreamPart) (h : HasRead limits old given parts) where
+  module _ {limits : Limits} (given : List ℕ) (parts : List StreamPart) (h : HasRead limits old given parts) where
     fits_next : Fits new.splitter (h.taken ++ take n piece) (map frame_of parts ++ frames_in new.splitter.waits)
     fits_next = fed h.taken (map frame_of parts) (subst (λ t. Fits t h.taken (map frame_of parts)) (sym (ap (λ (t : ReaderState). t.splitter) view)) h.fits)
 
@@ -130,24 +130,24 @@ cutting_fault stream.Failed h = absurd h
 cutting_fault _ h = tt
 
 -- why the stream is refused, as it is told
-pub unread : {limits : Limits} → (ending : Ending) (left : Option (List ℕ)) (given : List ℕ)
+pub unread : (limits : Limits) (ending : Ending) (left : Option (List ℕ)) (given : List ℕ)
     (parts : List StreamPart) (e : StreamError) → (e ≢ stream.Memory → IsStreamFault e)
     → (e ≢ stream.Memory → IsRefusedBy limits ending left given parts e)
     → IsUnread limits ending left given parts (stream_refusal e)
-unread ending left given parts stream.Memory fault why = tt
-unread ending left given parts stream.TooLong fault why =
+unread limits ending left given parts stream.Memory fault why = tt
+unread limits ending left given parts stream.TooLong fault why =
     let n : stream.TooLong ≢ stream.Memory = λ m. cc in
     (fault n, n, why n)
-unread ending left given parts (stream.Item f) fault why =
+unread limits ending left given parts (stream.Item f) fault why =
     let n : stream.Item f ≢ stream.Memory = λ m. cc in
     (fault n, n, why n)
-unread ending left given parts (stream.DuplicateName s) fault why =
+unread limits ending left given parts (stream.DuplicateName s) fault why =
     let n : stream.DuplicateName s ≢ stream.Memory = λ m. cc in
     (fault n, n, why n)
-unread ending left given parts (stream.Unfinished s) fault why =
+unread limits ending left given parts (stream.Unfinished s) fault why =
     let n : stream.Unfinished s ≢ stream.Memory = λ m. cc in
     (fault n, n, why n)
-unread ending left given parts stream.Failed fault why =
+unread limits ending left given parts stream.Failed fault why =
     let n : stream.Failed ≢ stream.Memory = λ m. cc in
     (fault n, n, why n)
 
@@ -162,8 +162,8 @@ pub ended_refused : {limits : Limits} → (ending : Ending) (left : Option (List
     (parts : List StreamPart) (e : StreamError) → IsCuttingFault e × (e ≢ stream.TooLong)
     → IsAtEnd left → IsBrokenAtEndAfter limits given parts e
     → IfErr (broken_end ending e) (IsUnread limits ending left given parts)
-ended_refused Whole left given parts e fault end broken =
-    unread Whole left given parts e (λ _. cutting_fault e fault.0) (λ _. inr (end, broken))
+ended_refused {limits} Whole left given parts e fault end broken =
+    unread limits Whole left given parts e (λ _. cutting_fault e fault.0) (λ _. inr (end, broken))
 ended_refused Cut left given parts (stream.Unfinished s) fault end broken = tt
 ended_refused Cut left given parts stream.Memory fault end broken = tt
 ended_refused Cut left given parts stream.TooLong fault end broken = absurd (fault.1 refl)
@@ -283,7 +283,7 @@ module _ {limits : Limits} (s : ReaderState) (left : Option (List ℕ)) (given :
       → (e ≢ stream.Memory → e ≢ stream.Failed → (bytes : List ℕ) (frames : List Frame) → EndsWith t.waits bytes frames → BreaksAfter t.limits CannotEnd bytes frames e)
       → (ending : Ending) → IsUnread limits ending left given parts (stream_refusal e)
   refused_next t same e fault failed broken broken_at_end ending =
-      unread ending left given parts e (λ _. fault not_failed) why
+      unread limits ending left given parts e (λ _. fault not_failed) why
     where
       under : t.limits ≡ limits
       under = sym (ap (λ u. u.limits) same) ∙ n.under

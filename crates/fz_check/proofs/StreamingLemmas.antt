@@ -120,15 +120,15 @@ module _ {limits : Limits} (ending : Ending) (claims : Claims) (text : Event →
     stops_for (errors.Names e) why = absurd why
 
 -- the stream is refused
-unread_ends : {limits : Limits} → (ending : Ending) (m : Model) (left : Option (List ℕ)) (given : List ℕ) (parts : List StreamPart)
+unread_ends : (limits : Limits) (ending : Ending) (m : Model) (left : Option (List ℕ)) (given : List ℕ) (parts : List StreamPart)
     (e : CheckError) → IsUnread limits ending left given parts e → EndsFor limits ending m left given parts e
-unread_ends ending m left given parts (errors.Stream e) u = u
-unread_ends ending m left given parts errors.Memory u = tt
-unread_ends ending m left given parts errors.Read u = absurd u
-unread_ends ending m left given parts errors.Write u = tt
-unread_ends ending m left given parts (errors.Model e) u = u
-unread_ends ending m left given parts (errors.Names e) u = u
-unread_ends ending m left given parts (errors.Block n e) u = absurd u
+unread_ends limits ending m left given parts (errors.Stream e) u = u
+unread_ends limits ending m left given parts errors.Memory u = tt
+unread_ends limits ending m left given parts errors.Read u = absurd u
+unread_ends limits ending m left given parts errors.Write u = tt
+unread_ends limits ending m left given parts (errors.Model e) u = u
+unread_ends limits ending m left given parts (errors.Names e) u = u
+unread_ends limits ending m left given parts (errors.Block n e) u = absurd u
 
 -- the next part is
 untold_ends : {limits : Limits} → (ending : Ending) (m : Model) (left : Option (List ℕ)) (given : List ℕ) (parts : List StreamPart)
@@ -162,7 +162,7 @@ module _ {limits : Limits} (ending : Ending) (claims : Claims) (text : Event →
       → ((left : Option (List ℕ)) (given : List ℕ) (parts : List StreamPart) → StandsAt limits s left given parts → IsUnread limits ending left given parts e)
       → StopsOnceWritten limits ending claims text c m left left' w w' lines e
   living_unread e unread =
-      stops_for ending claims text c m reads j left left' w w' lines l.given l.consumes so_few l.parts l.outcomes l.told inside l.gathered e (unread_ends ending m left' l.given l.parts e (unread left' l.given l.parts l.stands))
+      stops_for ending claims text c m reads j left left' w w' lines l.given l.consumes so_few l.parts l.outcomes l.told inside l.gathered e (unread_ends limits ending m left' l.given l.parts e (unread left' l.given l.parts l.stands))
 
   -- one more part is told
   module _ (next : ReaderState) (going : s.splitter.stage ≢ Finished)
@@ -177,7 +177,7 @@ module _ {limits : Limits} (ending : Ending) (claims : Claims) (text : Event →
     living_untold e leaves =
         let f = more left' l.given l.parts l.stands in
         let why : EndsFor limits ending m left' l.given l.parts e =
-        ⊎_elim (unread_ends ending m left' l.given l.parts e) (λ p. untold_ends ending m left' l.given l.parts p.0 e (stands_inside next left' l.given (l.parts ++ p.0 ∷ []) p.1) p.2)
+        ⊎_elim (unread_ends limits ending m left' l.given l.parts e) (λ p. untold_ends ending m left' l.given l.parts p.0 e (stands_inside next left' l.given (l.parts ++ p.0 ∷ []) p.1) p.2)
         (leaves limits ending claims c m left' l.given l.parts f.0 l.outcomes f.1 l.told) in
         stops_for ending claims text c m reads j left left' w w' lines l.given l.consumes so_few l.parts l.outcomes l.told inside l.gathered e why
 
