@@ -1,6 +1,6 @@
 -- A row fails by each of its reasons.
-use Rattle.std.proofs.Common.{◌≡◌, ℤ, Bool, true, false, not, ◌&&◌, ◌||◌, List, Some, int_le, int_lt, refl, sym, ap, ◌∙◌, map}
-use Rattle.std.specs.List.{list_all, list_any, zip}
+use Rattle.std.proofs.Common.{◌≡◌, ℤ, false, not, ◌&&◌, ◌||◌, List, Some, int_le, refl, sym, ap, ◌∙◌, map}
+use Rattle.std.specs.List.{list_all, list_any}
 use Rattle.std.specs.FinSet as sets
 use Rattle.std.proofs.lemmas.Option.{none-some, same_Some}
 use Rattle.fz_builtins.specs.of_meaning.declared.builtin.Builtin.{Builtin}
@@ -8,7 +8,7 @@ use Rattle.fz_builtins.specs.of_meaning.declared.builtin.Builtin.TheVariants as 
 use Rattle.fz_builtins.specs.of_meaning.declared.kind.Kind.TheVariants.{Int as IntKind, Bool as BoolKind}
 use Rattle.fz_builtins.specs.of_meaning.Builtins.{row_at}
 use Rattle.fz_builtins.specs.of_meaning.Meaning.{Argument, Partial}
-use Rattle.fz_builtins.specs.of_meaning.Relations.{◌=ℤ◌, ◌=ᴮ◌, ◌=ˢ◌, all_pairs, are_disjoint, as_number, count_of, counts_are, counts_lie, element_at, all_both, all_neighbours, is_among, is_closed, is_nonzero, is_odd, union_of}
+use Rattle.fz_builtins.specs.of_meaning.Relations.{◌=ℤ◌, ◌=ᴮ◌, ◌=ˢ◌, as_number, count_of, counts_are, counts_lie, all_both, all_neighbours, is_among, is_closed, is_nonzero, union_of}
 use Rattle.fz_builtins.specs.of_kernel.Given.{bool_at, bools_at, int_at, ints_at, set_at, sets_at}
 use Rattle.fz_builtins.specs.Outcomes.{row_outcome, sum_outcome}
 use Rattle.fz_builtins.specs.declared.outcome.Outcome.{Outcome}
@@ -17,10 +17,10 @@ use Rattle.fz_builtins.specs.Said.{is_result}
 use Rattle.fz_builtins.proofs.Rows.{holds_at, same_int_either_way}
 use Rattle.fz_reasons.specs.Compared.{comparison, leave, operands}
 use Rattle.fz_reasons.specs.Relating.{relates}
-use Rattle.fz_reasons.specs.Elements.{AreUnlike, IsClash, IsCount, IsOutside, IsShared}
+use Rattle.fz_reasons.specs.Elements.{AreUnlike, IsCount, IsOutside}
 use Rattle.fz_reasons.specs.Reasons.{AreSame, Clashes, Counts, HasEven, HasNoLiteral, HasOtherNumber, HasOtherTruth, LiesOutside, NotListed, RowsFail, Says, Unlike, element_kind, neighbours_of, numbers_at}
 use Rattle.fz_reasons.proofs.Arranging.{arranged_fails}
-use Rattle.fz_reasons.proofs.Lists.{and_false, both_fail, neighbours_fail, one_fails, pair_fails, zipped}
+use Rattle.fz_reasons.proofs.Lists.{and_false, both_fail, neighbours_fail, one_fails}
 use Rattle.fz_reasons.proofs.BelowZero.{negative_fails}
 use Rattle.fz_reasons.proofs.Numbers.{clash, clash_of_kept}
 use Rattle.fz_reasons.proofs.Truths.{at_most, below, truth_neighbours}
@@ -38,7 +38,6 @@ use Rattle.fz_reasons.specs.declared.reason.Element.{Element}
 use Rattle.fz_reasons.specs.declared.reason.OtherNumber.{OtherNumber}
 use Rattle.fz_reasons.specs.declared.reason.OtherTruth.{OtherTruth}
 use Rattle.fz_reasons.specs.declared.reason.Sides.{Sides}
-use Rattle.fz_reasons.specs.declared.reason.Reason.{Reason}
 use Rattle.fz_reasons.specs.declared.reason.Reason.TheVariants as reasons
 
 -- ---- two sides

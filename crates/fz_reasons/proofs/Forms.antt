@@ -1,5 +1,5 @@
 -- A row or a form of it fails where it is so why.
-use Rattle.std.proofs.Common.{◌≡◌, Bool, true, false, List, length, refl, ap, ◌∙◌}
+use Rattle.std.proofs.Common.{◌≡◌, true, false, List, ◌∙◌}
 use Rattle.fz_builtins.specs.of_meaning.declared.known.Form.{Form}
 use Rattle.fz_builtins.specs.of_meaning.declared.known.Form.TheVariants.{Base, Reified, Implied}
 use Rattle.fz_builtins.specs.of_meaning.declared.builtin.Builtin.{Builtin}
@@ -7,7 +7,6 @@ use Rattle.fz_builtins.specs.of_meaning.Builtins.{row_at}
 use Rattle.fz_builtins.specs.of_meaning.Known.{form_at}
 use Rattle.fz_builtins.specs.of_meaning.Meaning.{Argument, Partial}
 use Rattle.fz_builtins.specs.Outcomes.{compared, implied_by, row_outcome}
-use Rattle.fz_builtins.specs.declared.outcome.Outcome.{Outcome}
 use Rattle.fz_builtins.specs.declared.outcome.Outcome.TheVariants.{Truth}
 use Rattle.fz_model.proofs.FormOutcomes.{implied_outcome, reified_outcome}
 use Rattle.fz_reasons.specs.Forms.{FormsFail, IsAsked, IsForbidden, control}

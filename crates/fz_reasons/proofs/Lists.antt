@@ -1,9 +1,8 @@
 -- An element, or two, with which a test of a whole list fails.
-use Rattle.std.proofs.Common.{◌≡◌, ℕ, zero, suc, ◌<◌, ℤ, Bool, true, false, not, ◌&&◌, ◌||◌, List, [], ◌∷◌, Some, slice_get, refl, sym, ap, subst, ◌∙◌, arith}
-use Rattle.std.specs.List.{list_all, list_any, filter, zip}
-use Rattle.std.specs.Prelude.{cond}
+use Rattle.std.proofs.Common.{◌≡◌, ℕ, zero, suc, ◌<◌, Bool, true, false, ◌&&◌, ◌||◌, List, [], ◌∷◌, Some, slice_get, refl, ap, ◌∙◌, arith}
+use Rattle.std.specs.List.{list_all, list_any, zip}
 use Rattle.std.proofs.lemmas.Option.{none-some, same_Some}
-use Rattle.fz_builtins.specs.of_meaning.Relations.{◌=ℤ◌, all_both, all_different, all_neighbours, all_pairs, is_among}
+use Rattle.fz_builtins.specs.of_meaning.Relations.{all_both, all_neighbours, all_pairs}
 
 pub and_false : (p : Bool) → (p && false) ≡ false
 and_false true = refl

@@ -1,5 +1,5 @@
 -- Sets that differ in one number.
-use Rattle.std.proofs.Common.{◌≡◌, ℤ, Bool, true, false, not, ◌&&◌, ◌||◌, refl, sym, ap, subst, ◌∙◌, true≢false, int_cmp}
+use Rattle.std.proofs.Common.{◌≡◌, ℤ, Bool, true, false, not, ◌&&◌, ◌||◌, refl, sym, ap, ◌∙◌, true≢false, int_cmp}
 use Rattle.std.specs.FinSet.{contains, difference, empty, intersection, is_subset, union, contains-difference, contains-empty, contains-intersection, contains-union, is_subset-contains}
 use Rattle.std.specs.Cmp.{int_cmp_total}
 use Rattle.fz_base.specs.Sets.{NumberSet, symmetric_difference}

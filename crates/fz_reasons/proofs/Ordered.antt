@@ -1,5 +1,5 @@
 -- Rows of orders, successors, automata and tables fail by their reasons.
-use Rattle.std.proofs.Common.{◌≡◌, ℕ, suc, zero, ◌+◌, ◌<◌, ℤ, pos, negsuc, ◌+ℤ◌, ◌-ℤ◌, Bool, true, false, not, ◌&&◌, ◌||◌, List, [], ◌∷◌, Option, None, Some, map, option_map, slice_get, int_le, int_lt, refl, sym, ap, ◌∙◌, true≢false, arith}
+use Rattle.std.proofs.Common.{◌≡◌, ℕ, suc, zero, ◌<◌, ℤ, pos, negsuc, ◌+ℤ◌, ◌-ℤ◌, Bool, true, false, not, ◌&&◌, List, [], ◌∷◌, Option, None, Some, map, option_map, slice_get, int_le, int_lt, refl, sym, ap, ◌∙◌, true≢false, arith}
 use Rattle.std.specs.Option.{option_map_or}
 use Rattle.std.specs.FinSet as sets
 use Rattle.std.proofs.lemmas.Int.{ints}
@@ -14,7 +14,7 @@ use Rattle.fz_builtins.specs.Outcomes.{row_outcome}
 use Rattle.fz_builtins.specs.declared.outcome.Outcome.TheVariants as outcomes
 use Rattle.fz_builtins.specs.of_meaning.Relations.{◌=ℤ◌, as_number, as_places, element_at, is_before, is_same_list, leads_back, lies_between, precedes, rises_by_one}
 use Rattle.fz_builtins.specs.of_kernel.Given.{bools_at, int_at, ints_at, set_at, sets_at}
-use Rattle.fz_reasons.specs.Elements.{HasNoStep, IsDifference, IsEarly, IsOneWay, agree, comes_before, differ}
+use Rattle.fz_reasons.specs.Elements.{IsEarly, IsOneWay, agree, comes_before, differ}
 use Rattle.fz_reasons.specs.Reasons.{ComesEarly, Differs, Ends, IsNearRow, LeadsOneWay, Stops}
 use Rattle.fz_globals.proofs.Ascending.{form_is}
 use Rattle.fz_reasons.proofs.Channels.{in_no_set, no_index_of}

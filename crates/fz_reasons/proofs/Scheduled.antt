@@ -1,5 +1,5 @@
 -- Rows of tasks, boxes and bins fail by their reasons.
-use Rattle.std.proofs.Common.{◌≡◌, ℕ, ◌+◌, ◌<◌, ℤ, pos, Bool, false, ◌&&◌, ◌||◌, List, Some, slice_get, length, int_le, nat_eq, refl, sym, ap, subst, ◌∙◌}
+use Rattle.std.proofs.Common.{◌≡◌, ℕ, ℤ, pos, false, ◌&&◌, ◌||◌, List, Some, slice_get, length, int_le, nat_eq, sym, ap, subst, ◌∙◌}
 use Rattle.std.specs.List.{list_all, zip}
 use Rattle.fz_builtins.specs.of_meaning.declared.builtin.Builtin.{Builtin}
 use Rattle.fz_builtins.specs.of_meaning.declared.builtin.Builtin.TheVariants as builtin
@@ -7,9 +7,9 @@ use Rattle.fz_builtins.specs.of_meaning.Builtins.{row_at}
 use Rattle.fz_builtins.specs.of_meaning.Meaning.{Argument, Partial}
 use Rattle.fz_builtins.specs.Outcomes.{row_outcome}
 use Rattle.fz_builtins.specs.declared.outcome.Outcome.TheVariants as outcomes
-use Rattle.fz_builtins.specs.of_meaning.Relations.{◌=ℤ◌, all_pairs, are_apart, boxes, has_no_area, is_cumulative, is_empty_span, is_natural, last_naturally, lie_apart, load_of, used_at}
+use Rattle.fz_builtins.specs.of_meaning.Relations.{◌=ℤ◌, all_pairs, are_apart, boxes, has_no_area, is_empty_span, is_natural, last_naturally, lie_apart, load_of, used_at}
 use Rattle.fz_builtins.specs.of_kernel.Given.{int_at, ints_at}
-use Rattle.fz_reasons.specs.Elements.{AreBoxes, BothLast, IsBin, IsLoad, IsMore, IsOverlap, IsStretch, is_empty, span}
+use Rattle.fz_reasons.specs.Elements.{AreBoxes, BothLast, IsMore, IsStretch, span}
 use Rattle.fz_reasons.specs.Reasons.{Bins, BoxesOverlap, Loads, Overlaps}
 use Rattle.fz_reasons.specs.Relating.{relates}
 use Rattle.fz_reasons.proofs.Lists.{and_false, one_fails, pair_fails, zipped}

@@ -1,5 +1,5 @@
 -- Booleans compared as 0 and 1.
-use Rattle.std.proofs.Common.{◌≡◌, ℤ, Bool, true, false, not, ◌&&◌, ◌||◌, List, [], ◌∷◌, map, int_le, int_lt, refl, ap, ◌∙◌}
+use Rattle.std.proofs.Common.{◌≡◌, ℤ, Bool, true, false, not, ◌&&◌, ◌||◌, List, [], ◌∷◌, map, int_le, int_lt, refl}
 use Rattle.fz_builtins.specs.of_meaning.Relations.{◌=ℤ◌, ◌=ᴮ◌, all_neighbours, as_number, is_before}
 
 pub at_most : (a b : Bool) → (not a || b) ≡ int_le (as_number a) (as_number b)

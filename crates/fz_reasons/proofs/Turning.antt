@@ -1,13 +1,13 @@
 -- Lists of successors that turn too early or lead one way, runs of automata that stop, and lists
 -- that differ.
-use Rattle.std.proofs.Common.{◌≡◌, ℕ, zero, suc, ◌+◌, ◌<◌, ℤ, pos, negsuc, ◌+ℤ◌, ◌-ℤ◌, Bool, true, false, not, ◌&&◌, ◌||◌, List, [], ◌∷◌, Option, None, Some, length, slice_get, take, option_and_then, int_lt, refl, sym, ap, subst, ◌∙◌, is_eq, arith}
+use Rattle.std.proofs.Common.{◌≡◌, ℕ, zero, suc, ◌<◌, ℤ, pos, ◌+ℤ◌, Bool, true, false, ◌&&◌, ◌||◌, List, [], ◌∷◌, Option, None, Some, slice_get, take, option_and_then, refl, sym, ap, ◌∙◌, arith}
 use Rattle.std.specs.Option.{option_map_or}
 use Rattle.std.proofs.lemmas.Option.{none-some, same_Some}
 use Rattle.std.proofs.lemmas.Int.{ints}
 use Rattle.std.proofs.lemmas.Bool.Decides.{Decides-int_eq}
-use Rattle.fz_builtins.specs.of_meaning.Relations.{◌=ℤ◌, all_different, are_places, element_at, end_of_tour, is_before, is_circuit, leads_back, run, step, tour}
+use Rattle.fz_builtins.specs.of_meaning.Relations.{◌=ℤ◌, element_at, is_before, leads_back, run, step}
 use Rattle.fz_reasons.proofs.Lists.{and_false}
-use Rattle.fz_reasons.proofs.Numbers.{clash, itself}
+use Rattle.fz_reasons.proofs.Numbers.{itself}
 
 pub leads_off : (f g : List ℤ) (i : ℕ) (p x : ℤ) → slice_get f i ≡ Some x
     → option_map_or (λ y. y =ℤ (p +ℤ pos i)) (element_at g x) false ≡ false → leads_back p f g ≡ false

@@ -1,7 +1,7 @@
 -- What a reason says of rows over tours, bins, knapsacks and runs (this project's profile). Each
 -- kind of reason belongs to the rows that are listed with it; of another row it says nothing that
 -- can be so.
-use Rattle.std.specs.Prelude.{◌≡◌, ℤ, pos, false, List, [], ◌∷◌, length}
+use Rattle.std.specs.Prelude.{◌≡◌, pos, false, List, [], ◌∷◌, length}
 use Rattle.std.specs.List.{list_any}
 use Rattle.fz_builtins.specs.of_meaning.declared.builtin.Builtin.{Builtin}
 use Rattle.fz_builtins.specs.of_meaning.declared.builtin.Builtin.TheVariants as builtin

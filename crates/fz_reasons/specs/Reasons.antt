@@ -1,7 +1,7 @@
 -- What a reason says of the values of a constraint's arguments, and that from it the row fails
 -- (this project's profile). Each kind of reason belongs to the rows that are listed with it; of
 -- another row it says nothing that can be so.
-use Rattle.std.specs.Prelude.{◌≡◌, ◌+◌, ◌*◌, ◌+ℤ◌, ◌-ℤ◌, ℕ, ℤ, pos, Bool, true, false, not, ◌&&◌, ◌||◌, if◌then◌else◌, List, [], ◌∷◌, Option, None, Some, int_lt, length, map, nat_eq, slice_get}
+use Rattle.std.specs.Prelude.{◌≡◌, ◌+ℤ◌, ◌-ℤ◌, ℕ, ℤ, pos, Bool, true, false, not, ◌&&◌, ◌||◌, if◌then◌else◌, List, [], ◌∷◌, Option, None, Some, int_lt, length, map, nat_eq, slice_get}
 use Rattle.std.specs.List.{filter, list_any, zip}
 use Rattle.std.specs.Option.{option_map_or}
 use Rattle.std.specs.FinSet as sets

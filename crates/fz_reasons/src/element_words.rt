@@ -242,13 +242,13 @@ fn one_way_text(
     let value = found.value;
     match builtin {
         Builtin::GecodeIntSetChannel if found.of_first => {
-            let index = view.int(1).saturating_add(found.place as i64);
+            let index = i128::from(view.int(1)) + found.place as i128;
             format!(in alloc;
                 "the element with index {index} is {value}, and set {value} hasn't {index}"
             )
         }
         Builtin::GecodeIntSetChannel => {
-            let index = view.int(3).saturating_add(found.place as i64);
+            let index = i128::from(view.int(3)) + found.place as i128;
             match found.back {
                 Some(back) => {
                     format!(in alloc;

@@ -4,7 +4,7 @@ use Rattle.std.proofs.lemmas.Int.{to_z-of_z}
 use Rattle.fz_builtins.specs.of_meaning.Relations.{element_at}
 use Rattle.fz_builtins.specs.of_kernel.Given.{bools_of}
 use Rattle.fz_builtins.specs.of_kernel.Views.{bools}
-use Rattle.fz_builtins.specs.Readings.{int, truths}
+use Rattle.fz_builtins.specs.Readings.{truths}
 use Rattle.fz_builtins.proofs.of_kernel.Passed.{element_found, none_found}
 use Rattle.fz_builtins.proofs.of_kernel.Read.{bools_counted}
 use Rattle.fz_reasons.proofs.members.is_true_at.Goals as goal

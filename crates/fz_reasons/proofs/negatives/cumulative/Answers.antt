@@ -1,11 +1,10 @@
-use Rattle.std.proofs.Common.{◌≡◌, false, ◌∷◌, [], Some, if◌then◌else◌, length, map, nat_eq, slice_get, FitsSigned, w64, refl, sym, ap, ◌∙◌, rules}
+use Rattle.std.proofs.Common.{◌≡◌, false, ◌∷◌, [], if◌then◌else◌, length, map, nat_eq, slice_get, FitsSigned, w64, refl, sym, ap, ◌∙◌, rules}
 use Rattle.std.specs.List.{zip}
 use Rattle.std.proofs.lemmas.Int.{to_z-of_z}
 use Rattle.fz_builtins.specs.of_meaning.Builtins.{row_at}
 use Rattle.fz_builtins.specs.of_meaning.Relations.{Span, is_natural}
 use Rattle.fz_builtins.specs.of_kernel.Given.{ints_of}
 use Rattle.fz_builtins.specs.of_kernel.Views.{arguments_of, assigned, ints}
-use Rattle.fz_builtins.specs.Readings.{int, ints as ints_in}
 use Rattle.fz_reasons.specs.Reasons.{tasks}
 use Rattle.fz_reasons.proofs.Durations.{limit_counts, task_at, task_lasts, task_uses}
 use Rattle.fz_reasons.proofs.negatives.cumulative.Goals as goal
