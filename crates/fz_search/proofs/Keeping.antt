@@ -1,0 +1,35 @@
+-- What a point says of bounds is said of the known-solutions inside them.
+use Rattle.std.proofs.Common.{◌≡◌, ℕ, zero, suc, ◌<◌, List, [], ◌∷◌, length, Some, slice_get, refl, arith}
+use Rattle.fz_bounds.specs.Bounds.{IsInside, NumberNeverHolds, Ranges}
+use Rattle.fz_bounds.specs.of_model.Meaning.{Assignment, Model, Point, points, whole}
+use Rattle.fz_bounds.specs.of_model.States.{HoldsIfKnown, IsKnownSolution}
+use Rattle.fz_bounds.proofs.of_model.Lists.{at_place}
+use Rattle.fz_search.specs.Refuted.{HaveNoSolution, KeepSolutions}
+
+at_point : (ps : List Point) (k : ℕ) → k < length ps → (p : Point) × (slice_get ps k ≡ Some p)
+at_point [] k in_range = cc
+at_point (p ∷ ps) zero in_range = (p, refl)
+at_point (p ∷ ps) (suc k) in_range = at_point ps k (omega arith)
+
+-- a step of the point of a number loses no known-solution
+pub kept : (m : Model) (k : ℕ) (B C : Ranges) → k < length (points m)
+    → ((p : Point) → slice_get (points m) k ≡ Some p → (A : Assignment) → IsInside B A
+    → HoldsIfKnown (whole A) p → IsInside C A) → KeepSolutions m B C
+kept m k B C in_range step A solution inside =
+    let (p, at) = at_point (points m) k in_range in
+    step p at A inside (at_place (HoldsIfKnown (whole A)) (points m) k p solution.each_holds at)
+
+-- where the point of a number holds nowhere, there is none
+pub none : (m : Model) (k : ℕ) (B : Ranges) → k < length (points m) → NumberNeverHolds m k B
+    → HaveNoSolution m B
+none m k B in_range never A solution inside =
+    let (p, at) = at_point (points m) k in_range in
+    never p at A inside (at_place (HoldsIfKnown (whole A)) (points m) k p solution.each_holds at)
+
+pub kept_so : (m : Model) (B C D : Ranges) → KeepSolutions m B C → KeepSolutions m C D
+    → KeepSolutions m B D
+kept_so m B C D h g A solution inside = g A solution (h A solution inside)
+
+pub none_before : (m : Model) (B C : Ranges) → KeepSolutions m B C → HaveNoSolution m C
+    → HaveNoSolution m B
+none_before m B C h g A solution inside = g A solution (h A solution inside)
