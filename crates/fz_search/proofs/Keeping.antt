@@ -1,7 +1,10 @@
 -- What a point says of bounds is said of the known-solutions inside them.
-use Rattle.std.proofs.Common.{◌≡◌, ℕ, zero, suc, ◌<◌, List, [], ◌∷◌, length, Some, slice_get, refl, arith}
-use Rattle.fz_bounds.specs.Bounds.{IsInside, NumberNeverHolds, Ranges}
-use Rattle.fz_bounds.specs.of_model.Meaning.{Assignment, Model, Point, points, whole}
+use Rattle.std.proofs.Common.{◌≡◌, ℕ, zero, suc, ◌<◌, List, [], ◌∷◌, length, Some, slice_get, refl, arith, subst₂}
+use Rattle.fz_base.specs.declared.value.Value.{Value}
+use Rattle.fz_bounds.specs.Bounds.{IsInside, LiesBetween, NumberNeverHolds, Ranges, narrowed}
+use Rattle.fz_bounds.proofs.Giving.{given_there}
+use Rattle.fz_bounds.proofs.Inside.{inside_narrowed}
+use Rattle.fz_bounds.specs.of_model.Meaning.{Assignment, Model, Point, points, value_at, whole}
 use Rattle.fz_bounds.specs.of_model.States.{HoldsIfKnown, IsKnownSolution}
 use Rattle.fz_bounds.proofs.of_model.Lists.{at_place}
 use Rattle.fz_search.specs.Refuted.{HaveNoSolution, KeepSolutions}
@@ -33,3 +36,18 @@ kept_so m B C D h g A solution inside = g A solution (h A solution inside)
 pub none_before : (m : Model) (B C : Ranges) → KeepSolutions m B C → HaveNoSolution m C
     → HaveNoSolution m B
 none_before m B C h g A solution inside = g A solution (h A solution inside)
+
+pub none_lost : (m : Model) (B : Ranges) → KeepSolutions m B B
+none_lost m B A solution inside = inside
+
+-- A value is taken from a variable: no known-solution has it where none lies inside a copy of the
+-- bounds in which the variable has that value.
+pub lost : (m : Model) (B C D : Ranges) (n : ℕ) (v l h : Value) → value_at B.lowest n ≡ Some l
+    → value_at B.highest n ≡ Some h → ((A : Assignment) → IsInside B A → IsInside C A)
+    → HaveNoSolution m (narrowed C n v v)
+    → ((A : Assignment) → IsInside B A → (IsInside (narrowed B n v v) A → ⊥) → IsInside D A)
+    → KeepSolutions m B D
+lost m B C D n v l h low high copied none taken A solution inside =
+    taken A inside (λ there.
+      let is : LiesBetween (Some v) (Some v) (value_at (whole A) n) = subst₂ (λ o p. LiesBetween o p (value_at (whole A) n)) (given_there B.lowest n v l low) (given_there B.highest n v h high) (there n) in
+      none A solution (inside_narrowed C A n v v (copied A inside) is))
