@@ -4,8 +4,11 @@ use Rattle.std.specs.List.{list_any}
 use Rattle.std.specs.Option.{option_map_or}
 use Rattle.fz_base.specs.declared.value.Value.{Value}
 use Rattle.fz_judge.specs.of_model.Meaning.{Model, Partial, Point, points, value_at}
+use Rattle.fz_judge.specs.of_model.Aimed.{GivesAny}
 use Rattle.fz_judge.specs.of_model.Steps.{Gives, terms_of}
-use Rattle.fz_judge.specs.Filling.{Chain, givers}
+use Rattle.fz_judge.specs.declared.completion.Completion.{Completion}
+use Rattle.fz_judge.specs.declared.completion.Completion.TheVariants.{Off, On}
+use Rattle.fz_judge.specs.Filling.{AreSteps}
 use Rattle.fz_judge.specs.of_model.declared.Term.{Term}
 use Rattle.fz_judge.specs.of_model.declared.Term.TheVariants.{Var, Fixed}
 use Rattle.fz_explain.specs.declared.source.Source.{Source}
@@ -24,11 +27,16 @@ source_of F steps n = option_map_or
     (λ v. option_map_or (λ k. sources.Given k) (giver_of steps n) sources.Printed)
     (value_at F n) sources.Nothing
 
--- ---- what that means, where the steps are those of a chain
+-- ---- what that means, where the steps are those of a filling
+
+-- the point gives the variable the value, as it does for the filling of a block
+abbrev pub IsGivenBy : Completion → Model → Partial → Point → ℕ → Value → Type 0
+IsGivenBy Off m K p n v = Gives m K p n v
+IsGivenBy On m K p n v = GivesAny m K p n v
 
 -- The point of the number gave the variable the value, from the values before the step. These stay
 -- in the filling, and each is printed or was given by a step before this one.
-pub record IsGivenBefore (m : Model) (F : Partial) (steps : List (ℕ × ℕ)) (n k : ℕ)
+pub record IsGivenBefore (c : Completion) (m : Model) (F : Partial) (steps : List (ℕ × ℕ)) (n k : ℕ)
     (v : Value) : Type 0 where
   pub before : List (ℕ × ℕ)
   pub after : List (ℕ × ℕ)
@@ -36,21 +44,23 @@ pub record IsGivenBefore (m : Model) (F : Partial) (steps : List (ℕ × ℕ)) (
   pub point : Point
   pub at : slice_get (points m) k ≡ Some point
   pub values : Partial
-  pub gives : Gives m values point n v
+  pub gives : IsGivenBy c m values point n v
   pub earlier : (j : ℕ) (w : Value) → value_at values j ≡ Some w
       → (value_at F j ≡ Some w) × (source_of F steps j ≡ source_of values before j)
 
--- what is told of a value is true, where a chain goes from the printed values to the filling
-abbrev pub IsTrueSource : Model → Partial → Partial → List (ℕ × ℕ) → ℕ → Value → Source → Type 0
-IsTrueSource m K F steps n v sources.Printed = value_at K n ≡ Some v
-IsTrueSource m K F steps n v (sources.Given k) = IsGivenBefore m F steps n k v
-IsTrueSource m K F steps n v sources.Nothing = ⊥
+-- what is told of a value is true, where the steps go from the printed values to the filling
+abbrev pub IsTrueSource : Completion → Model → Partial → Partial → List (ℕ × ℕ) → ℕ → Value
+    → Source → Type 0
+IsTrueSource c m K F steps n v sources.Printed = value_at K n ≡ Some v
+IsTrueSource c m K F steps n v (sources.Given k) = IsGivenBefore c m F steps n k v
+IsTrueSource c m K F steps n v sources.Nothing = ⊥
 
 -- the contract of `sources_are_earlier`: who goes from a value to those that it was given from, and
 -- on from these, ends at printed ones
 abbrev pub SourcesAreEarlier : Type 0
-SourcesAreEarlier = (m : Model) (K F : Partial) (c : Chain m K 0 F) (n : ℕ) (v : Value)
-    → value_at F n ≡ Some v → IsTrueSource m K F (givers c) n v (source_of F (givers c) n)
+SourcesAreEarlier = (c : Completion) (m : Model) (K F : Partial) (steps : List (ℕ × ℕ))
+    → AreSteps c m K F steps → (n : ℕ) (v : Value) → value_at F n ≡ Some v
+    → IsTrueSource c m K F steps n v (source_of F steps n)
 
 -- ---- the variables of a point
 

@@ -29,7 +29,7 @@ abbrev pub HasNone : Model → Block → Type 0
 HasNone m block = (A : Assignment) → IsKnownSolution m A → Extends m A block → ⊥
 
 -- the fault of a point isn't that the objective is not better
-abbrev IsPointFault : Fault → Type 0
+abbrev pub IsPointFault : Fault → Type 0
 IsPointFault f = (now before : ℤ) → f ≡ NotBetter now before → ⊥
 
 named_is_point : (n : PointName) → IsPointFault (fault_named n)

@@ -23,6 +23,7 @@ pub mod Runs
 pub mod Noting
 pub mod Furthering
 pub mod Lasting
+pub mod Refuting
 pub use Rattle.fz_search.proofs.of_model
 pub use Rattle.fz_stream.proofs as of_stream
 pub use Rattle.fz_stream.proofs.of_syntax

@@ -115,7 +115,7 @@ points_hold A F ps under h = none_first (point_fails F) ps (all_map (HoldsIfKnow
 -- ---- what is printed has its value in the filling
 
 -- a step takes no value away
-given_grows : (K : Partial) (n : ℕ) (v : Value) → value_at K n ≡ None → HasEach K (give K n v)
+pub given_grows : (K : Partial) (n : ℕ) (v : Value) → value_at K n ≡ None → HasEach K (give K n v)
 given_grows K n v none = λ k u e. value_at_other K n k v (λ same. none_some k u same e) ∙ e
   where
     none_some : (k : ℕ) (u : Value) → k ≡ n → value_at K k ≡ Some u → ⊥

@@ -104,3 +104,9 @@ pub record IsFurthered (m : Model) (F G : Partial) : Type 0 where
 abbrev pub IsFilling : Completion → Model → Block → Partial → Type 0
 IsFilling Off m block F = Chain m (start m block) 0 F
 IsFilling On m block G = (F : Partial) × Chain m (start m block) 0 F × IsFurthered m F G
+
+-- the steps from the start to a filling: those of the chain, and those of the second filling behind
+abbrev pub AreSteps : Completion → Model → Partial → Partial → List (ℕ × ℕ) → Type 0
+AreSteps Off m K F steps = (c : Chain m K 0 F) × (steps ≡ givers c)
+AreSteps On m K G steps = (F : Partial) × (c : Chain m K 0 F) × (r : Further m F G)
+    × (steps ≡ givers c ++ further_givers r)

@@ -2,20 +2,16 @@
 use Rattle.std.specs.Prelude.{◌≡◌, ℕ, List, ◌++◌, map}
 use Rattle.fz_search.specs.of_model.Meaning.{Model, Partial}
 use Rattle.fz_judge.specs.declared.completion.Completion.{Completion}
-use Rattle.fz_judge.specs.declared.completion.Completion.TheVariants.{Off, On}
-use Rattle.fz_judge.specs.Filling.{Chain, Further, further_givers, givers}
+use Rattle.fz_judge.specs.Filling.{AreSteps, Further, further_givers}
 use Rattle.fz_judge.specs.declared.steps.Giver.{Giver}
 
 -- a step's variable and point
 abbrev pub giver_view : Giver → ℕ × ℕ
 giver_view g = (g.variable, g.point)
 
--- The steps are those of the chain that goes from the one partial assignment to the other; where
--- values are looked for, those of the second filling come behind them.
+-- the steps are those from the one partial assignment to the other
 abbrev pub AreGivers : Completion → Model → Partial → Partial → List Giver → Type 0
-AreGivers Off m K F gs = (c : Chain m K 0 F) × (map giver_view gs ≡ givers c)
-AreGivers On m K G gs = (F : Partial) × (c : Chain m K 0 F) × (r : Further m F G)
-    × (map giver_view gs ≡ givers c ++ further_givers r)
+AreGivers c m K F gs = AreSteps c m K F (map giver_view gs)
 
 -- further steps were taken, and are told behind those before
 abbrev pub AddsSteps : Model → Partial → Partial → List Giver → List Giver → Type 0

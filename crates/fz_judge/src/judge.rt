@@ -307,7 +307,7 @@ impl<'m, 'a> Judge<'m, 'a> {
         ensures same { self.new ≡ self.old }
     {
         match refuted(alloc, self.model, filling, &mut self.search)? {
-            Some(number) => Ok(Some(fault_named(self.model.point(number)))),
+            Some(found) => Ok(Some(fault_named(self.model.point(found.point)))),
             None => Ok(None),
         }
     }

@@ -1,14 +1,14 @@
 -- A constraint that is taken as one whose defined variable is a variable without a value in it.
-use Rattle.std.proofs.Common.{◌≡◌, ℕ, zero, suc, List, [], ◌∷◌, flat_map, IsSomeAnd, Option, Some, None, sym, ap, subst, ◌∙◌, ◌⊎◌, inl, inr, arith}
+use Rattle.std.proofs.Common.{◌≡◌, ℕ, zero, suc, List, [], ◌∷◌, flat_map, IsSomeAnd, Option, Some, None, Result, Ok, Err, IfOk, IfSome, slice_get, sym, ap, subst, ◌∙◌, ◌⊎◌, inl, inr, arith}
 use Rattle.std.specs.List.{Contains}
 use Rattle.fz_base.specs.declared.value.Value.{Value}
 use Rattle.fz_builtins.specs.of_meaning.declared.term.Term.{Term}
 use Rattle.fz_builtins.specs.of_meaning.declared.term.Term.TheVariants.{Var}
-use Rattle.fz_builtins.specs.of_meaning.Meaning.{Model, Partial, Posted, row_of, terms_in}
+use Rattle.fz_builtins.specs.of_meaning.Meaning.{Model, Partial, Point, Posted, row_of, terms_in}
 use Rattle.fz_builtins.specs.of_meaning.Meaning.Point.{ConstraintPoint}
 use Rattle.fz_builtins.specs.of_meaning.Results.{result_of}
 use Rattle.fz_builtins.specs.of_meaning.Steps.{Gives, IsResult, open_terms}
-use Rattle.fz_model.specs.Aimed.{GivesNone, with_target}
+use Rattle.fz_model.specs.Aimed.{GivesAny, GivesNone, aimed, with_target}
 use Rattle.fz_model.specs.Forced.{IsForced, IsForcedAny}
 use Rattle.fz_model.specs.Openings.{IsOpenIn}
 
@@ -34,3 +34,15 @@ module _ (m : Model) (K : Partial) (k : ℕ) (p : Posted) where
   aims_nowhere (inr none) = λ n v g.
       let both : ◌≡◌ {A = List Term} [] (Var n ∷ []) = sym none ∙ g.only_open in
       cc
+
+-- a point at which it doesn't matter gives what it gives
+pub gives_any : (m : Model) (K : Partial) (ps : List Point) (k : ℕ) (q : Point)
+    → slice_get ps k ≡ Some q → ((n : ℕ) → aimed n q ≡ q) → {E : Type 0}
+    (r : Result (Option (ℕ × Value)) E)
+    → IfOk r (λ o. IfSome o (λ z. (p : Point) → slice_get ps k ≡ Some p → Gives m K p z.0 z.1))
+    → IfOk r (λ o. IfSome o (λ z. (p : Point) → slice_get ps k ≡ Some p → GivesAny m K p z.0 z.1))
+gives_any m K ps k q at same (Err e) h = tt
+gives_any m K ps k q at same (Ok None) h = tt
+gives_any m K ps k q at same (Ok (Some z)) h = λ p is.
+    let here : q ≡ p = cc in
+    subst (λ t. GivesAny m K t z.0 z.1) here (subst (λ t. Gives m K t z.0 z.1) (sym (same z.0)) (h q at))

@@ -70,11 +70,11 @@ pub(crate) fn by_any_result(
         (λ o. IsForcedAny m partial.now (ConstraintPoint parts.entry.number
         (constraint_view parts.entry)) o) }
 {
-    let Some(open) = open_in_row(&parts, partial) else {
+    let Some(unset) = open_in_row(&parts, partial) else {
         return Ok(None);
     };
     let posted = Posted {
-        target: Some(open),
+        target: Some(unset),
         ..*parts.posted
     };
     let aimed = ConstraintParts {

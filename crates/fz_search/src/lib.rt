@@ -22,8 +22,8 @@ mod linear;
 mod lone;
 mod points;
 mod proposal;
+mod refuting;
 mod relations;
-mod replay;
 mod row;
 mod search;
 mod stop;
@@ -34,6 +34,6 @@ mod work;
 
 pub use fz_bounds::fz_model;
 pub use index::Search;
-pub use replay::{Emptied, Refutation, refuted};
+pub use refuting::{Emptied, Refutation, refuted};
 pub use row::Place;
 pub use search::{known_of, propose};
