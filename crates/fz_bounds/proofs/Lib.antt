@@ -3,3 +3,12 @@ pub mod Inside
 pub mod Failing
 pub mod Known
 pub mod Numbers
+pub mod Between
+pub mod Truths
+pub mod Ranges
+pub mod Lists
+pub mod Added
+pub mod Indexed
+pub mod At
+pub mod Forms
+pub mod Never

@@ -1,16 +1,13 @@
 -- The arguments of a constraint between those that bounds give, read as its row asks (private
 -- functions only).
 use Rattle.std.specs.Prelude.{◌≡◌, ℕ, suc, Bool, true, false, not, ◌||◌, List, [], ◌∷◌, int_le, IsTrue, ⊤}
-use Rattle.fz_builtins.specs.of_meaning.declared.builtin.Builtin.{Builtin}
 use Rattle.fz_builtins.specs.of_meaning.declared.kind.Kind.{Kind}
 use Rattle.fz_builtins.specs.of_meaning.declared.kind.Kind.TheVariants.{Int as IntKind, Bool as BoolKind, Set as SetKind}
 use Rattle.fz_builtins.specs.of_meaning.Relations.{◌=ˢ◌}
-use Rattle.fz_builtins.specs.of_meaning.Builtins.{Of, Plain, Shape, row_at}
+use Rattle.fz_builtins.specs.of_meaning.Builtins.{Of, Plain, Shape}
 use Rattle.fz_builtins.specs.of_meaning.Builtins.Shape.{ScalarOf, ArrayOf}
 use Rattle.fz_builtins.specs.of_meaning.Meaning.{Argument, Partial}
-use Rattle.fz_builtins.specs.Outcomes.{argument_at, test_from}
-use Rattle.fz_bounds.specs.declared.outlook.Outlook.{Outlook}
-use Rattle.fz_bounds.specs.declared.outlook.Outlook.TheVariants as outlooks
+use Rattle.fz_builtins.specs.Outcomes.{argument_at}
 
 -- of two readings of a scalar of a kind, the first is at most the second
 abbrev pub at_most : (k : Kind) → Plain k → Plain k → Bool
@@ -38,19 +35,3 @@ AreBelow i K L xs (s ∷ ss) =
 pub record AreBetween (L K H : Partial) (xs : List Argument) (ss : List Shape) : Type 0 where
   pub low : AreBelow 0 L K xs ss
   pub high : AreBelow 0 K H xs ss
-
--- ---- what bounds say of a test
-
--- the test has this outcome whatever the arguments inside the bounds are
-abbrev pub Decides : Outlook → Bool → Type 0
-Decides outlooks.Never holds = holds ≡ false
-Decides outlooks.Always holds = holds ≡ true
-Decides outlooks.Open holds = ⊤
-
-abbrev pub base_holds : Builtin → Partial → List Argument → Bool
-base_holds b K xs = test_from 0 K xs (row_at b).shapes (row_at b).holds
-
--- the row of the builtin has this outcome at all arguments between the two
-abbrev pub Foretells : Builtin → Partial → Partial → List Argument → Outlook → Type 0
-Foretells b L H xs o = (K : Partial) → AreBetween L K H xs (row_at b).shapes
-    → Decides o (base_holds b K xs)

@@ -1,6 +1,6 @@
 -- Bounds of a model's variables, the assignments that lie inside them, and what a point says there
 -- (this project's profile).
-use Rattle.std.specs.Prelude.{◌≡◌, ℕ, ℤ, pos, Bool, false, not, ◌||◌, int_le, int_lt, length, Option, Some, IfSome, IsSomeAnd, IsTrue, slice_get}
+use Rattle.std.specs.Prelude.{◌≡◌, ℕ, ℤ, pos, Bool, false, not, ◌||◌, int_le, int_lt, length, Option, Some, IfSome, IsSomeAnd, IsTrue, slice_get, ⊤}
 use Rattle.fz_base.specs.declared.value.Value.{Value}
 use Rattle.fz_base.specs.declared.value.Value.TheVariants.{Int, Bool as Truth, Set}
 use Rattle.fz_builtins.specs.of_meaning.Relations.{◌=ˢ◌, kind_of}
@@ -8,6 +8,7 @@ use Rattle.fz_builtins.specs.of_meaning.declared.kind.Kind.{Kind}
 use Rattle.fz_builtins.specs.of_meaning.declared.kind.Kind.TheVariants.{Int as IntKind, Bool as BoolKind, Set as SetKind}
 use Rattle.fz_builtins.specs.of_meaning.declared.term.Domain.{Domain}
 use Rattle.fz_builtins.specs.of_meaning.Meaning.{Assignment, Model, Partial, Point, give, inside, points, value_at, whole}
+use Rattle.fz_builtins.specs.of_meaning.Meaning.Point.{DomainPoint, DefinitionPoint, ArrayPoint, ConstraintPoint}
 use Rattle.fz_builtins.specs.of_meaning.States.{HoldsIfKnown}
 
 -- a number that is no greater, a Boolean that is true only where the other is, the same set
@@ -66,6 +67,13 @@ IsBoth v low high = (v ≡ low) × (v ≡ high)
 -- there is a value, of the kind and in the domain
 abbrev pub LiesIn : Kind → Domain → Option Value → Type 0
 LiesIn k d o = IsSomeAnd o (λ v. (kind_of v ≡ k) × IsTrue (inside d v))
+
+-- where the point is the domain of a variable, the assignment's value is of its kind and lies there
+abbrev pub IsInDomain : Assignment → Point → Type 0
+IsInDomain A (DomainPoint x n) = LiesIn x.kind x.domain (value_at (whole A) n)
+IsInDomain A (DefinitionPoint x n e) = ⊤
+IsInDomain A (ArrayPoint name d ts) = ⊤
+IsInDomain A (ConstraintPoint k p) = ⊤
 
 -- the point of the number holds under no assignment inside the bounds
 abbrev pub NumberNeverHolds : Model → ℕ → Ranges → Type 0

@@ -1,4 +1,6 @@
 pub mod Bounds
 pub mod Ends
+pub mod Decided
 pub mod Between
+pub mod Within
 pub use Rattle.fz_model.specs as of_model

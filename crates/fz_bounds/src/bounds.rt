@@ -1,16 +1,18 @@
 //! The bounds of a model's variables.
 
-ghost use Rattle.std.specs.Prelude.{◌≡◌, IfOk, IfSome, option_map};
-ghost use Rattle.fz_builtins.specs.of_meaning.Meaning.{Assignment, value_at, whole};
+ghost use Rattle.std.specs.Prelude.{◌≡◌, IfOk, IfSome};
+ghost use Rattle.fz_builtins.specs.of_meaning.Meaning.{Assignment, whole};
 ghost use Rattle.fz_builtins.specs.of_meaning.States.{IsKnownSolution};
-ghost use Rattle.fz_bounds.specs.Bounds.{AreFixed, HasAllOf, IsBoth, IsInside, LiesIn, narrowed, number_as};
+ghost use Rattle.fz_builtins.specs.of_data.Shown.{point_view};
+ghost use Rattle.fz_bounds.specs.Bounds.{AreFixed, HasAllOf, IsBoth, IsInDomain, IsInside, narrowed, number_as};
 ghost use Rattle.fz_bounds.specs.Ends.{AreEndsAt};
 
 use crate::domains::ends_of;
 use crate::ends::{Ends, ends_between, number_as};
 use crate::replacing::replace;
 use fz_base::Value;
-use fz_model::{Kind, Model, Partial, PointParts, Variable};
+use fz_builtins::fz_data::{Model, Partial, PointParts};
+use fz_builtins::fz_meaning::Kind;
 use std::alloc::{AllocError, Global};
 
 /// The least and the greatest value that each variable may have, so far as they are known. Of a set
@@ -26,6 +28,7 @@ pub struct Bounds {
 impl std::marker::Model for Bounds {
     ghost use Rattle.fz_base.specs.contracts.sets.IntSet as the_set;
     ghost use Rattle.std.specs.Coded.{codes};
+    ghost use Rattle.fz_builtins.specs.of_data.Shown.{point_view};
     ghost use Rattle.fz_bounds.specs.Bounds.{AreFixed, Ranges};
 
     ghost Value = { Ranges };
@@ -54,24 +57,16 @@ impl Bounds {
     /// # Errors
     ///
     /// Out of memory.
-    pub fn new(
-        alloc: Global,
-        model: &Model<'_>,
-        filling: &Partial,
-    ) -> Result<Bounds, AllocError>
+    pub fn new(alloc: Global, model: &Model<'_>, filling: &Partial) -> Result<Bounds, AllocError>
         ensures inside { IfOk result (λ b. (A : Assignment) → IsKnownSolution model.now A
             → HasAllOf filling.now (whole A) → IsInside b A) }
     {
         let mut bounds = Bounds::unknown(alloc, model)?;
-        for number in 0..model.points() {
-            if let PointParts::Domain(variable, own) = model.point_parts(number) {
-                bounds.bound(variable, own);
-            }
+        'domains: for number in 0..model.points() {
+            bounds.bound(&model.point_parts(number));
         }
-        for number in 0..model.variables().len() {
-            if let Some(value) = filling.get(number) {
-                bounds.fix(alloc, number, value)?;
-            }
+        'values: for number in 0..model.variables().len() {
+            bounds.fix_as(alloc, filling, number)?;
         }
         Ok(bounds)
     }
@@ -100,25 +95,47 @@ impl Bounds {
     {
         let mut bounds = Bounds::unknown(alloc, model)?;
         for number in 0..model.variables().len() {
-            if let Some(value) = self.fixed.get(number) {
-                bounds.fix(alloc, number, value)?;
-            } else if let Some(ends) = self.ends(number) {
-                bounds.narrow(number, ends.kind, ends.low, ends.high);
-            }
+            bounds.bound_as(alloc, self, number)?;
         }
         Ok(bounds)
     }
 
-    /// Gives a variable the bounds of its domain, where that has some.
-    fn bound(&mut self, variable: &Variable<'_>, number: usize)
-        ensures { (A : Assignment) → IsInside self.old A
-            → LiesIn variable.now.kind variable.now.domain (value_at (whole A) number)
+    /// Gives a variable the bounds of its domain, where a point is that and it has some.
+    fn bound(&mut self, point: &PointParts<'_, '_>)
+        ensures { (A : Assignment) → IsInside self.old A → IsInDomain A (point_view point.now)
             → IsInside self.new A }
     {
-        if let Some((low, high)) = ends_of(variable.kind, &variable.domain) {
-            let only = only_value(&low, &high);
-            self.write(number, low, high, only);
+        if let PointParts::Domain(variable, number) = point {
+            if let Some((low, high)) = ends_of(variable.kind, &variable.domain) {
+                let only = only_value(&low, &high);
+                self.write(*number, low, high, only);
+            }
         }
+    }
+
+    /// Gives a variable the value that it has in a partial assignment, where it has one.
+    fn fix_as(&mut self, alloc: Global, values: &Partial, number: usize) -> Result<(), AllocError>
+        ensures { IfOk result (λ _. (A : Assignment) → IsInside self.old A
+            → HasAllOf values.now (whole A) → IsInside self.new A) }
+    {
+        if let Some(value) = values.get(number) {
+            self.fix(alloc, number, value)?;
+        }
+        Ok(())
+    }
+
+    /// Gives a variable the bounds that it has among others.
+    fn bound_as(&mut self, alloc: Global, others: &Bounds, number: usize) -> Result<(), AllocError>
+        ensures { IfOk result (λ _. (A : Assignment) → IsInside self.old A → IsInside others.now A
+            → IsInside self.new A) }
+    {
+        if let Some(value) = others.fixed.get(number) {
+            return self.fix(alloc, number, value);
+        }
+        if let Some(ends) = others.ends(number) {
+            self.narrow(number, ends.kind, ends.low, ends.high);
+        }
+        Ok(())
     }
 
     /// Gives a variable a value.

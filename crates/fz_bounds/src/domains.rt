@@ -8,7 +8,7 @@ ghost use Rattle.fz_builtins.specs.of_meaning.Meaning.{admits, inside};
 ghost use Rattle.fz_bounds.specs.Bounds.{is_at_most};
 
 use fz_base::{IntSet, Value};
-use fz_model::{Domain, Kind};
+use fz_builtins::fz_meaning::{Domain, Kind};
 
 /// The number in the middle between two.
 fn middle(low: i64, high: i64) -> i64 {

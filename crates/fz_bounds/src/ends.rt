@@ -5,7 +5,7 @@ ghost use Rattle.fz_bounds.specs.Bounds.{number_as};
 ghost use Rattle.fz_bounds.specs.Ends.{AreEnds};
 
 use fz_base::Value;
-use fz_model::Kind;
+use fz_builtins::fz_meaning::Kind;
 
 /// The bounds of a variable as numbers: of a Boolean, 0 is false and 1 is true.
 #[derive(Clone, Copy)]
@@ -28,7 +28,7 @@ pub(crate) fn number_as(kind: Kind, number: i64) -> Value
 }
 
 /// The numbers that two bounds are.
-fn ends_between(low: &Value, high: &Value) -> Option<Ends>
+pub(crate) fn ends_between(low: &Value, high: &Value) -> Option<Ends>
     ensures { IfSome result (AreEnds low.now high.now) }
 {
     match (low, high) {

@@ -8,9 +8,13 @@
 #![tactic(auto)]
 
 mod bounds;
+mod builtins;
 mod domains;
+mod elements;
 mod ends;
+mod limits;
 mod outlook;
+mod range;
 mod refuting;
 mod replacing;
 mod rows;

@@ -9,7 +9,9 @@ ghost use Rattle.fz_bounds.specs.Bounds.{NeverHolds, NumberNeverHolds};
 
 use crate::bounds::Bounds;
 use crate::rows::row_fails;
-use fz_model::{Model, PointParts, State, state};
+use fz_builtins::fz_data::{Model, PointParts};
+use fz_builtins::fz_meaning::State;
+use fz_model::state;
 use std::alloc::{AllocError, Global};
 
 /// Whether the point of a number, from 0, is found to hold under no assignment inside the bounds. A
@@ -44,6 +46,6 @@ fn parts_fail(parts: &PointParts<'_, '_>, bounds: &Bounds) -> bool
         PointParts::Domain(..) => false,
         PointParts::Definition(..) => false,
         PointParts::Elements(..) => false,
-        PointParts::Constraint(constraint) => row_fails(*constraint, bounds),
+        PointParts::Constraint(constraint) => row_fails(constraint, bounds),
     }
 }

@@ -4,7 +4,7 @@ ghost use Rattle.std.specs.Prelude.{◌≡◌};
 ghost use Rattle.fz_builtins.specs.of_meaning.Meaning.{give};
 
 use fz_base::Value;
-use fz_model::Partial;
+use fz_builtins::fz_data::Partial;
 
 /// Gives a variable a value, whatever value it had, and changes nothing else.
 #[tactic(auto, using(crate::proofs::Giving::given_anew, crate::proofs::Giving::none_to_give))]

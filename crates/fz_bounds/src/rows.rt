@@ -1,24 +1,74 @@
-//! Rows of THE TABLE within bounds.
+//! Rows of THE TABLE, and their reified forms, within bounds.
 
-ghost use Rattle.std.specs.Prelude.{◌≡◌, IsTrue, option_map};
-ghost use Rattle.fz_builtins.specs.of_meaning.Known.{known_row};
+ghost use Rattle.std.specs.Prelude.{◌≡◌, ◌↔◌, IsTrue, length, option_map};
+ghost use Rattle.fz_builtins.specs.of_meaning.Builtins.{row_at};
+ghost use Rattle.fz_builtins.specs.of_meaning.Known.{HasTruth, known_row};
 ghost use Rattle.fz_builtins.specs.of_meaning.Meaning.{row_of};
 ghost use Rattle.fz_builtins.specs.of_meaning.Meaning.Point.{ConstraintPoint};
 ghost use Rattle.fz_builtins.specs.of_data.Parts.{constraint_view};
-ghost use Rattle.fz_builtins.specs.of_kernel.Views.{arguments_of, assigned};
-ghost use Rattle.fz_bounds.specs.Between.{Foretells};
+ghost use Rattle.fz_builtins.specs.of_kernel.declared.reading.Readiness.TheVariants.{Ready};
 ghost use Rattle.fz_bounds.specs.Bounds.{NeverHolds};
+ghost use Rattle.fz_bounds.specs.Within.{AreKnown, Foretells, TellsTruth};
 
 use crate::bounds::Bounds;
+use crate::builtins::foretold;
+use crate::limits::Limits;
 use crate::outlook::Outlook;
-use fz_builtins::fz_kernel::{ArgumentView, Readiness};
-use fz_model::{Builtin, ConstraintParts, Form, Known};
+use fz_builtins::fz_data::ConstraintParts;
+use fz_builtins::fz_kernel::Readiness;
+use fz_builtins::fz_meaning::{Form, Known};
 
-/// Whether a constraint holds under no assignment inside the bounds.
-pub(crate) fn row_fails(parts: ConstraintParts<'_, '_>, bounds: &Bounds) -> bool
-    requires known { option_map known_row parts.posted.now.known ≡ row_of (constraint_view parts) }
+/// Whether a constraint is found to hold under no assignment inside the bounds. Each of its scalars
+/// has to have bounds.
+pub(crate) fn row_fails(parts: &ConstraintParts<'_, '_>, bounds: &Bounds) -> bool
+    requires known { option_map known_row parts.now.posted.now.known
+        ≡ row_of (constraint_view parts.now) }
     ensures { IsTrue result → NeverHolds bounds.now
-        (ConstraintPoint parts.entry.number (constraint_view parts.entry)) }
+        (ConstraintPoint parts.now.number (constraint_view parts.now)) }
 {
-    false
+    let Some(known) = parts.posted.known else {
+        return false;
+    };
+    let at = Limits {
+        parts: *parts,
+        lowest: bounds.lowest(),
+        highest: bounds.highest(),
+    };
+    at.are_known(known) && form_foretold(known, &at).is_never()
+}
+
+/// Whether a row, or a reified form of it, holds at no arguments inside the bounds, or at all.
+fn form_foretold(known: Known, at: &Limits<'_, '_>) -> Outlook
+    ensures { Foretells at.now (known_row known) result }
+{
+    let base = foretold(known.builtin, at);
+    match known.form {
+        Form::Base => base,
+        Form::Reified => control(known, at).same(base),
+        Form::Implied => control(known, at).negated().or(base),
+    }
+}
+
+/// The Boolean of a reified form, after the arguments of the base row.
+fn control(known: Known, at: &Limits<'_, '_>) -> Outlook
+    requires { HasTruth known.form }
+    ensures { TellsTruth at.now (length (row_at known.builtin).shapes) result }
+{
+    at.truth(known.shapes().len() - 1)
+}
+
+impl<'s, 'a> Limits<'s, 'a> {
+    /// Whether each scalar has bounds of the kinds that the row asks for.
+    fn are_known(&self, known: Known) -> bool
+        ensures { IsTrue result → AreKnown self.now (known_row known).shapes }
+    {
+        let shapes = known.shapes();
+        is_ready(self.low().readiness(shapes)) && is_ready(self.high().readiness(shapes))
+    }
+}
+
+fn is_ready(readiness: Readiness) -> bool
+    ensures { IsTrue result ↔ (readiness ≡ Ready) }
+{
+    matches!(readiness, Readiness::Ready)
 }

@@ -11,7 +11,8 @@ ghost use Rattle.fz_bounds.specs.declared.tightening.Tightened.TheVariants.{Empt
 use crate::bounds::Bounds;
 use crate::ends::Ends;
 use crate::refuting::cannot_hold;
-use fz_model::{Kind, Model, same_kind};
+use fz_builtins::fz_data::{Model, same_kind};
+use fz_builtins::fz_meaning::Kind;
 use std::alloc::{AllocError, Global};
 
 /// So many numbers of a variable are tried one by one.
@@ -73,7 +74,7 @@ impl Bounds {
             variable,
             ends,
         };
-        let shown = self.takes_below(alloc, asked, low)? && self.takes_above(alloc, asked, high)?;
+        let shown = self.takes_below(alloc, &asked, low)? && self.takes_above(alloc, &asked, high)?;
         if !shown {
             return Ok(Tightened::Unshown);
         }
@@ -116,14 +117,14 @@ impl Bounds {
     fn takes_below(
         &mut self,
         alloc: Global,
-        asked: Asked<'_, '_>,
+        asked: &Asked<'_, '_>,
         low: i64,
     ) -> Result<bool, AllocError>
-        requires in_range { asked.point < length (points asked.model.now) }
-        requires ends { AreEndsAt self.old asked.variable asked.ends }
+        requires in_range { asked.now.point < length (points asked.now.model.now) }
+        requires ends { AreEndsAt self.old asked.now.variable asked.now.ends }
         ensures same { self.new ≡ self.old }
-        ensures never { IfOk result (λ b. IsTrue b → Excludes asked.model.now asked.point self.old
-            asked.variable asked.ends.kind asked.ends.low (int_min asked.ends.high
+        ensures never { IfOk result (λ b. IsTrue b → Excludes asked.now.model.now asked.now.point self.old
+            asked.now.variable asked.now.ends.kind asked.now.ends.low (int_min asked.now.ends.high
             (low -ℤ pos 1))) }
     {
         if low <= asked.ends.low {
@@ -136,15 +137,15 @@ impl Bounds {
     fn takes_above(
         &mut self,
         alloc: Global,
-        asked: Asked<'_, '_>,
+        asked: &Asked<'_, '_>,
         high: i64,
     ) -> Result<bool, AllocError>
-        requires in_range { asked.point < length (points asked.model.now) }
-        requires ends { AreEndsAt self.old asked.variable asked.ends }
+        requires in_range { asked.now.point < length (points asked.now.model.now) }
+        requires ends { AreEndsAt self.old asked.now.variable asked.now.ends }
         ensures same { self.new ≡ self.old }
-        ensures never { IfOk result (λ b. IsTrue b → Excludes asked.model.now asked.point self.old
-            asked.variable asked.ends.kind (int_max asked.ends.low (high +ℤ pos 1))
-            asked.ends.high) }
+        ensures never { IfOk result (λ b. IsTrue b → Excludes asked.now.model.now asked.now.point self.old
+            asked.now.variable asked.now.ends.kind (int_max asked.now.ends.low (high +ℤ pos 1))
+            asked.now.ends.high) }
     {
         if asked.ends.high <= high {
             return Ok(true);
@@ -156,15 +157,15 @@ impl Bounds {
     fn cannot_lie(
         &mut self,
         alloc: Global,
-        asked: Asked<'_, '_>,
+        asked: &Asked<'_, '_>,
         from: i64,
         to: i64,
     ) -> Result<bool, AllocError>
-        requires in_range { asked.point < length (points asked.model.now) }
-        requires ends { AreEndsAt self.old asked.variable asked.ends }
+        requires in_range { asked.now.point < length (points asked.now.model.now) }
+        requires ends { AreEndsAt self.old asked.now.variable asked.now.ends }
         ensures same { self.new ≡ self.old }
-        ensures never { IfOk result (λ b. IsTrue b → Excludes asked.model.now asked.point self.old
-            asked.variable asked.ends.kind from to) }
+        ensures never { IfOk result (λ b. IsTrue b → Excludes asked.now.model.now asked.now.point self.old
+            asked.now.variable asked.now.ends.kind from to) }
     {
         if self.fails_between(alloc, asked, from, to)? {
             return Ok(true);
@@ -184,15 +185,15 @@ impl Bounds {
     fn fails_between(
         &mut self,
         alloc: Global,
-        asked: Asked<'_, '_>,
+        asked: &Asked<'_, '_>,
         from: i64,
         to: i64,
     ) -> Result<bool, AllocError>
-        requires in_range { asked.point < length (points asked.model.now) }
-        requires ends { AreEndsAt self.old asked.variable asked.ends }
+        requires in_range { asked.now.point < length (points asked.now.model.now) }
+        requires ends { AreEndsAt self.old asked.now.variable asked.now.ends }
         ensures same { self.new ≡ self.old }
-        ensures never { IfOk result (λ b. IsTrue b → Excludes asked.model.now asked.point self.old
-            asked.variable asked.ends.kind from to) }
+        ensures never { IfOk result (λ b. IsTrue b → Excludes asked.now.model.now asked.now.point self.old
+            asked.now.variable asked.now.ends.kind from to) }
     {
         let ends = asked.ends;
         self.narrow(asked.variable, ends.kind, from, to);

@@ -1,0 +1,76 @@
+-- A constraint whose row holds at no arguments inside the bounds holds under no assignment there.
+use Rattle.std.proofs.Common.{◌≡◌, ℕ, suc, Bool, true, false, List, [], ◌∷◌, Option, None, Some, refl, sym, ap, subst, ◌∙◌, ◌⊎◌, inl, inr, IsSomeAnd, IsTrue, option_map}
+use Rattle.std.proofs.lemmas.Option.{same_Some}
+use Rattle.fz_builtins.specs.of_meaning.Builtins.{ArgValue, Row, Shape, Test, passes}
+use Rattle.fz_builtins.specs.of_meaning.Meaning.{Argument, Assignment, Partial, Posted, argument_values, have_shapes, row_holds, row_of, whole}
+use Rattle.fz_builtins.specs.of_meaning.Meaning.Point.{ConstraintPoint}
+use Rattle.fz_builtins.specs.of_meaning.declared.known.Known.{Known}
+use Rattle.fz_builtins.specs.of_meaning.Known.{known_row}
+use Rattle.fz_builtins.specs.of_data.Parts.{constraint_view}
+use Rattle.fz_builtins.specs.of_meaning.States.{HoldsIfKnown}
+use Rattle.fz_builtins.proofs.of_meaning.Values.{no'}
+use Rattle.fz_builtins.proofs.of_meaning.Steps.{some_of}
+use Rattle.fz_builtins.specs.of_kernel.Given.{are_read, given_from, given_values}
+use Rattle.fz_builtins.proofs.of_kernel.Ready.{ready_values, wrong_kind}
+use Rattle.fz_builtins.specs.Outcomes.{argument_at, test_from}
+use Rattle.fz_builtins.proofs.Rows.{reads}
+use Rattle.fz_model.proofs.ConstraintStates.{row_fits}
+use Rattle.fz_bounds.specs.Bounds.{IsInside, NeverHolds, Ranges}
+use Rattle.fz_bounds.specs.Between.{AreBetween}
+use Rattle.fz_bounds.specs.Decided.{Decides}
+use Rattle.fz_bounds.specs.Within.{AreKnown, Foretells, given}
+use Rattle.fz_bounds.specs.declared.limits.Limits.{Limits}
+use Rattle.fz_bounds.specs.declared.outlook.Outlook.{Outlook}
+use Rattle.fz_bounds.specs.declared.outlook.Outlook.TheVariants.{Never}
+use Rattle.fz_bounds.proofs.Between.{are_between}
+
+passes_at : (K : Partial) (xs : List Argument) (i : ℕ) (ss : List Shape) (t : Test ss)
+    → test_from i K xs ss t ≡ passes ss t (given_from K xs i ss)
+passes_at K xs i [] t = refl
+passes_at K xs i (s ∷ ss) t =
+    rw (reads K xs i s) (passes_at K xs (suc i) ss (t (argument_at K xs i s)))
+
+-- where a row holds of the values of its arguments, these are of its kinds, and its test holds
+holds_read : (r : Row) (K : Partial) (xs : List Argument) (vs : List ArgValue)
+    → have_shapes r.shapes xs ≡ true → argument_values K xs ≡ Some vs → row_holds r vs ≡ true
+    → (are_read K r.shapes xs ≡ true) × (test_from 0 K xs r.shapes r.holds ≡ true)
+holds_read r K xs vs shaped are holds =
+    (elim (are_read K r.shapes xs) as (λ b. are_read K r.shapes xs ≡ b → (b ≡ true) × (test_from 0 K xs r.shapes r.holds ≡ true)) [
+      | false ↦ λ unread. no' (sym holds ∙ wrong_kind K r.shapes r.holds xs vs shaped unread are)
+      | true ↦ λ read.
+          let same : given_values K r.shapes xs ≡ vs = same_Some (given_values K r.shapes xs) vs (sym (ready_values K r.shapes xs shaped read) ∙ are) in
+          (refl, passes_at K xs 0 r.shapes r.holds ∙ ap (row_holds r) same ∙ holds)
+    ]) refl
+
+module _ (B : Ranges) (k : ℕ) (p : Posted) (r : Row) (fits : row_of p ≡ Some r) (low : are_read B.lowest r.shapes p.arguments ≡ true) (high : are_read B.highest r.shapes p.arguments ≡ true) (fails : (K : Partial) → AreBetween B.lowest K B.highest p.arguments r.shapes → test_from 0 K p.arguments r.shapes r.holds ≡ false) where
+  never_with : (A : Assignment) (vs : List ArgValue) → IsInside B A
+      → argument_values (whole A) p.arguments ≡ Some vs → row_holds r vs ≡ true → ⊥
+  never_with A vs inside are holds =
+      let (read, test) = holds_read r (whole A) p.arguments vs (row_fits p r fits) are holds in
+      no' (sym test ∙ fails (whole A) (are_between B A r.shapes p.arguments inside low read high))
+
+  pub never_holds : NeverHolds B (ConstraintPoint k p)
+  never_holds A inside h =
+      (elim (row_of p) as (λ o. row_of p ≡ o → (o ≡ None) ⊎ IsSomeAnd o (λ r. IsSomeAnd (argument_values (whole A) p.arguments) (λ vs. IsTrue (row_holds r vs))) → ⊥) [
+        | None ↦ λ e _. let wrong : None ≡ Some r = sym e ∙ fits in cc
+        | Some q ↦ λ e h. elim h [
+          | inl none ↦ cc
+          | inr holds ↦
+              let same : q ≡ r = same_Some q r (sym e ∙ fits) in
+              let (vs, are, is) = some_of (λ vs. IsTrue (row_holds q vs)) (argument_values (whole A) p.arguments) holds in
+              never_with A vs inside are (subst (λ z. row_holds z vs ≡ true) same is)
+        ]
+      ]) refl h
+
+-- the same by what is foretold of the row
+pub row_never : (s : Limits) (B : Ranges) (k : ℕ) (q : Option Known) (known : Known) (o : Outlook)
+    → s.lowest.now ≡ B.lowest → s.highest.now ≡ B.highest
+    → option_map known_row q ≡ row_of (constraint_view s.parts) → q ≡ Some known
+    → AreKnown s (known_row known).shapes → Foretells s (known_row known) o → o ≡ Never
+    → NeverHolds B (ConstraintPoint k (constraint_view s.parts))
+row_never s B k q known o e f told is at foretold never =
+    let r = known_row known in
+    let C : Ranges = record { lowest = s.lowest.now; highest = s.highest.now } in
+    let same : C ≡ B = λ i. record { lowest = e i; highest = f i } in
+    subst (λ D. NeverHolds D (ConstraintPoint k (constraint_view s.parts))) same
+    (never_holds C k (constraint_view s.parts) r (sym told ∙ ap (option_map known_row) is) at.low at.high (λ K h. subst (λ z. Decides z (test_from 0 K (given s) r.shapes r.holds)) never (foretold K h)))

@@ -1,0 +1,83 @@
+-- Ends of sums and of products.
+use Rattle.std.proofs.Common.{◌≡◌, ℕ, suc, ◌*◌, ◌≤◌, ℤ, pos, negsuc, ◌+ℤ◌, ◌*ℤ◌, Bool, true, false, Option, None, Some, IfSome, IsSomeAnd, int_le, arith}
+use Rattle.std.proofs.Math.Nat.{mul-le-mul_left}
+use Rattle.std.proofs.lemmas.Int.{ints}
+
+-- ---- sums
+
+-- a number that is the sum of the two, which are known
+abbrev pub IsSum : Option ℤ → Option ℤ → Option ℤ → Type 0
+IsSum o p r = IfSome r (λ z. IsSomeAnd o (λ x. IsSomeAnd p (λ y. z ≡ x +ℤ y)))
+
+pub sum_low : (o p r : Option ℤ) (a b : ℤ) → IfSome o (λ l. int_le l a ≡ true)
+    → IfSome p (λ l. int_le l b ≡ true) → IsSum o p r → IfSome r (λ l. int_le l (a +ℤ b) ≡ true)
+sum_low o p None a b f g h = tt
+sum_low None p (Some z) a b f g h = absurd h
+sum_low (Some x) None (Some z) a b f g h = absurd h
+sum_low (Some x) (Some y) (Some z) a b f g h = grind (arith, ints)
+
+pub sum_high : (o p r : Option ℤ) (a b : ℤ) → IfSome o (λ l. int_le a l ≡ true)
+    → IfSome p (λ l. int_le b l ≡ true) → IsSum o p r → IfSome r (λ l. int_le (a +ℤ b) l ≡ true)
+sum_high o p None a b f g h = tt
+sum_high None p (Some z) a b f g h = absurd h
+sum_high (Some x) None (Some z) a b f g h = absurd h
+sum_high (Some x) (Some y) (Some z) a b f g h = grind (arith, ints)
+
+-- ---- products
+
+pub times_up : (m : ℕ) (x y : ℤ) → int_le x y ≡ true → int_le (pos m *ℤ x) (pos m *ℤ y) ≡ true
+times_up m (pos a) (pos b) h = let k : m * a ≤ m * b = mul-le-mul_left m (grind (arith, ints)) in grind (arith, ints)
+times_up m (pos a) (negsuc b) h = absurd (grind (arith, ints))
+times_up m (negsuc a) (pos b) h = grind (arith, ints)
+times_up m (negsuc a) (negsuc b) h = let k : m * suc b ≤ m * suc a = mul-le-mul_left m (grind (arith, ints)) in grind (arith, ints)
+
+pub times_down : (m : ℕ) (x y : ℤ) → int_le x y ≡ true
+    → int_le (negsuc m *ℤ y) (negsuc m *ℤ x) ≡ true
+times_down m (pos a) (pos b) h = let k : suc m * a ≤ suc m * b = mul-le-mul_left (suc m) (grind (arith, ints)) in grind (arith, ints)
+times_down m (pos a) (negsuc b) h = absurd (grind (arith, ints))
+times_down m (negsuc a) (pos b) h = grind (arith, ints)
+times_down m (negsuc a) (negsuc b) h = let k : suc m * suc b ≤ suc m * suc a = mul-le-mul_left (suc m) (grind (arith, ints)) in grind (arith, ints)
+
+-- by a number that isn't negative, and by one that is
+pub times_in_order : (c x y : ℤ) → int_le (pos 0) c ≡ true → int_le x y ≡ true
+    → int_le (c *ℤ x) (c *ℤ y) ≡ true
+times_in_order (pos m) x y p h = times_up m x y h
+times_in_order (negsuc m) x y p h = absurd (grind (arith, ints))
+
+pub times_in_reverse : (c x y : ℤ) → int_le (pos 0) c ≡ false → int_le x y ≡ true
+    → int_le (c *ℤ y) (c *ℤ x) ≡ true
+times_in_reverse (pos m) x y p h = absurd (grind (arith, ints))
+times_in_reverse (negsuc m) x y p h = times_down m x y h
+
+-- a number that is the product, which is known
+abbrev pub IsProduct : ℤ → Option ℤ → Option ℤ → Type 0
+IsProduct c o r = IfSome r (λ z. IsSomeAnd o (λ x. z ≡ c *ℤ x))
+
+module _ (c : ℤ) where
+  pub product_low : (o r : Option ℤ) (a : ℤ) → int_le (pos 0) c ≡ true
+      → IfSome o (λ l. int_le l a ≡ true) → IsProduct c o r
+      → IfSome r (λ l. int_le l (c *ℤ a) ≡ true)
+  product_low o None a p f h = tt
+  product_low None (Some z) a p f h = absurd h
+  product_low (Some x) (Some z) a p f h = let k = times_in_order c x a p f in grind (arith, ints)
+
+  pub product_high : (o r : Option ℤ) (a : ℤ) → int_le (pos 0) c ≡ true
+      → IfSome o (λ l. int_le a l ≡ true) → IsProduct c o r
+      → IfSome r (λ l. int_le (c *ℤ a) l ≡ true)
+  product_high o None a p f h = tt
+  product_high None (Some z) a p f h = absurd h
+  product_high (Some x) (Some z) a p f h = let k = times_in_order c a x p f in grind (arith, ints)
+
+  pub product_low_of_high : (o r : Option ℤ) (a : ℤ) → int_le (pos 0) c ≡ false
+      → IfSome o (λ l. int_le a l ≡ true) → IsProduct c o r
+      → IfSome r (λ l. int_le l (c *ℤ a) ≡ true)
+  product_low_of_high o None a p f h = tt
+  product_low_of_high None (Some z) a p f h = absurd h
+  product_low_of_high (Some x) (Some z) a p f h = let k = times_in_reverse c a x p f in grind (arith, ints)
+
+  pub product_high_of_low : (o r : Option ℤ) (a : ℤ) → int_le (pos 0) c ≡ false
+      → IfSome o (λ l. int_le l a ≡ true) → IsProduct c o r
+      → IfSome r (λ l. int_le (c *ℤ a) l ≡ true)
+  product_high_of_low o None a p f h = tt
+  product_high_of_low None (Some z) a p f h = absurd h
+  product_high_of_low (Some x) (Some z) a p f h = let k = times_in_reverse c x a p f in grind (arith, ints)

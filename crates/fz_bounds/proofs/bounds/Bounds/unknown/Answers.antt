@@ -1,0 +1,5 @@
+use Rattle.fz_bounds.proofs.Known.{nothing_known}
+use Rattle.fz_bounds.proofs.bounds.Bounds.unknown.Goals as goal
+
+pub returns : goal.returns
+returns c = nothing_known c.args.model.now c.in_ok-lowest.lowest c.in_ok-highest.highest c.in_ok-lowest.ensures.empty c.in_ok-highest.ensures.empty

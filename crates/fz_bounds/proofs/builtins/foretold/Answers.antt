@@ -1,0 +1,237 @@
+use Rattle.std.proofs.Common.{int_le, int_lt, not, pos, ◌&&◌, ◌+ℤ◌, ◌-ℤ◌, ◌||◌}
+use Rattle.std.specs.List.{list_all, list_any}
+use Rattle.fz_builtins.specs.of_meaning.declared.builtin.Builtin.TheVariants as builtin
+use Rattle.fz_builtins.specs.of_meaning.Builtins.{row_at}
+use Rattle.fz_builtins.specs.of_meaning.Relations.{as_number, products, total, where_true, ◌=ᴮ◌, ◌=ℤ◌}
+use Rattle.fz_builtins.specs.of_kernel.Given.{bool_at, bools_at, int_at, ints_at}
+use Rattle.fz_bounds.specs.Within.{given}
+use Rattle.fz_bounds.proofs.At.{at_row}
+use Rattle.fz_bounds.proofs.builtins.foretold.Goals as goal
+
+pub returns-in-IntEq : goal.returns-in-IntEq
+unfolding row_at
+returns-in-IntEq c = at_row c.args.at.now c.args.builtin builtin.IntEq c.equal.result c.in-IntEq.is (λ K h.
+    let xs = given c.args.at.now in
+    c.equal.ensures (int_at K xs 0) (int_at K xs 1) (c.number.ensures K (record { low = h.low.0; high = h.high.0 })) (c.number-in-IntEq.ensures K (record { low = h.low.1.0; high = h.high.1.0 })))
+
+pub returns-in-IntNe : goal.returns-in-IntNe
+unfolding row_at
+returns-in-IntNe c = at_row c.args.at.now c.args.builtin builtin.IntNe c.negated.result c.in-IntNe.is (λ K h.
+    let xs = given c.args.at.now in
+    c.negated.ensures ((int_at K xs 0) =ℤ (int_at K xs 1)) (c.equal-in-IntNe.ensures (int_at K xs 0) (int_at K xs 1) (c.number-in-IntNe.ensures K (record { low = h.low.0; high = h.high.0 })) (c.number-in-IntNe-2.ensures K (record { low = h.low.1.0; high = h.high.1.0 }))))
+
+pub returns-in-IntLe : goal.returns-in-IntLe
+unfolding row_at
+returns-in-IntLe c = at_row c.args.at.now c.args.builtin builtin.IntLe c.at_most.result c.in-IntLe.is (λ K h.
+    let xs = given c.args.at.now in
+    c.at_most.ensures (int_at K xs 0) (int_at K xs 1) (c.number-in-IntLe.ensures K (record { low = h.low.0; high = h.high.0 })) (c.number-in-IntLe-2.ensures K (record { low = h.low.1.0; high = h.high.1.0 })))
+
+pub returns-in-IntLt : goal.returns-in-IntLt
+unfolding row_at
+returns-in-IntLt c = at_row c.args.at.now c.args.builtin builtin.IntLt c.below.result c.in-IntLt.is (λ K h.
+    let xs = given c.args.at.now in
+    c.below.ensures (int_at K xs 0) (int_at K xs 1) (c.number-in-IntLt.ensures K (record { low = h.low.0; high = h.high.0 })) (c.number-in-IntLt-2.ensures K (record { low = h.low.1.0; high = h.high.1.0 })))
+
+pub returns-in-IntGe : goal.returns-in-IntGe
+unfolding row_at
+returns-in-IntGe c = at_row c.args.at.now c.args.builtin builtin.IntGe c.at_most-in-IntGe.result c.in-IntGe.is (λ K h.
+    let xs = given c.args.at.now in
+    c.at_most-in-IntGe.ensures (int_at K xs 1) (int_at K xs 0) (c.number-in-IntGe.ensures K (record { low = h.low.1.0; high = h.high.1.0 })) (c.number-in-IntGe-2.ensures K (record { low = h.low.0; high = h.high.0 })))
+
+pub returns-in-IntGt : goal.returns-in-IntGt
+unfolding row_at
+returns-in-IntGt c = at_row c.args.at.now c.args.builtin builtin.IntGt c.below-in-IntGt.result c.in-IntGt.is (λ K h.
+    let xs = given c.args.at.now in
+    c.below-in-IntGt.ensures (int_at K xs 1) (int_at K xs 0) (c.number-in-IntGt.ensures K (record { low = h.low.1.0; high = h.high.1.0 })) (c.number-in-IntGt-2.ensures K (record { low = h.low.0; high = h.high.0 })))
+
+pub returns-in-IntPlus : goal.returns-in-IntPlus
+unfolding row_at
+returns-in-IntPlus c = at_row c.args.at.now c.args.builtin builtin.IntPlus c.equal-in-IntPlus.result c.in-IntPlus.is (λ K h.
+    let xs = given c.args.at.now in
+    c.equal-in-IntPlus.ensures (int_at K xs 2) ((int_at K xs 0) +ℤ (int_at K xs 1)) (c.number-in-IntPlus.ensures K (record { low = h.low.1.1.0; high = h.high.1.1.0 })) (c.plus.ensures (int_at K xs 0) (int_at K xs 1) (c.number-in-IntPlus-2.ensures K (record { low = h.low.0; high = h.high.0 })) (c.number-in-IntPlus-3.ensures K (record { low = h.low.1.0; high = h.high.1.0 }))))
+
+pub returns-in-IntMinus : goal.returns-in-IntMinus
+unfolding row_at
+returns-in-IntMinus c = at_row c.args.at.now c.args.builtin builtin.IntMinus c.equal-in-IntMinus.result c.in-IntMinus.is (λ K h.
+    let xs = given c.args.at.now in
+    c.equal-in-IntMinus.ensures (int_at K xs 2) ((int_at K xs 0) -ℤ (int_at K xs 1)) (c.number-in-IntMinus.ensures K (record { low = h.low.1.1.0; high = h.high.1.1.0 })) (c.minus.ensures (int_at K xs 0) (int_at K xs 1) (c.number-in-IntMinus-2.ensures K (record { low = h.low.0; high = h.high.0 })) (c.number-in-IntMinus-3.ensures K (record { low = h.low.1.0; high = h.high.1.0 }))))
+
+pub returns-in-IntNegate : goal.returns-in-IntNegate
+unfolding row_at
+returns-in-IntNegate c = at_row c.args.at.now c.args.builtin builtin.IntNegate c.equal-in-IntNegate.result c.in-IntNegate.is (λ K h.
+    let xs = given c.args.at.now in
+    c.equal-in-IntNegate.ensures (int_at K xs 1) (pos 0 -ℤ (int_at K xs 0)) (c.number-in-IntNegate.ensures K (record { low = h.low.1.0; high = h.high.1.0 })) (c.negated-in-IntNegate.ensures (int_at K xs 0) (c.number-in-IntNegate-2.ensures K (record { low = h.low.0; high = h.high.0 }))))
+
+pub returns-in-BoolEq : goal.returns-in-BoolEq
+unfolding row_at
+returns-in-BoolEq c = at_row c.args.at.now c.args.builtin builtin.BoolEq c.same.result c.in-BoolEq.is (λ K h.
+    let xs = given c.args.at.now in
+    c.same.ensures (bool_at K xs 0) (bool_at K xs 1) (c.truth.ensures K (record { low = h.low.0; high = h.high.0 })) (c.truth-in-BoolEq.ensures K (record { low = h.low.1.0; high = h.high.1.0 })))
+
+pub returns-in-BoolLe : goal.returns-in-BoolLe
+unfolding row_at
+returns-in-BoolLe c = at_row c.args.at.now c.args.builtin builtin.BoolLe c.or.result c.in-BoolLe.is (λ K h.
+    let xs = given c.args.at.now in
+    c.or.ensures (not (bool_at K xs 0)) (bool_at K xs 1) (c.negated-in-BoolLe.ensures (bool_at K xs 0) (c.truth-in-BoolLe.ensures K (record { low = h.low.0; high = h.high.0 }))) (c.truth-in-BoolLe-2.ensures K (record { low = h.low.1.0; high = h.high.1.0 })))
+
+pub returns-in-BoolLt : goal.returns-in-BoolLt
+unfolding row_at
+returns-in-BoolLt c = at_row c.args.at.now c.args.builtin builtin.BoolLt c.and.result c.in-BoolLt.is (λ K h.
+    let xs = given c.args.at.now in
+    c.and.ensures (not (bool_at K xs 0)) (bool_at K xs 1) (c.negated-in-BoolLt.ensures (bool_at K xs 0) (c.truth-in-BoolLt.ensures K (record { low = h.low.0; high = h.high.0 }))) (c.truth-in-BoolLt-2.ensures K (record { low = h.low.1.0; high = h.high.1.0 })))
+
+pub returns-in-BoolGe : goal.returns-in-BoolGe
+unfolding row_at
+returns-in-BoolGe c = at_row c.args.at.now c.args.builtin builtin.BoolGe c.or-in-BoolGe.result c.in-BoolGe.is (λ K h.
+    let xs = given c.args.at.now in
+    c.or-in-BoolGe.ensures (not (bool_at K xs 1)) (bool_at K xs 0) (c.negated-in-BoolGe.ensures (bool_at K xs 1) (c.truth-in-BoolGe.ensures K (record { low = h.low.1.0; high = h.high.1.0 }))) (c.truth-in-BoolGe-2.ensures K (record { low = h.low.0; high = h.high.0 })))
+
+pub returns-in-BoolGt : goal.returns-in-BoolGt
+unfolding row_at
+returns-in-BoolGt c = at_row c.args.at.now c.args.builtin builtin.BoolGt c.and-in-BoolGt.result c.in-BoolGt.is (λ K h.
+    let xs = given c.args.at.now in
+    c.and-in-BoolGt.ensures (not (bool_at K xs 1)) (bool_at K xs 0) (c.negated-in-BoolGt.ensures (bool_at K xs 1) (c.truth-in-BoolGt.ensures K (record { low = h.low.1.0; high = h.high.1.0 }))) (c.truth-in-BoolGt-2.ensures K (record { low = h.low.0; high = h.high.0 })))
+
+pub returns-in-BoolNot : goal.returns-in-BoolNot
+unfolding row_at
+returns-in-BoolNot c = at_row c.args.at.now c.args.builtin builtin.BoolNot c.negated-in-BoolNot.result c.in-BoolNot.is (λ K h.
+    let xs = given c.args.at.now in
+    c.negated-in-BoolNot.ensures ((bool_at K xs 0) =ᴮ (bool_at K xs 1)) (c.same-in-BoolNot.ensures (bool_at K xs 0) (bool_at K xs 1) (c.truth-in-BoolNot.ensures K (record { low = h.low.0; high = h.high.0 })) (c.truth-in-BoolNot-2.ensures K (record { low = h.low.1.0; high = h.high.1.0 }))))
+
+pub returns-in-BoolAnd : goal.returns-in-BoolAnd
+unfolding row_at
+returns-in-BoolAnd c = at_row c.args.at.now c.args.builtin builtin.BoolAnd c.same-in-BoolAnd.result c.in-BoolAnd.is (λ K h.
+    let xs = given c.args.at.now in
+    c.same-in-BoolAnd.ensures (bool_at K xs 2) ((bool_at K xs 0) && (bool_at K xs 1)) (c.truth-in-BoolAnd.ensures K (record { low = h.low.1.1.0; high = h.high.1.1.0 })) (c.and-in-BoolAnd.ensures (bool_at K xs 0) (bool_at K xs 1) (c.truth-in-BoolAnd-2.ensures K (record { low = h.low.0; high = h.high.0 })) (c.truth-in-BoolAnd-3.ensures K (record { low = h.low.1.0; high = h.high.1.0 }))))
+
+pub returns-in-BoolOr : goal.returns-in-BoolOr
+unfolding row_at
+returns-in-BoolOr c = at_row c.args.at.now c.args.builtin builtin.BoolOr c.same-in-BoolOr.result c.in-BoolOr.is (λ K h.
+    let xs = given c.args.at.now in
+    c.same-in-BoolOr.ensures (bool_at K xs 2) ((bool_at K xs 0) || (bool_at K xs 1)) (c.truth-in-BoolOr.ensures K (record { low = h.low.1.1.0; high = h.high.1.1.0 })) (c.or-in-BoolOr.ensures (bool_at K xs 0) (bool_at K xs 1) (c.truth-in-BoolOr-2.ensures K (record { low = h.low.0; high = h.high.0 })) (c.truth-in-BoolOr-3.ensures K (record { low = h.low.1.0; high = h.high.1.0 }))))
+
+pub returns-in-BoolXor : goal.returns-in-BoolXor
+unfolding row_at
+returns-in-BoolXor c = at_row c.args.at.now c.args.builtin builtin.BoolXor c.same-in-BoolXor-2.result c.in-BoolXor.is (λ K h.
+    let xs = given c.args.at.now in
+    c.same-in-BoolXor-2.ensures (bool_at K xs 2) (not ((bool_at K xs 0) =ᴮ (bool_at K xs 1))) (c.truth-in-BoolXor.ensures K (record { low = h.low.1.1.0; high = h.high.1.1.0 })) (c.negated-in-BoolXor.ensures ((bool_at K xs 0) =ᴮ (bool_at K xs 1)) (c.same-in-BoolXor.ensures (bool_at K xs 0) (bool_at K xs 1) (c.truth-in-BoolXor-2.ensures K (record { low = h.low.0; high = h.high.0 })) (c.truth-in-BoolXor-3.ensures K (record { low = h.low.1.0; high = h.high.1.0 })))))
+
+pub returns-in-BoolAndImp : goal.returns-in-BoolAndImp
+unfolding row_at
+returns-in-BoolAndImp c = at_row c.args.at.now c.args.builtin builtin.BoolAndImp c.or-in-BoolAndImp.result c.in-BoolAndImp.is (λ K h.
+    let xs = given c.args.at.now in
+    c.or-in-BoolAndImp.ensures (not (bool_at K xs 2)) ((bool_at K xs 0) && (bool_at K xs 1)) (c.negated-in-BoolAndImp.ensures (bool_at K xs 2) (c.truth-in-BoolAndImp.ensures K (record { low = h.low.1.1.0; high = h.high.1.1.0 }))) (c.and-in-BoolAndImp.ensures (bool_at K xs 0) (bool_at K xs 1) (c.truth-in-BoolAndImp-2.ensures K (record { low = h.low.0; high = h.high.0 })) (c.truth-in-BoolAndImp-3.ensures K (record { low = h.low.1.0; high = h.high.1.0 }))))
+
+pub returns-in-BoolOrImp : goal.returns-in-BoolOrImp
+unfolding row_at
+returns-in-BoolOrImp c = at_row c.args.at.now c.args.builtin builtin.BoolOrImp c.or-in-BoolOrImp-2.result c.in-BoolOrImp.is (λ K h.
+    let xs = given c.args.at.now in
+    c.or-in-BoolOrImp-2.ensures (not (bool_at K xs 2)) ((bool_at K xs 0) || (bool_at K xs 1)) (c.negated-in-BoolOrImp.ensures (bool_at K xs 2) (c.truth-in-BoolOrImp.ensures K (record { low = h.low.1.1.0; high = h.high.1.1.0 }))) (c.or-in-BoolOrImp.ensures (bool_at K xs 0) (bool_at K xs 1) (c.truth-in-BoolOrImp-2.ensures K (record { low = h.low.0; high = h.high.0 })) (c.truth-in-BoolOrImp-3.ensures K (record { low = h.low.1.0; high = h.high.1.0 }))))
+
+pub returns-in-BoolXorImp : goal.returns-in-BoolXorImp
+unfolding row_at
+returns-in-BoolXorImp c = at_row c.args.at.now c.args.builtin builtin.BoolXorImp c.or-in-BoolXorImp.result c.in-BoolXorImp.is (λ K h.
+    let xs = given c.args.at.now in
+    c.or-in-BoolXorImp.ensures (not (bool_at K xs 2)) (not ((bool_at K xs 0) =ᴮ (bool_at K xs 1))) (c.negated-in-BoolXorImp.ensures (bool_at K xs 2) (c.truth-in-BoolXorImp.ensures K (record { low = h.low.1.1.0; high = h.high.1.1.0 }))) (c.negated-in-BoolXorImp-2.ensures ((bool_at K xs 0) =ᴮ (bool_at K xs 1)) (c.same-in-BoolXorImp.ensures (bool_at K xs 0) (bool_at K xs 1) (c.truth-in-BoolXorImp-2.ensures K (record { low = h.low.0; high = h.high.0 })) (c.truth-in-BoolXorImp-3.ensures K (record { low = h.low.1.0; high = h.high.1.0 })))))
+
+pub returns-in-ArrayBoolAnd : goal.returns-in-ArrayBoolAnd
+unfolding row_at
+returns-in-ArrayBoolAnd c = at_row c.args.at.now c.args.builtin builtin.ArrayBoolAnd c.same-in-ArrayBoolAnd.result c.in-ArrayBoolAnd.is (λ K h.
+    let xs = given c.args.at.now in
+    c.same-in-ArrayBoolAnd.ensures (bool_at K xs 1) (list_all (λ x. x) (bools_at K xs 0)) (c.truth-in-ArrayBoolAnd.ensures K (record { low = h.low.1.0; high = h.high.1.0 })) (c.all_true.ensures K (record { low = h.low.0; high = h.high.0 })))
+
+pub returns-in-ArrayBoolOr : goal.returns-in-ArrayBoolOr
+unfolding row_at
+returns-in-ArrayBoolOr c = at_row c.args.at.now c.args.builtin builtin.ArrayBoolOr c.same-in-ArrayBoolOr.result c.in-ArrayBoolOr.is (λ K h.
+    let xs = given c.args.at.now in
+    c.same-in-ArrayBoolOr.ensures (bool_at K xs 1) (list_any (λ x. x) (bools_at K xs 0)) (c.truth-in-ArrayBoolOr.ensures K (record { low = h.low.1.0; high = h.high.1.0 })) (c.any_true.ensures K (record { low = h.low.0; high = h.high.0 })))
+
+pub returns-in-ArrayBoolAndImp : goal.returns-in-ArrayBoolAndImp
+unfolding row_at
+returns-in-ArrayBoolAndImp c = at_row c.args.at.now c.args.builtin builtin.ArrayBoolAndImp c.or-in-ArrayBoolAndImp.result c.in-ArrayBoolAndImp.is (λ K h.
+    let xs = given c.args.at.now in
+    c.or-in-ArrayBoolAndImp.ensures (not (bool_at K xs 1)) (list_all (λ x. x) (bools_at K xs 0)) (c.negated-in-ArrayBoolAndImp.ensures (bool_at K xs 1) (c.truth-in-ArrayBoolAndImp.ensures K (record { low = h.low.1.0; high = h.high.1.0 }))) (c.all_true-in-ArrayBoolAndImp.ensures K (record { low = h.low.0; high = h.high.0 })))
+
+pub returns-in-ArrayBoolOrImp : goal.returns-in-ArrayBoolOrImp
+unfolding row_at
+returns-in-ArrayBoolOrImp c = at_row c.args.at.now c.args.builtin builtin.ArrayBoolOrImp c.or-in-ArrayBoolOrImp.result c.in-ArrayBoolOrImp.is (λ K h.
+    let xs = given c.args.at.now in
+    c.or-in-ArrayBoolOrImp.ensures (not (bool_at K xs 1)) (list_any (λ x. x) (bools_at K xs 0)) (c.negated-in-ArrayBoolOrImp.ensures (bool_at K xs 1) (c.truth-in-ArrayBoolOrImp.ensures K (record { low = h.low.1.0; high = h.high.1.0 }))) (c.any_true-in-ArrayBoolOrImp.ensures K (record { low = h.low.0; high = h.high.0 })))
+
+pub returns-in-BoolClause : goal.returns-in-BoolClause
+unfolding row_at
+returns-in-BoolClause c = at_row c.args.at.now c.args.builtin builtin.BoolClause c.or-in-BoolClause.result c.in-BoolClause.is (λ K h.
+    let xs = given c.args.at.now in
+    c.or-in-BoolClause.ensures (list_any (λ x. x) (bools_at K xs 0)) (list_any (λ x. not x) (bools_at K xs 1)) (c.any_true-in-BoolClause.ensures K (record { low = h.low.0; high = h.high.0 })) (c.any_false.ensures K (record { low = h.low.1.0; high = h.high.1.0 })))
+
+pub returns-in-Bool2Int : goal.returns-in-Bool2Int
+unfolding row_at
+returns-in-Bool2Int c = at_row c.args.at.now c.args.builtin builtin.Bool2Int c.equal-in-Bool2Int.result c.in-Bool2Int.is (λ K h.
+    let xs = given c.args.at.now in
+    c.equal-in-Bool2Int.ensures (int_at K xs 1) (as_number (bool_at K xs 0)) (c.number-in-Bool2Int.ensures K (record { low = h.low.1.0; high = h.high.1.0 })) (c.number-in-Bool2Int-2.ensures (bool_at K xs 0) (c.truth-in-Bool2Int.ensures K (record { low = h.low.0; high = h.high.0 }))))
+
+pub returns-in-IntLinEq : goal.returns-in-IntLinEq
+unfolding row_at
+returns-in-IntLinEq c = at_row c.args.at.now c.args.builtin builtin.IntLinEq c.equal-in-IntLinEq.result c.in-IntLinEq.is (λ K h.
+    let xs = given c.args.at.now in
+    c.equal-in-IntLinEq.ensures (total (products (ints_at K xs 0) (ints_at K xs 1))) (int_at K xs 2) (c.sum_of_products.ensures K (record { low = h.low.0; high = h.high.0 }) (record { low = h.low.1.0; high = h.high.1.0 })) (c.number-in-IntLinEq.ensures K (record { low = h.low.1.1.0; high = h.high.1.1.0 })))
+
+pub returns-in-IntLinNe : goal.returns-in-IntLinNe
+unfolding row_at
+returns-in-IntLinNe c = at_row c.args.at.now c.args.builtin builtin.IntLinNe c.negated-in-IntLinNe.result c.in-IntLinNe.is (λ K h.
+    let xs = given c.args.at.now in
+    c.negated-in-IntLinNe.ensures ((total (products (ints_at K xs 0) (ints_at K xs 1))) =ℤ (int_at K xs 2)) (c.equal-in-IntLinNe.ensures (total (products (ints_at K xs 0) (ints_at K xs 1))) (int_at K xs 2) (c.sum_of_products-in-IntLinNe.ensures K (record { low = h.low.0; high = h.high.0 }) (record { low = h.low.1.0; high = h.high.1.0 })) (c.number-in-IntLinNe.ensures K (record { low = h.low.1.1.0; high = h.high.1.1.0 }))))
+
+pub returns-in-IntLinLe : goal.returns-in-IntLinLe
+unfolding row_at
+returns-in-IntLinLe c = at_row c.args.at.now c.args.builtin builtin.IntLinLe c.at_most-in-IntLinLe.result c.in-IntLinLe.is (λ K h.
+    let xs = given c.args.at.now in
+    c.at_most-in-IntLinLe.ensures (total (products (ints_at K xs 0) (ints_at K xs 1))) (int_at K xs 2) (c.sum_of_products-in-IntLinLe.ensures K (record { low = h.low.0; high = h.high.0 }) (record { low = h.low.1.0; high = h.high.1.0 })) (c.number-in-IntLinLe.ensures K (record { low = h.low.1.1.0; high = h.high.1.1.0 })))
+
+pub returns-in-BoolLinEq : goal.returns-in-BoolLinEq
+unfolding row_at
+returns-in-BoolLinEq c = at_row c.args.at.now c.args.builtin builtin.BoolLinEq c.equal-in-BoolLinEq.result c.in-BoolLinEq.is (λ K h.
+    let xs = given c.args.at.now in
+    c.equal-in-BoolLinEq.ensures (total (where_true (ints_at K xs 0) (bools_at K xs 1))) (int_at K xs 2) (c.sum_where_true.ensures K (record { low = h.low.0; high = h.high.0 }) (record { low = h.low.1.0; high = h.high.1.0 })) (c.number-in-BoolLinEq.ensures K (record { low = h.low.1.1.0; high = h.high.1.1.0 })))
+
+pub returns-in-BoolLinNe : goal.returns-in-BoolLinNe
+unfolding row_at
+returns-in-BoolLinNe c = at_row c.args.at.now c.args.builtin builtin.BoolLinNe c.negated-in-BoolLinNe.result c.in-BoolLinNe.is (λ K h.
+    let xs = given c.args.at.now in
+    c.negated-in-BoolLinNe.ensures ((total (where_true (ints_at K xs 0) (bools_at K xs 1))) =ℤ (int_at K xs 2)) (c.equal-in-BoolLinNe.ensures (total (where_true (ints_at K xs 0) (bools_at K xs 1))) (int_at K xs 2) (c.sum_where_true-in-BoolLinNe.ensures K (record { low = h.low.0; high = h.high.0 }) (record { low = h.low.1.0; high = h.high.1.0 })) (c.number-in-BoolLinNe.ensures K (record { low = h.low.1.1.0; high = h.high.1.1.0 }))))
+
+pub returns-in-BoolLinLe : goal.returns-in-BoolLinLe
+unfolding row_at
+returns-in-BoolLinLe c = at_row c.args.at.now c.args.builtin builtin.BoolLinLe c.at_most-in-BoolLinLe.result c.in-BoolLinLe.is (λ K h.
+    let xs = given c.args.at.now in
+    c.at_most-in-BoolLinLe.ensures (total (where_true (ints_at K xs 0) (bools_at K xs 1))) (int_at K xs 2) (c.sum_where_true-in-BoolLinLe.ensures K (record { low = h.low.0; high = h.high.0 }) (record { low = h.low.1.0; high = h.high.1.0 })) (c.number-in-BoolLinLe.ensures K (record { low = h.low.1.1.0; high = h.high.1.1.0 })))
+
+pub returns-in-BoolLinLt : goal.returns-in-BoolLinLt
+unfolding row_at
+returns-in-BoolLinLt c = at_row c.args.at.now c.args.builtin builtin.BoolLinLt c.below-in-BoolLinLt.result c.in-BoolLinLt.is (λ K h.
+    let xs = given c.args.at.now in
+    c.below-in-BoolLinLt.ensures (total (where_true (ints_at K xs 0) (bools_at K xs 1))) (int_at K xs 2) (c.sum_where_true-in-BoolLinLt.ensures K (record { low = h.low.0; high = h.high.0 }) (record { low = h.low.1.0; high = h.high.1.0 })) (c.number-in-BoolLinLt.ensures K (record { low = h.low.1.1.0; high = h.high.1.1.0 })))
+
+pub returns-in-BoolLinGe : goal.returns-in-BoolLinGe
+unfolding row_at
+returns-in-BoolLinGe c = at_row c.args.at.now c.args.builtin builtin.BoolLinGe c.at_most-in-BoolLinGe.result c.in-BoolLinGe.is (λ K h.
+    let xs = given c.args.at.now in
+    c.at_most-in-BoolLinGe.ensures (int_at K xs 2) (total (where_true (ints_at K xs 0) (bools_at K xs 1))) (c.number-in-BoolLinGe.ensures K (record { low = h.low.1.1.0; high = h.high.1.1.0 })) (c.sum_where_true-in-BoolLinGe.ensures K (record { low = h.low.0; high = h.high.0 }) (record { low = h.low.1.0; high = h.high.1.0 })))
+
+pub returns-in-BoolLinGt : goal.returns-in-BoolLinGt
+unfolding row_at
+returns-in-BoolLinGt c = at_row c.args.at.now c.args.builtin builtin.BoolLinGt c.below-in-BoolLinGt.result c.in-BoolLinGt.is (λ K h.
+    let xs = given c.args.at.now in
+    c.below-in-BoolLinGt.ensures (int_at K xs 2) (total (where_true (ints_at K xs 0) (bools_at K xs 1))) (c.number-in-BoolLinGt.ensures K (record { low = h.low.1.1.0; high = h.high.1.1.0 })) (c.sum_where_true-in-BoolLinGt.ensures K (record { low = h.low.0; high = h.high.0 }) (record { low = h.low.1.0; high = h.high.1.0 })))
+
+pub returns-in-ArrayIntElement : goal.returns-in-ArrayIntElement
+unfolding row_at
+returns-in-ArrayIntElement c = at_row c.args.at.now c.args.builtin builtin.ArrayIntElement c.int_element.result c.in-ArrayIntElement.is (λ K h.
+    let xs = given c.args.at.now in
+    c.int_element.ensures K (record { low = h.low.0; high = h.high.0 }) (record { low = h.low.1.0; high = h.high.1.0 }) (record { low = h.low.1.1.0; high = h.high.1.1.0 }))
+
+pub returns-in-ArrayBoolElement : goal.returns-in-ArrayBoolElement
+unfolding row_at
+returns-in-ArrayBoolElement c = at_row c.args.at.now c.args.builtin builtin.ArrayBoolElement c.bool_element.result c.in-ArrayBoolElement.is (λ K h.
+    let xs = given c.args.at.now in
+    c.bool_element.ensures K (record { low = h.low.0; high = h.high.0 }) (record { low = h.low.1.0; high = h.high.1.0 }) (record { low = h.low.1.1.0; high = h.high.1.1.0 }))

@@ -1,0 +1,14 @@
+use Rattle.std.proofs.Common.{◌≡◌, rules}
+use Rattle.fz_bounds.specs.declared.limits.Limits.{Limits}
+use Rattle.fz_bounds.specs.declared.outlook.Outlook.TheVariants.{Never}
+use Rattle.fz_bounds.specs.Within.{AreKnown}
+use Rattle.fz_builtins.specs.of_meaning.Known.{known_row}
+use Rattle.fz_bounds.proofs.Never.{row_never}
+use Rattle.fz_bounds.proofs.rows.row_fails.Goals as goal
+
+pub returns-then-are_known : goal.returns-then-are_known
+returns-then-are_known c = λ is_never.
+    let s : Limits = record { parts = c.args.parts.now; lowest = c.lowest.result; highest = c.highest.result } in
+    let at : AreKnown s (known_row c.in-Some.known).shapes = search rules in
+    let never : c.form_foretold.result ≡ Never = search rules in
+    row_never s c.args.bounds.now c.args.parts.now.number c.args.parts.now.posted.now.known c.in-Some.known c.form_foretold.result c.lowest.ensures c.highest.ensures c.requires.known c.in-Some.is at c.form_foretold.ensures never

@@ -1,0 +1,59 @@
+//! What bounds say of a builtin's row.
+
+ghost use Rattle.fz_builtins.specs.of_meaning.Builtins.{row_at};
+ghost use Rattle.fz_bounds.specs.Within.{Foretells};
+
+use crate::limits::Limits;
+use crate::outlook::Outlook;
+use fz_builtins::fz_meaning::Builtin;
+
+/// Whether the row of a builtin holds at no arguments inside the bounds, or at all of them.
+pub(crate) fn foretold(builtin: Builtin, at: &Limits<'_, '_>) -> Outlook
+    ensures { Foretells at.now (row_at builtin) result }
+{
+    match builtin {
+        Builtin::IntEq => at.number(0).equal(at.number(1)),
+        Builtin::IntNe => at.number(0).equal(at.number(1)).negated(),
+        Builtin::IntLe => at.number(0).at_most(at.number(1)),
+        Builtin::IntLt => at.number(0).below(at.number(1)),
+        Builtin::IntGe => at.number(1).at_most(at.number(0)),
+        Builtin::IntGt => at.number(1).below(at.number(0)),
+        Builtin::IntPlus => at.number(2).equal(at.number(0).plus(at.number(1))),
+        Builtin::IntMinus => at.number(2).equal(at.number(0).minus(at.number(1))),
+        Builtin::IntNegate => at.number(1).equal(at.number(0).negated()),
+        Builtin::BoolEq => at.truth(0).same(at.truth(1)),
+        Builtin::BoolLe => at.truth(0).negated().or(at.truth(1)),
+        Builtin::BoolLt => at.truth(0).negated().and(at.truth(1)),
+        Builtin::BoolGe => at.truth(1).negated().or(at.truth(0)),
+        Builtin::BoolGt => at.truth(1).negated().and(at.truth(0)),
+        Builtin::BoolNot => at.truth(0).same(at.truth(1)).negated(),
+        Builtin::BoolAnd => at.truth(2).same(at.truth(0).and(at.truth(1))),
+        Builtin::BoolOr => at.truth(2).same(at.truth(0).or(at.truth(1))),
+        Builtin::BoolXor => at.truth(2).same(at.truth(0).same(at.truth(1)).negated()),
+        Builtin::BoolAndImp => at.truth(2).negated().or(at.truth(0).and(at.truth(1))),
+        Builtin::BoolOrImp => at.truth(2).negated().or(at.truth(0).or(at.truth(1))),
+        Builtin::BoolXorImp => {
+            at.truth(2)
+                .negated()
+                .or(at.truth(0).same(at.truth(1)).negated())
+        }
+        Builtin::ArrayBoolAnd => at.truth(1).same(at.all_true(0)),
+        Builtin::ArrayBoolOr => at.truth(1).same(at.any_true(0)),
+        Builtin::ArrayBoolAndImp => at.truth(1).negated().or(at.all_true(0)),
+        Builtin::ArrayBoolOrImp => at.truth(1).negated().or(at.any_true(0)),
+        Builtin::BoolClause => at.any_true(0).or(at.any_false(1)),
+        Builtin::Bool2Int => at.number(1).equal(at.truth(0).number()),
+        Builtin::IntLinEq => at.sum_of_products().equal(at.number(2)),
+        Builtin::IntLinNe => at.sum_of_products().equal(at.number(2)).negated(),
+        Builtin::IntLinLe => at.sum_of_products().at_most(at.number(2)),
+        Builtin::BoolLinEq => at.sum_where_true().equal(at.number(2)),
+        Builtin::BoolLinNe => at.sum_where_true().equal(at.number(2)).negated(),
+        Builtin::BoolLinLe => at.sum_where_true().at_most(at.number(2)),
+        Builtin::BoolLinLt => at.sum_where_true().below(at.number(2)),
+        Builtin::BoolLinGe => at.number(2).at_most(at.sum_where_true()),
+        Builtin::BoolLinGt => at.number(2).below(at.sum_where_true()),
+        Builtin::ArrayIntElement => at.int_element(),
+        Builtin::ArrayBoolElement => at.bool_element(),
+        _ => Outlook::Open,
+    }
+}

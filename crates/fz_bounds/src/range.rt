@@ -1,0 +1,176 @@
+//! Ranges of numbers, and what they say of tests of numbers.
+
+ghost use Rattle.std.specs.Prelude.{◌≡◌, ℤ, pos, ◌+◌, ◌+ℤ◌, ◌-ℤ◌, ◌*ℤ◌, int_le, int_lt, IfSome, IsSomeAnd, IsTrue, true};
+ghost use Rattle.fz_builtins.specs.of_meaning.Relations.{◌=ℤ◌};
+ghost use Rattle.fz_bounds.specs.Decided.{Decides, LiesIn};
+
+use crate::outlook::Outlook;
+
+/// The numbers from one to another, where these are known.
+#[derive(Clone, Copy)]
+pub(crate) struct Range {
+    pub(crate) low: Option<i128>,
+    pub(crate) high: Option<i128>,
+}
+
+/// Whether both ends are known, and one is at most the other.
+fn is_at_most(one: Option<i128>, other: Option<i128>) -> bool
+    ensures { IsTrue result → IsSomeAnd one (λ a. IsSomeAnd other (λ b. int_le a b ≡ true)) }
+{
+    match (one, other) {
+        (Some(one), Some(other)) => one <= other,
+        _ => false,
+    }
+}
+
+/// The same of being less.
+fn is_below(one: Option<i128>, other: Option<i128>) -> bool
+    ensures { IsTrue result → IsSomeAnd one (λ a. IsSomeAnd other (λ b. int_lt a b ≡ true)) }
+{
+    match (one, other) {
+        (Some(one), Some(other)) => one < other,
+        _ => false,
+    }
+}
+
+/// The sum, where both are known and it has 128 bits.
+fn added(one: Option<i128>, other: Option<i128>) -> Option<i128>
+    ensures { IfSome result (λ r. IsSomeAnd one (λ a. IsSomeAnd other (λ b. r ≡ a +ℤ b))) }
+{
+    one?.checked_add(other?)
+}
+
+/// The number below zero that is as far from it, where it is known and has 128 bits.
+fn opposite(number: Option<i128>) -> Option<i128>
+    ensures { IfSome result (λ r. IsSomeAnd number (λ a. r ≡ pos 0 -ℤ a)) }
+{
+    0_i128.checked_sub(number?)
+}
+
+/// The product, where the number is known and the product has 128 bits.
+fn multiplied(coefficient: i64, number: Option<i128>) -> Option<i128>
+    ensures { IfSome result (λ r. IsSomeAnd number (λ a. r ≡ coefficient *ℤ a)) }
+{
+    i128::from(coefficient).checked_mul(number?)
+}
+
+impl Range {
+    /// Of any number.
+    pub(crate) fn unknown() -> Range
+        ensures { (n : ℤ) → LiesIn result n }
+    {
+        Range {
+            low: None,
+            high: None,
+        }
+    }
+
+    /// Of the index, counted from 1, of the element at a place that is counted from 0.
+    pub(crate) fn index(place: usize) -> Range
+        ensures { LiesIn result (pos (place + 1)) }
+    {
+        Range::of(place as i128 + 1)
+    }
+
+    /// Of the numbers from one to another.
+    pub(crate) fn between(low: i64, high: i64) -> Range
+        ensures { (n : ℤ) → int_le low n ≡ true → int_le n high ≡ true → LiesIn result n }
+    {
+        Range {
+            low: Some(i128::from(low)),
+            high: Some(i128::from(high)),
+        }
+    }
+
+    /// Of one number.
+    pub(crate) fn of(number: i128) -> Range
+        ensures { LiesIn result number }
+    {
+        Range {
+            low: Some(number),
+            high: Some(number),
+        }
+    }
+
+    /// Of the numbers of one range being at most those of another.
+    pub(crate) fn at_most(self, other: Range) -> Outlook
+        ensures { (a b : ℤ) → LiesIn self a → LiesIn other b → Decides result (int_le a b) }
+    {
+        if is_at_most(self.high, other.low) {
+            Outlook::Always
+        } else if is_below(other.high, self.low) {
+            Outlook::Never
+        } else {
+            Outlook::Open
+        }
+    }
+
+    /// Of the numbers of one range being below those of another.
+    pub(crate) fn below(self, other: Range) -> Outlook
+        ensures { (a b : ℤ) → LiesIn self a → LiesIn other b → Decides result (int_lt a b) }
+    {
+        if is_below(self.high, other.low) {
+            Outlook::Always
+        } else if is_at_most(other.high, self.low) {
+            Outlook::Never
+        } else {
+            Outlook::Open
+        }
+    }
+
+    /// Of their being equal.
+    pub(crate) fn equal(self, other: Range) -> Outlook
+        ensures { (a b : ℤ) → LiesIn self a → LiesIn other b → Decides result (a =ℤ b) }
+    {
+        if is_below(self.high, other.low) || is_below(other.high, self.low) {
+            Outlook::Never
+        } else if is_at_most(self.high, other.low) && is_at_most(other.high, self.low) {
+            Outlook::Always
+        } else {
+            Outlook::Open
+        }
+    }
+
+    /// Of the sums.
+    pub(crate) fn plus(self, other: Range) -> Range
+        ensures { (a b : ℤ) → LiesIn self a → LiesIn other b → LiesIn result (a +ℤ b) }
+    {
+        Range {
+            low: added(self.low, other.low),
+            high: added(self.high, other.high),
+        }
+    }
+
+    /// Of the numbers with the other sign.
+    pub(crate) fn negated(self) -> Range
+        ensures { (a : ℤ) → LiesIn self a → LiesIn result (pos 0 -ℤ a) }
+    {
+        Range {
+            low: opposite(self.high),
+            high: opposite(self.low),
+        }
+    }
+
+    /// Of the differences.
+    pub(crate) fn minus(self, other: Range) -> Range
+        ensures { (a b : ℤ) → LiesIn self a → LiesIn other b → LiesIn result (a -ℤ b) }
+    {
+        self.plus(other.negated())
+    }
+
+    /// Of the products with a number.
+    pub(crate) fn times(self, coefficient: i64) -> Range
+        ensures { (a : ℤ) → LiesIn self a → LiesIn result (coefficient *ℤ a) }
+    {
+        let low = multiplied(coefficient, self.low);
+        let high = multiplied(coefficient, self.high);
+        if coefficient >= 0 {
+            Range { low, high }
+        } else {
+            Range {
+                low: high,
+                high: low,
+            }
+        }
+    }
+}
