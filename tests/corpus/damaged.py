@@ -3,12 +3,12 @@
 
     damaged.py PROGRAM COUNT [SEED]
 
-A model has a solution by the way it is made, over the whole table of builtins, and its stream prints
-a part of that. In each of COUNT blocks one printed value is another one of its variable's domain.
-Whether a solution extends a block is found by trying all values of the variables that it leaves out,
-with the rows of slow.py. No block may be violated that a solution extends, and none satisfied that
-none extends. Prints how many of the blocks that no solution extends are told violated, and ends with
-'N passed, M failed'; the files of a model with a wrong verdict are kept."""
+A model has a solution by the way it is made, over the whole table of builtins, and its stream
+prints a part of that. In each of COUNT blocks one printed value is another one of its variable's
+domain. Whether a solution extends a block is found by trying all values of the variables that it
+leaves out, with the rows of slow.py. No block may be violated that a solution extends, and none
+satisfied that none extends. Prints how many of the blocks that no solution extends are violated,
+and ends with 'N passed, M failed'; the files of a wrong verdict are kept."""
 import itertools
 import os
 import random
@@ -21,8 +21,8 @@ sys.path.insert(0, HERE)
 import slow
 
 CORE = (
-    "int_lin_le int_lin_eq int_lin_ne int_le int_lt int_eq int_ne int_plus int_times int_min int_max "
-    "bool2int bool_clause array_bool_and array_bool_or bool_and bool_or bool_eq bool_not "
+    "int_lin_le int_lin_eq int_lin_ne int_le int_lt int_eq int_ne int_plus int_times int_min "
+    "int_max bool2int bool_clause array_bool_and array_bool_or bool_and bool_or bool_eq bool_not "
     "array_int_element array_var_int_element array_bool_element array_int_maximum "
     "int_lin_le_reif int_lin_eq_reif int_le_reif int_eq_reif int_ne_reif int_lin_le_imp int_eq_imp "
     "bool_clause_reif set_in_reif fzn_all_different_int fzn_count_eq fzn_table_int set_card"
@@ -45,7 +45,8 @@ class Small:
 
     def __init__(self, rand):
         self.rand = rand
-        self.kinds = [rand.choice("IIIBBS" if rand.random() < 0.3 else "IIIBB") for _ in range(rand.randint(4, 8))]
+        kinds = "IIIBBS" if rand.random() < 0.3 else "IIIBB"
+        self.kinds = [rand.choice(kinds) for _ in range(rand.randint(4, 8))]
         self.domains = [rand.choice(DOMAINS[kind]) for kind in self.kinds]
         self.solution = slow.Values(enumerate(map(rand.choice, self.domains)))
         self.constraints = []
@@ -70,18 +71,24 @@ class Small:
         for _ in range(300):
             length = self.rand.randint(1, 4)
             lengths = {p: length if p in row.together else self.rand.randint(1, 4) for p in lists}
-            fixed = {p: 0.9 if "lin" in name and p == 0 else self.rand.choice((0.1, 0.1, 0.6)) for p in range(len(row.kinds))}
-            args = [self.argument(kind, lengths.get(p, 1), fixed[p]) for p, kind in enumerate(row.kinds)]
-            if row.has_whole_rows and not row.has_whole_rows(*map(shape_of, args)):
+            args = []
+            for place, kind in enumerate(row.kinds):
+                is_factors = "lin" in name and place == 0
+                fixed = 0.9 if is_factors else self.rand.choice((0.1, 0.1, 0.6))
+                args.append(self.argument(kind, lengths.get(place, 1), fixed))
+            if row.has_whole_rows and not row.has_whole_rows(*args):
                 continue
             if holds(row, args, self.solution):
                 self.constraints.append((name, row, args))
                 return
 
     def text(self):
-        lines = [f"var {domain_text(d, k)}: x{n};" for n, (k, d) in enumerate(zip(self.kinds, self.domains))]
+        lines = []
+        for number, (kind, domain) in enumerate(zip(self.kinds, self.domains)):
+            lines.append(f"var {domain_text(domain, kind)}: x{number};")
         for name, row, args in self.constraints:
-            lines.append(f"constraint {name}({','.join(map(argument_text, args))}){self.note(row, args)};")
+            words = ",".join(map(argument_text, args))
+            lines.append(f"constraint {name}({words}){self.note(row, args)};")
         return "\n".join(lines) + "\nsolve satisfy;\n"
 
     def note(self, row, args):
@@ -92,7 +99,8 @@ class Small:
         return ""
 
     def is_extended(self, values):
-        """Whether some values of the other variables make a solution, or none where that takes too long."""
+        """Whether some values of the other variables make a solution, or none where there are too
+        many to try."""
         missing = [n for n in range(len(self.kinds)) if n not in values]
         size = 1
         for number in missing:
@@ -102,16 +110,10 @@ class Small:
         if any(values[n] not in self.domains[n] for n in values):
             return False
         for chosen in itertools.product(*(self.domains[n] for n in missing)):
-            whole = slow.Values(values, **{})
-            whole.update(zip(missing, chosen))
+            whole = slow.Values({**values, **dict(zip(missing, chosen))})
             if all(holds(row, args, whole) for _, row, args in self.constraints):
                 return True
         return False
-
-
-def shape_of(argument):
-    """What a test of whole rows is told: how long an array is, or a fixed number."""
-    return argument
 
 
 def holds(row, args, values):
@@ -147,22 +149,31 @@ def argument_text(argument):
 
 
 def block_text(values):
-    return "".join(f"x{n} = {value_text(v)};\n" for n, v in sorted(values.items())) + "-" * 10 + "\n"
+    items = [f"x{n} = {value_text(v)};\n" for n, v in sorted(values.items())]
+    return "".join(items) + "-" * 10 + "\n"
 
 
 def damaged(model, printed, rand):
     """The values with another one in one place."""
     number = rand.choice(sorted(printed))
     others = [v for v in model.domains[number] if v != printed[number]]
-    return slow.Values(printed, **{}) | {number: rand.choice(others)}
+    return {**printed, number: rand.choice(others)}
 
 
-def verdicts(program, folder, model, blocks):
+def write(folder, model, blocks):
+    """The paths of the model and the stream."""
     paths = [os.path.join(folder, name) for name in ("model.fzn", "stream.txt")]
     for path, text in zip(paths, (model.text(), "".join(map(block_text, blocks)))):
         with open(path, "w") as f:
             f.write(text)
-    ran = subprocess.run([program, "check", "--complete", *paths], capture_output=True, text=True, timeout=MOST_SECONDS)
+    return paths
+
+
+def verdicts(program, folder, model, blocks):
+    """The verdict on each block of a stream, or what the program writes where that is not one."""
+    paths = write(folder, model, blocks)
+    words = [program, "check", "--complete", *paths]
+    ran = subprocess.run(words, capture_output=True, text=True, timeout=MOST_SECONDS)
     told = [line.split(": ")[1] for line in ran.stdout.splitlines() if line.startswith("block ")]
     return told if len(told) == len(blocks) else [ran.stdout + ran.stderr] * len(blocks)
 
@@ -191,10 +202,7 @@ def main():
                 else:
                     failed += 1
                     kept = tempfile.mkdtemp(prefix=f"damaged-{seed}-{number}-")
-                    with open(os.path.join(kept, "model.fzn"), "w") as f:
-                        f.write(model.text())
-                    with open(os.path.join(kept, "stream.txt"), "w") as f:
-                        f.write(block_text(block))
+                    write(kept, model, [block])
                     print(f"{kept}: {told}, and some solution extends it: {extended}")
     print(f"{refuted} of {without} blocks that no solution extends are violated")
     print(f"{passed} passed, {failed} failed")

@@ -1,5 +1,5 @@
 -- What a point says of bounds is said of the known-solutions inside them.
-use Rattle.std.proofs.Common.{◌≡◌, ℕ, zero, suc, ◌<◌, List, [], ◌∷◌, length, Some, slice_get, refl, arith, subst₂}
+use Rattle.std.proofs.Common.{◌≡◌, ℕ, zero, suc, ◌<◌, List, [], ◌∷◌, length, Option, Some, None, IfSome, slice_get, refl, arith, subst, subst₂}
 use Rattle.fz_base.specs.declared.value.Value.{Value}
 use Rattle.fz_bounds.specs.Bounds.{IsInside, LiesBetween, NumberNeverHolds, Ranges, narrowed}
 use Rattle.fz_bounds.proofs.Giving.{given_there}
@@ -37,8 +37,15 @@ pub none_before : (m : Model) (B C : Ranges) → KeepSolutions m B C → HaveNoS
     → HaveNoSolution m B
 none_before m B C h g A solution inside = g A solution (h A solution inside)
 
-pub none_lost : (m : Model) (B : Ranges) → KeepSolutions m B B
-none_lost m B A solution inside = inside
+-- where some step is told to leave nothing
+pub none_so : {X : Type 0} (m : Model) (B C : Ranges) (o : Option X) → KeepSolutions m B C
+    → IfSome o (λ _. HaveNoSolution m C) → IfSome o (λ _. HaveNoSolution m B)
+none_so m B C None h g = tt
+none_so m B C (Some x) h g = none_before m B C h g
+
+pub refuted_so : {X : Type 0} (m : Model) (B : Ranges) (o : Option X) (x : X) → o ≡ Some x
+    → IfSome o (λ _. HaveNoSolution m B) → HaveNoSolution m B
+refuted_so m B o x e h = subst (λ p. IfSome p (λ _. HaveNoSolution m B)) e h
 
 -- A value is taken from a variable: no known-solution has it where none lies inside a copy of the
 -- bounds in which the variable has that value.

@@ -106,7 +106,11 @@ fn refute(
     if found.is_some() {
         return Ok(found);
     }
-    if point < model.points() && cannot_hold(alloc, model, point, bounds)? {
+    if point >= model.points() {
+        return Ok(None);
+    }
+    let fails = cannot_hold(alloc, model, point, bounds)?;
+    if fails {
         return Ok(Some(Refutation {
             point,
             emptied: None,
@@ -126,7 +130,8 @@ fn lose(
 ) -> Result<bool, AllocError>
     ensures kept { IfOk result (λ _. KeepSolutions model.now bounds.old bounds.new) }
 {
-    if retake(alloc, model, bounds, &conflict.before)?.is_some() {
+    let early = retake(alloc, model, bounds, &conflict.before)?;
+    if early.is_some() {
         return Ok(false);
     }
     let Some(ends) = bounds.ends(guess.variable) else {
@@ -135,7 +140,8 @@ fn lose(
     let number = guess.ends.low;
     let mut supposed = bounds.copy(alloc, model)?;
     supposed.narrow(guess.variable, ends.kind, number, number);
-    match refute(alloc, model, &mut supposed, &conflict.steps, conflict.point)? {
+    let refutation = refute(alloc, model, &mut supposed, &conflict.steps, conflict.point)?;
+    match refutation {
         Some(_) => Ok(bounds.take(guess.variable, ends.kind, number)),
         None => Ok(false),
     }
