@@ -2,8 +2,8 @@
 #                  on where it was stopped, and uses JOBS processors (all)
 # make test        the gate: every proof from nothing, the must-fail edits, the tests, the program
 # make corpus      runs the built program over tests/corpus and examples, beside the second checker
-#                  (tests/corpus/slow.py) on random models, and with minizinc/, and inside MiniZinc,
-#                  where that is installed
+#                  (tests/corpus/slow.py) on random models and on damaged blocks, and with minizinc/,
+#                  and inside MiniZinc, where that is installed
 # make fuzz        runs it on random broken texts beside that checker, for SECONDS (600), by SEED
 # make bench       measures the built program beside the plain program in plain/ (some minutes), or
 #                  with SIZE=500 on models of 500 MB
@@ -56,6 +56,7 @@ corpus: build/fzcheck
 	tests/corpus/run.py build/fzcheck tests/corpus examples
 	tests/corpus/left_out.py build/fzcheck
 	tests/corpus/differ.py build/fzcheck - 300
+	tests/corpus/damaged.py build/fzcheck 2000
 	tests/corpus/reasons.py build/fzcheck 10000
 	tests/minizinc.py build/fzcheck
 	tests/inside.py build/fzcheck

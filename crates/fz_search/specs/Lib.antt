@@ -1,1 +1,2 @@
-pub use Rattle.fz_model.specs as of_model
+pub use Rattle.fz_bounds.specs.of_model as of_model
+pub mod Refuted

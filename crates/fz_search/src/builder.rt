@@ -4,7 +4,7 @@ use crate::arguments::{declared_elements, elements_in, scalar_in};
 use crate::points::Points;
 use crate::relations::{Shape, Terms, shape_of};
 use crate::row::{Claim, Product, Relation, Row, Rule};
-use fz_model::{
+use fz_bounds::fz_model::{
     Argument, Builtin, ConstraintParts, Form, Kind, Known, Model, PointParts, Scalar, Scalars,
     Slot, Term, part, scalar_at,
 };
@@ -31,12 +31,29 @@ fn other_rule(known: Option<Known>) -> Rule {
     let Some(known) = known else {
         return Rule::Plain;
     };
+    if !matches!(known.form, Form::Base) {
+        return Rule::Plain;
+    }
     match known.builtin {
         Builtin::ArrayIntElement | Builtin::ArrayBoolElement => Rule::Element,
         Builtin::FznGlobalCardinality | Builtin::FznGlobalCardinalityClosed => Rule::Tally,
         Builtin::GecodeBinPackingLoad | Builtin::FznDistribute => Rule::Tally,
         _ => Rule::Plain,
     }
+}
+
+/// Whether the coefficients of a sum are fixed.
+fn has_coefficients(parts: &ConstraintParts<'_, '_>, terms: Terms) -> bool {
+    let coefficients = match terms {
+        Terms::Weighted => elements_in(parts, 0),
+        _ => return true,
+    };
+    for slot in coefficients.slots {
+        if matches!(slot, Slot::Variable(_)) {
+            return false;
+        }
+    }
+    true
 }
 
 /// The lists of the points so far, and what is needed to add one.
@@ -57,12 +74,15 @@ impl Builder {
     fn new(alloc: Global, variables: usize) -> Result<Builder, AllocError> {
         let mut last = Vec::new(alloc);
         last.resize(variables, 0usize)?;
+        let mut domains = Vec::new(alloc);
+        domains.resize(variables, 0usize)?;
         Ok(Builder {
             points: Points {
                 ends: Vec::new(alloc),
                 products: Vec::new(alloc),
                 rules: Vec::new(alloc),
                 costs: Vec::new(alloc),
+                domains,
             },
             last,
             first: 0,
@@ -76,7 +96,13 @@ impl Builder {
         self.constant = 0;
         self.cost = 1;
         let rule = match parts {
-            PointParts::Domain(..) | PointParts::Elements(..) => Rule::Plain,
+            PointParts::Domain(_, own) => {
+                if let Some(domain) = self.points.domains.get_mut(*own) {
+                    *domain = self.points.rules.len();
+                }
+                Rule::Plain
+            }
+            PointParts::Elements(..) => Rule::Plain,
             PointParts::Definition(variable, own, side) => {
                 self.add_definition(variable.kind, *own, side)?
             }
@@ -106,8 +132,10 @@ impl Builder {
     fn add_constraint(&mut self, parts: &ConstraintParts<'_, '_>) -> Result<Rule, AllocError> {
         let row = match parts.posted.known {
             Some(known) => match shape_of(known) {
-                Some(shape) => self.add_row(parts, shape, known.form)?,
-                None => None,
+                Some(shape) if has_coefficients(parts, shape.terms) => {
+                    self.add_row(parts, shape, known.form)?
+                }
+                Some(_) | None => None,
             },
             None => None,
         };

@@ -2,7 +2,7 @@
 
 use crate::arguments::scalar_in;
 use crate::work::Work;
-use fz_model::{Builtin, ConstraintParts, Scalar};
+use fz_bounds::fz_model::{Builtin, ConstraintParts, Scalar};
 
 /// The index of the result among the arguments of a row over two numbers.
 fn place_of_result(builtin: Builtin) -> Option<usize> {

@@ -4,7 +4,7 @@ use crate::arguments::{elements_in, scalar_in};
 use crate::ends::Ends;
 use crate::stop::Stop;
 use crate::work::Work;
-use fz_model::Scalar;
+use fz_bounds::fz_model::Scalar;
 
 impl<'k, 'm, 'a> Work<'k, 'm, 'a> {
     /// Visits an element of an array. Where the index is known, the element and the result have the
@@ -17,10 +17,10 @@ impl<'k, 'm, 'a> Work<'k, 'm, 'a> {
             return self.visit_lone(point);
         };
         let Ok(place) = usize::try_from(index.saturating_sub(1)) else {
-            return Err(Stop::NothingFound);
+            return Err(Stop::Contradiction);
         };
         let Some(element) = elements_in(&parts, 1).get(place) else {
-            return Err(Stop::NothingFound);
+            return Err(Stop::Contradiction);
         };
         let value = scalar_in(&parts, 2);
         let both = self.ends_in(element).within(self.ends_in(value));
@@ -36,7 +36,7 @@ impl<'k, 'm, 'a> Work<'k, 'm, 'a> {
                 if ends.low <= ends.high {
                     Ok(())
                 } else {
-                    Err(Stop::NothingFound)
+                    Err(Stop::Contradiction)
                 }
             }
         }

@@ -1,7 +1,10 @@
 //! Bounds of variables. A Boolean is 0 or 1 there.
 
 use fz_base::{IntSet, Value};
-use fz_model::{Domain, Kind};
+use fz_bounds::fz_model::{Domain, Kind};
+
+/// So many numbers are looked at from an end on.
+const MOST_STEPS: i64 = 1000;
 
 /// The numbers from one to another; none where the first is above the second.
 #[derive(Clone, Copy)]
@@ -65,9 +68,35 @@ impl Ends {
             high: self.high.min(other.high),
         }
     }
+
+    /// The same from the first of some numbers to the last. Only so many are looked for.
+    pub(crate) fn around(self, numbers: &IntSet) -> Ends {
+        Ends {
+            low: self.first_of(numbers, End::Low),
+            high: self.first_of(numbers, End::High),
+        }
+    }
+
+    /// The first of some numbers from an end on, or the end where it is far from that.
+    fn first_of(self, numbers: &IntSet, from: End) -> i64 {
+        let end = match from {
+            End::Low => self.low,
+            End::High => self.high,
+        };
+        for steps in 0..MOST_STEPS {
+            match self.counted(from, steps) {
+                Some(number) => if numbers.contains(number) {
+                    return number;
+                },
+                None => return end,
+            }
+        }
+        end
+    }
 }
 
-const ALL: Ends = Ends {
+/// All numbers.
+pub(crate) const ALL: Ends = Ends {
     low: i64::MIN,
     high: i64::MAX,
 };
@@ -86,24 +115,6 @@ pub(crate) fn value_of(kind: Kind, number: i64) -> Value {
     match kind {
         Kind::Bool => Value::Bool(number != 0),
         Kind::Int | Kind::Set => Value::Int(number),
-    }
-}
-
-/// The bounds of what a domain admits.
-pub(crate) fn ends_of(kind: Kind, domain: &Domain) -> Ends {
-    match kind {
-        Kind::Bool => Ends { low: 0, high: 1 },
-        Kind::Int | Kind::Set => match domain {
-            Domain::All => ALL,
-            Domain::Within(low, high) => Ends {
-                low: *low,
-                high: *high,
-            },
-            Domain::Among(numbers) => Ends {
-                low: least_of(numbers),
-                high: greatest_of(numbers),
-            },
-        },
     }
 }
 
@@ -127,41 +138,4 @@ pub(crate) fn admits_number(domain: &Domain, number: i64) -> bool {
         Domain::Within(low, high) => *low <= number && number <= *high,
         Domain::Among(numbers) => numbers.contains(number),
     }
-}
-
-/// The number in the middle between two.
-fn middle(low: i64, high: i64) -> i64 {
-    (low >> 1)
-        .saturating_add(high >> 1)
-        .saturating_add(low & high & 1)
-}
-
-/// The least number of a set, found by binary search.
-fn least_of(numbers: &IntSet) -> i64 {
-    let mut low = i64::MIN;
-    let mut high = i64::MAX;
-    for _ in 0..64 {
-        let above = middle(low, high).saturating_add(1);
-        if numbers.within(above, i64::MAX) {
-            low = above;
-        } else {
-            high = above.saturating_sub(1);
-        }
-    }
-    low
-}
-
-/// The greatest number of a set.
-fn greatest_of(numbers: &IntSet) -> i64 {
-    let mut low = i64::MIN;
-    let mut high = i64::MAX;
-    for _ in 0..64 {
-        let half = middle(low, high);
-        if numbers.within(i64::MIN, half) {
-            high = half;
-        } else {
-            low = half.saturating_add(1);
-        }
-    }
-    high
 }

@@ -4,7 +4,7 @@
 use crate::builder::points_of;
 use crate::points::{Points, items_of};
 use crate::row::{Place, Product, Rule};
-use fz_model::Model;
+use fz_bounds::fz_model::Model;
 use std::alloc::{AllocError, Global};
 
 const NOWHERE: Place = Place {
@@ -52,6 +52,16 @@ impl Search {
             Some(rule) => *rule,
             None => Rule::Plain,
         }
+    }
+
+    /// How many variables there are.
+    pub(crate) fn variables(&self) -> usize {
+        self.points.domains.len()
+    }
+
+    /// The point that is the domain of a variable.
+    pub(crate) fn domain_of(&self, variable: usize) -> usize {
+        self.points.domains.get(variable).copied().unwrap_or(0)
     }
 
     /// How many steps it takes to look at a point.

@@ -10,9 +10,12 @@
 mod agenda;
 mod arguments;
 mod builder;
+mod changes;
 mod computed;
+mod conflict;
 mod element;
 mod ends;
+mod grounds;
 mod guess;
 mod index;
 mod linear;
@@ -29,8 +32,8 @@ mod tables;
 mod tally;
 mod work;
 
-pub use fz_model;
+pub use fz_bounds::fz_model;
 pub use index::Search;
-pub use refuting::{Refutation, refuted};
+pub use refuting::{Emptied, Refutation, refuted};
 pub use row::Place;
 pub use search::{known_of, propose};

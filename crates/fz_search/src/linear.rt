@@ -113,7 +113,7 @@ impl<'k, 'm, 'a> Work<'k, 'm, 'a> {
     /// all but one are known to move no further, only that one is looked at.
     fn hold_all(&mut self, point: usize, slack: i128, to_least: bool) -> Result<(), Stop> {
         if slack < 0 {
-            return Err(Stop::NothingFound);
+            return Err(Stop::Contradiction);
         }
         let products = self.known.products_of(point);
         let reach = self.reach_of(point);
@@ -173,7 +173,7 @@ impl<'k, 'm, 'a> Work<'k, 'm, 'a> {
                 None => Ok(()),
             },
             None => if rest == 0 {
-                Err(Stop::NothingFound)
+                Err(Stop::Contradiction)
             } else {
                 Ok(())
             },

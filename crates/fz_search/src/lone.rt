@@ -5,7 +5,7 @@ use crate::stop::Stop;
 use crate::subsets::{few_members, subset, subsets_of};
 use crate::work::Work;
 use fz_base::Value;
-use fz_model::{Kind, State};
+use fz_bounds::fz_model::{Kind, State};
 
 /// Where a variable's bounds have more numbers between them than this, its values aren't tried.
 const MOST_VALUES: i64 = 1000;
@@ -47,28 +47,45 @@ impl<'k, 'm, 'a> Work<'k, 'm, 'a> {
         }
     }
 
-    /// Leaves a variable the numbers from the least to the greatest with which a point holds.
+    /// Takes from a variable the numbers at its ends with which a point doesn't hold.
     fn try_numbers(&mut self, point: usize, variable: usize) -> Result<(), Stop> {
-        let ends = self.ends_of(variable);
-        if ends.width() > i128::from(MOST_VALUES) {
+        if self.ends_of(variable).width() > i128::from(MOST_VALUES) {
             return Ok(());
         }
-        let Some(low) = self.first_that_holds(point, variable, End::Low)? else {
-            return Err(Stop::NothingFound);
-        };
-        let Some(high) = self.first_that_holds(point, variable, End::High)? else {
-            return Err(Stop::NothingFound);
-        };
-        self.tighten(variable, low, high)
+        self.try_from(point, variable, End::Low)?;
+        self.try_from(point, variable, End::High)
     }
 
-    /// The number nearest to an end of a variable's bounds with which a point holds.
-    fn first_that_holds(
+    /// Takes from a variable the numbers from an end up to the first one with which a point holds:
+    /// one stretch after another, where its domain has gaps.
+    fn try_from(&mut self, point: usize, variable: usize, from: End) -> Result<(), Stop> {
+        for _ in 0..=MOST_VALUES {
+            if self.proposal.has(variable) {
+                return Ok(());
+            }
+            let ends = self.ends_of(variable);
+            let Some((number, holds)) = self.first_left(point, variable, from)? else {
+                return self.tighten(variable, ends.high.saturating_add(1), ends.high);
+            };
+            match from {
+                End::Low => self.tighten(variable, number, ends.high)?,
+                End::High => self.tighten(variable, ends.low, number)?,
+            }
+            if holds {
+                return Ok(());
+            }
+        }
+        Ok(())
+    }
+
+    /// The number nearest to an end of a variable's bounds that its domain hasn't, or with which a
+    /// point holds; and whether it is the latter.
+    fn first_left(
         &mut self,
         point: usize,
         variable: usize,
         from: End,
-    ) -> Result<Option<i64>, Stop> {
+    ) -> Result<Option<(i64, bool)>, Stop> {
         let ends = self.ends_of(variable);
         let kind = self.kind_of(variable);
         for steps in 0..=MOST_VALUES {
@@ -76,7 +93,10 @@ impl<'k, 'm, 'a> Work<'k, 'm, 'a> {
                 return Ok(None);
             };
             if self.holds_with(point, variable, value_of(kind, number))? {
-                return Ok(Some(number));
+                return Ok(Some((number, true)));
+            }
+            if !self.has_in_domain(variable, number) {
+                return Ok(Some((number, false)));
             }
         }
         Ok(None)
@@ -85,7 +105,7 @@ impl<'k, 'm, 'a> Work<'k, 'm, 'a> {
     /// Gives a variable the only set with which a point holds, where there is no other.
     fn try_sets(&mut self, point: usize, variable: usize) -> Result<(), Stop> {
         let Some(domain) = self.domain_of(variable) else {
-            return Err(Stop::NothingFound);
+            return Err(Stop::Contradiction);
         };
         let Some(members) = few_members(self.alloc, domain, self.ends_of(variable))? else {
             return Ok(());
@@ -105,7 +125,7 @@ impl<'k, 'm, 'a> Work<'k, 'm, 'a> {
                 let set = subset(self.alloc, &members, number)?;
                 self.give(variable, set)
             }
-            None => Err(Stop::NothingFound),
+            None => Err(Stop::Contradiction),
         }
     }
 }

@@ -13,6 +13,8 @@ pub(crate) struct Points {
     pub(crate) rules: Vec<Rule>,
     /// one more than the number of scalars of each point
     pub(crate) costs: Vec<usize>,
+    /// the point that is the domain of each variable
+    pub(crate) domains: Vec<usize>,
 }
 
 /// The list of this number, where all lists are in one, one after another, and `ends` has their

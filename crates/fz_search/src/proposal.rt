@@ -1,12 +1,12 @@
 //! The values so far: at each step a partial assignment of the model.
 
 ghost use Rattle.std.specs.Prelude.{◌≡◌, IfOk, IsTrue, Some};
-ghost use Rattle.fz_model.specs.Meaning.{IsPartial};
-ghost use Rattle.fz_model.specs.Steps.{kind_at};
-ghost use Rattle.fz_model.specs.Relations.{kind_of};
+ghost use Rattle.fz_bounds.specs.of_model.Meaning.{IsPartial};
+ghost use Rattle.fz_bounds.specs.of_model.Steps.{kind_at};
+ghost use Rattle.fz_bounds.specs.of_model.Relations.{kind_of};
 
 use fz_base::Value;
-use fz_model::{
+use fz_bounds::fz_model::{
     ConstraintParts, Model, Partial, PointParts, State, forced, kind_of, same_kind, state,
 };
 use std::alloc::{AllocError, Global};
@@ -83,7 +83,7 @@ impl<'m, 'a> std::marker::Model for Proposal<'m, 'a> {
 
     ghost coded = { Prim.hlevel (codes, the_set.the_row.coded) };
 
-    ghost use Rattle.fz_model.specs.Meaning.{IsPartial};
+    ghost use Rattle.fz_bounds.specs.of_model.Meaning.{IsPartial};
 
     ghost view = { λ p. p.partial };
 

@@ -1,21 +1,157 @@
 //! Blocks that no solution extends.
 
 ghost use Rattle.std.specs.Prelude.{◌<◌, IfOk, IfSome, length};
-ghost use Rattle.fz_model.specs.Meaning.{Assignment, IsPartial, points, whole};
-ghost use Rattle.fz_model.specs.Openings.{HasEach};
-ghost use Rattle.fz_model.specs.States.{IsKnownSolution};
+ghost use Rattle.fz_bounds.specs.of_model.Meaning.{Assignment, IsPartial, points, whole};
+ghost use Rattle.fz_bounds.specs.of_model.Openings.{HasEach};
+ghost use Rattle.fz_bounds.specs.of_model.States.{IsKnownSolution};
+ghost use Rattle.fz_search.specs.Refuted.{HaveNoSolution, KeepSolutions};
 
+use crate::conflict::{Conflict, met};
+use crate::grounds::Step;
 use crate::index::Search;
-use fz_model::{Model, Partial};
+use crate::search::known_of;
+use crate::work::Budget;
+use fz_bounds::fz_model::{Model, Partial};
+use fz_bounds::{Bounds, Tightened, cannot_hold};
 use std::alloc::{AllocError, Global};
 
-/// Why no solution has some values: the number of a point that can't hold.
+/// At most so many guesses are refuted.
+const MOST_GUESSES: usize = 100;
+
+/// A variable to which a point leaves no number, and its bounds before that.
+#[derive(Clone, Copy, Debug)]
+pub struct Emptied {
+    pub variable: usize,
+    pub low: i64,
+    pub high: i64,
+}
+
+/// Why no solution has some values: the number of a point that can't hold within the bounds that
+/// other points leave, and the variable to which it leaves nothing, where there is one.
 #[derive(Clone, Copy, Debug)]
 pub struct Refutation {
     pub point: usize,
+    pub emptied: Option<Emptied>,
 }
 
-/// Whether it is shown that no known-solution has the filling's values, and at which point.
+/// The variable of a step, with its bounds.
+fn left_before(bounds: &Bounds, variable: usize) -> Option<Emptied> {
+    let ends = bounds.ends(variable)?;
+    Some(Emptied {
+        variable,
+        low: ends.low,
+        high: ends.high,
+    })
+}
+
+/// Takes one step again, where its point shows it. The answer tells of a point that leaves a
+/// variable nothing.
+fn take(
+    alloc: Global,
+    model: &Model<'_>,
+    bounds: &mut Bounds,
+    step: Step,
+) -> Result<Option<Refutation>, AllocError>
+    ensures in_range { IfOk result (λ o. IfSome o (λ r. r.point < length (points model.now))) }
+    ensures kept { IfOk result (λ _. KeepSolutions model.now bounds.old bounds.new) }
+    ensures none { IfOk result (λ o. IfSome o (λ _. HaveNoSolution model.now bounds.old)) }
+{
+    if step.point >= model.points() {
+        return Ok(None);
+    }
+    let before = left_before(bounds, step.variable);
+    let (low, high) = (step.ends.low, step.ends.high);
+    match bounds.tighten(alloc, model, step.point, step.variable, low, high)? {
+        Tightened::Empty => Ok(Some(Refutation {
+            point: step.point,
+            emptied: before,
+        })),
+        Tightened::Narrowed | Tightened::Unshown => Ok(None),
+    }
+}
+
+/// Takes steps again, each where its point shows it, until one leaves a variable nothing.
+fn retake(
+    alloc: Global,
+    model: &Model<'_>,
+    bounds: &mut Bounds,
+    steps: &[Step],
+) -> Result<Option<Refutation>, AllocError>
+    ensures in_range { IfOk result (λ o. IfSome o (λ r. r.point < length (points model.now))) }
+    ensures kept { IfOk result (λ _. KeepSolutions model.now bounds.old bounds.new) }
+    ensures none { IfOk result (λ o. IfSome o (λ _. HaveNoSolution model.now bounds.old)) }
+{
+    for step in steps {
+        let found = take(alloc, model, bounds, *step)?;
+        if found.is_some() {
+            return Ok(found);
+        }
+    }
+    Ok(None)
+}
+
+/// Takes the steps to a contradiction again, and tells whether they come to a point that can't
+/// hold.
+fn refute(
+    alloc: Global,
+    model: &Model<'_>,
+    bounds: &mut Bounds,
+    steps: &[Step],
+    point: usize,
+) -> Result<Option<Refutation>, AllocError>
+    ensures in_range { IfOk result (λ o. IfSome o (λ r. r.point < length (points model.now))) }
+    ensures none { IfOk result (λ o. IfSome o (λ _. HaveNoSolution model.now bounds.old)) }
+{
+    let found = retake(alloc, model, bounds, steps)?;
+    if found.is_some() {
+        return Ok(found);
+    }
+    if point >= model.points() {
+        return Ok(None);
+    }
+    let fails = cannot_hold(alloc, model, point, bounds)?;
+    if fails {
+        return Ok(Some(Refutation {
+            point,
+            emptied: None,
+        }));
+    }
+    Ok(None)
+}
+
+/// Takes from a variable the number that was guessed, where that is shown to come to a
+/// contradiction, and tells whether it did.
+fn lose(
+    alloc: Global,
+    model: &Model<'_>,
+    bounds: &mut Bounds,
+    conflict: &Conflict,
+    guess: Step,
+) -> Result<bool, AllocError>
+    ensures kept { IfOk result (λ _. KeepSolutions model.now bounds.old bounds.new) }
+{
+    let early = retake(alloc, model, bounds, &conflict.before)?;
+    if early.is_some() {
+        return Ok(false);
+    }
+    let Some(ends) = bounds.ends(guess.variable) else {
+        return Ok(false);
+    };
+    let number = guess.ends.low;
+    let mut supposed = bounds.copy(alloc, model)?;
+    supposed.narrow(guess.variable, ends.kind, number, number);
+    let refutation = refute(alloc, model, &mut supposed, &conflict.steps, conflict.point)?;
+    match refutation {
+        Some(_) => Ok(bounds.take(guess.variable, ends.kind, number)),
+        None => Ok(false),
+    }
+}
+
+/// Whether bounds of the variables show that no known-solution has the filling's values, and at
+/// which point. Bounds are narrowed as a search does that; where this comes to a contradiction, the
+/// steps that it rests on are proved, one after another. Where the first guess of a search comes to
+/// one in this way, its variable can't have that number, and bounds are narrowed anew. The search's
+/// budget bounds it. It refuses only where memory runs out.
 pub fn refuted(
     alloc: Global,
     model: &Model<'_>,
@@ -27,5 +163,19 @@ pub fn refuted(
     ensures none { IfOk result (λ o. IfSome o (λ _. (A : Assignment)
         → IsKnownSolution model.now A → HasEach filling.now (whole A) → ⊥)) }
 {
+    let known = known_of(alloc, model, known)?;
+    let mut bounds = Bounds::new(alloc, model, filling)?;
+    let mut budget = Budget::new(known, model);
+    for _ in 0..MOST_GUESSES {
+        let Some(conflict) = met(alloc, known, model, filling, &bounds, &mut budget)? else {
+            return Ok(None);
+        };
+        let Some(guess) = conflict.guess else {
+            return refute(alloc, model, &mut bounds, &conflict.steps, conflict.point);
+        };
+        if !lose(alloc, model, &mut bounds, &conflict, guess)? {
+            return Ok(None);
+        }
+    }
     Ok(None)
 }

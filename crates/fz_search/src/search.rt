@@ -1,15 +1,18 @@
 //! The search for values.
 
 ghost use Rattle.std.specs.Prelude.{IfOk, IfSome};
-ghost use Rattle.fz_model.specs.Meaning.{IsPartial};
+ghost use Rattle.fz_bounds.specs.of_model.Meaning.{IsPartial};
 
 use crate::ends::End;
 use crate::index::Search;
 use crate::proposal::copied;
 use crate::row::Rule;
 use crate::stop::Stop;
-use crate::work::Work;
-use fz_model::{Goal, Model, Partial, Term};
+use crate::work::{Budget, Work};
+use fz_bounds::Bounds;
+use fz_bounds::fz_model::{
+    Domain, Goal, Model, Partial, PointParts, Scalars, Slot, Term,
+};
 use std::alloc::{AllocError, Global};
 
 /// A variable that is to get a small value, or a great one.
@@ -71,11 +74,12 @@ impl<'k, 'm, 'a> Work<'k, 'm, 'a> {
     }
 
     /// Visits points until the agenda is empty.
-    fn settle(&mut self) -> Result<(), Stop> {
-        for _ in 0..self.left {
+    pub(crate) fn settle(&mut self) -> Result<(), Stop> {
+        for _ in 0..self.budget.steps {
             let Some(point) = self.agenda.take_first() else {
                 return Ok(());
             };
+            self.point = point;
             self.visit(1)?;
             match self.known.rule_of(point) {
                 Rule::Linear(row) => self.visit_row(point, row)?,
@@ -96,6 +100,38 @@ impl<'k, 'm, 'a> Work<'k, 'm, 'a> {
         self.settle()
     }
 
+    /// Puts all points on the agenda, and keeps the elements of arrays in the arrays' domains.
+    pub(crate) fn begin(&mut self) -> Result<(), Stop> {
+        let model = self.proposal.model();
+        for point in 0..model.points() {
+            self.wake(point)?;
+            if let PointParts::Elements(_, domain, elements) = model.point_parts(point) {
+                self.point = point;
+                self.keep_inside(domain, elements)?;
+            }
+        }
+        Ok(())
+    }
+
+    fn keep_inside(&mut self, domain: &Domain, elements: Scalars<'_>) -> Result<(), Stop> {
+        for slot in elements.slots {
+            let Slot::Variable(number) = slot else {
+                continue;
+            };
+            let variable = *number as usize;
+            let ends = self.ends_of(variable);
+            match domain {
+                Domain::All => {}
+                Domain::Within(low, high) => self.tighten(variable, *low, *high)?,
+                Domain::Among(numbers) => {
+                    let around = ends.around(numbers);
+                    self.tighten(variable, around.low, around.high)?;
+                }
+            }
+        }
+        Ok(())
+    }
+
     /// Gives each variable a value, the one that is to come first before all others.
     fn complete(
         &mut self,
@@ -103,9 +139,7 @@ impl<'k, 'm, 'a> Work<'k, 'm, 'a> {
         before: Option<i64>,
         first: Option<usize>,
     ) -> Result<(), Stop> {
-        for point in 0..self.proposal.model().points() {
-            self.wake(point)?;
-        }
+        self.begin()?;
         self.improve(objective, before)?;
         self.settle()?;
         if let Some(variable) = first {
@@ -145,10 +179,12 @@ fn attempt(
     requires fits { IsPartial model.now filling.now }
     ensures kinds { IfOk result (λ o. IfSome o (IsPartial model.now)) }
 {
-    let mut work = Work::new(alloc, known, model, filling)?;
+    let bounds = Bounds::new(alloc, model, filling)?;
+    let budget = Budget::new(known, model);
+    let mut work = Work::new(alloc, known, model, filling, &bounds, budget)?;
     match work.complete(objective_of(model.goal()), before, first) {
         Ok(()) => Ok(Some(copied(alloc, model, work.proposal.values())?)),
-        Err(Stop::NothingFound) => Ok(None),
+        Err(Stop::Contradiction | Stop::NothingFound) => Ok(None),
         Err(Stop::Memory) => Err(AllocError),
     }
 }

@@ -5,7 +5,9 @@ use std::alloc::{AllocError, AllocFailed};
 /// Why a search ends without values.
 #[derive(Clone, Copy, Debug)]
 pub(crate) enum Stop {
-    /// a contradiction was met, or the budget is spent
+    /// a contradiction was met at the point that is visited
+    Contradiction,
+    /// the budget is spent, or no value was found that suits
     NothingFound,
     Memory,
 }

@@ -2,7 +2,7 @@
 
 use crate::ends::{Ends, admits_number};
 use fz_base::{IntSet, Value};
-use fz_model::Domain;
+use fz_bounds::fz_model::Domain;
 use std::alloc::{AllocError, Global};
 
 /// All subsets of at most this many numbers are tried.

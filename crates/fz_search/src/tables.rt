@@ -1,9 +1,10 @@
 //! What is known of variables and points as a search begins.
 
-use crate::ends::{Ends, ends_of, number_of};
+use crate::ends::{ALL, Ends};
 use crate::index::Search;
 use crate::row::Sums;
-use fz_model::{Domain, Model, Partial, PointParts, Slot};
+use fz_bounds::Bounds;
+use fz_bounds::fz_model::{Model, Partial};
 use std::alloc::{AllocError, Global};
 
 /// How far the products of a sum can move: the index of the one that moves furthest, and how far
@@ -14,49 +15,23 @@ pub(crate) struct Reach {
     pub(crate) others: i128,
 }
 
-/// The bounds of each variable: those of its value, where it has one, or else of its domain.
+/// The bounds of each variable.
 pub(crate) fn all_ends(
     alloc: Global,
     model: &Model<'_>,
-    values: &Partial,
+    bounds: &Bounds,
 ) -> Result<Vec<Ends>, AllocError> {
-    let mut ends = Vec::new(alloc);
-    let variables = model.variables();
-    for number in 0..variables.len() {
-        let there = match values.get(number) {
-            Some(value) => number_of(value),
-            None => None,
-        };
-        let here = match there {
-            Some(number) => Ends::at(number),
-            None => match variables.get(number) {
-                Some(variable) => ends_of(variable.kind, &variable.domain),
-                None => Ends::at(0),
+    let mut all = Vec::new(alloc);
+    for number in 0..model.variables().len() {
+        all.push(match bounds.ends(number) {
+            Some(ends) => Ends {
+                low: ends.low,
+                high: ends.high,
             },
-        };
-        ends.push(here)?;
+            None => ALL,
+        })?;
     }
-    for point in 0..model.points() {
-        if let PointParts::Elements(_, domain, elements) = model.point_parts(point) {
-            for slot in elements.slots {
-                narrow(&mut ends, model, domain, *slot);
-            }
-        }
-    }
-    Ok(ends)
-}
-
-/// Takes from a variable what lies outside the domain of an array that it is in.
-fn narrow(ends: &mut [Ends], model: &Model<'_>, domain: &Domain, slot: Slot) {
-    let Slot::Variable(number) = slot else {
-        return;
-    };
-    let Some(variable) = model.variables().get(number as usize) else {
-        return;
-    };
-    if let Some(there) = ends.get_mut(number as usize) {
-        *there = there.within(ends_of(variable.kind, domain));
-    }
+    Ok(all)
 }
 
 /// How many variables of each point have no value.

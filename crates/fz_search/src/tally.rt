@@ -5,7 +5,7 @@ use crate::arguments::{elements_in, scalar_in};
 use crate::ends::Ends;
 use crate::stop::Stop;
 use crate::work::Work;
-use fz_model::{Builtin, ConstraintParts, Scalar, Scalars};
+use fz_bounds::fz_model::{Builtin, ConstraintParts, Scalar, Scalars};
 
 /// What a row of counts or loads is about.
 #[derive(Clone, Copy)]

@@ -1,14 +1,15 @@
 //! A search under way: the values and bounds so far, and the points that are to be visited.
 
 use crate::agenda::Agenda;
-use crate::ends::{Ends, admits, number_of, value_of};
+use crate::ends::Ends;
+use crate::grounds::Step;
 use crate::index::Search;
 use crate::proposal::Proposal;
 use crate::row::{Rule, Sums};
 use crate::stop::Stop;
 use crate::tables::{Reach, all_ends, all_open, all_sums, no_reaches};
-use fz_base::Value;
-use fz_model::{Domain, Kind, Model, Partial, Scalar};
+use fz_bounds::Bounds;
+use fz_bounds::fz_model::{Domain, Kind, Model, Partial, Scalar};
 use std::alloc::{AllocError, Global};
 
 /// At most this many visits are made for each point of the model. A value that is tried counts as
@@ -20,6 +21,30 @@ const VISITS: usize = 100;
 /// point is gone over or a value is tried.
 const STEPS: usize = 100;
 
+/// How much a search may do yet.
+#[derive(Clone, Copy)]
+pub(crate) struct Budget {
+    visits: usize,
+    pub(crate) steps: usize,
+}
+
+impl Budget {
+    pub(crate) fn new(known: &Search, model: &Model<'_>) -> Budget {
+        Budget {
+            visits: model.points().saturating_mul(VISITS),
+            steps: known.size().saturating_mul(STEPS),
+        }
+    }
+}
+
+/// What is left of a number, where it is enough.
+fn left_of(number: usize, taken: usize) -> Result<usize, Stop> {
+    match number.checked_sub(taken) {
+        Some(left) => Ok(left),
+        None => Err(Stop::NothingFound),
+    }
+}
+
 /// A search under way.
 #[derive(Drop)]
 pub(crate) struct Work<'k, 'm, 'a> {
@@ -27,18 +52,19 @@ pub(crate) struct Work<'k, 'm, 'a> {
     pub(crate) known: &'k Search,
     pub(crate) proposal: Proposal<'m, 'a>,
     /// the bounds of each variable
-    ends: Vec<Ends>,
+    pub(crate) ends: Vec<Ends>,
     /// how many variables of each point have no value
-    open: Vec<usize>,
+    pub(crate) open: Vec<usize>,
     /// the bounds of the sum of each point
-    sums: Vec<Sums>,
+    pub(crate) sums: Vec<Sums>,
     /// and how far the products of each point can move
     reaches: Vec<Reach>,
     pub(crate) agenda: Agenda,
-    /// how many visits are left
-    visits: usize,
-    /// how many steps are left
-    pub(crate) left: usize,
+    /// the point that is visited
+    pub(crate) point: usize,
+    /// which bounds have become narrower so far
+    pub(crate) steps: Vec<Step>,
+    pub(crate) budget: Budget,
 }
 
 impl<'k, 'm, 'a> Work<'k, 'm, 'a> {
@@ -47,9 +73,11 @@ impl<'k, 'm, 'a> Work<'k, 'm, 'a> {
         known: &'k Search,
         model: &'m Model<'a>,
         filling: &Partial,
+        bounds: &Bounds,
+        budget: Budget,
     ) -> Result<Work<'k, 'm, 'a>, AllocError> {
         let proposal = Proposal::new(alloc, model, filling)?;
-        let ends = all_ends(alloc, model, proposal.values())?;
+        let ends = all_ends(alloc, model, bounds)?;
         let points = model.points();
         Ok(Work {
             alloc,
@@ -59,32 +87,23 @@ impl<'k, 'm, 'a> Work<'k, 'm, 'a> {
             reaches: no_reaches(alloc, points)?,
             ends,
             agenda: Agenda::new(alloc, points)?,
-            visits: points.saturating_mul(VISITS),
-            left: known.size().saturating_mul(STEPS),
+            point: 0,
+            steps: Vec::new(alloc),
+            budget,
             proposal,
         })
     }
 
     /// Counts one visit of this many steps.
     pub(crate) fn visit(&mut self, steps: usize) -> Result<(), Stop> {
-        match self.visits.checked_sub(1) {
-            Some(visits) => {
-                self.visits = visits;
-                self.spend(steps)
-            }
-            None => Err(Stop::NothingFound),
-        }
+        self.budget.visits = left_of(self.budget.visits, 1)?;
+        self.spend(steps)
     }
 
     /// Takes this many steps from those that are left.
     pub(crate) fn spend(&mut self, steps: usize) -> Result<(), Stop> {
-        match self.left.checked_sub(steps) {
-            Some(left) => {
-                self.left = left;
-                Ok(())
-            }
-            None => Err(Stop::NothingFound),
-        }
+        self.budget.steps = left_of(self.budget.steps, steps)?;
+        Ok(())
     }
 
     pub(crate) fn kind_of(&self, variable: usize) -> Kind {
@@ -97,6 +116,14 @@ impl<'k, 'm, 'a> Work<'k, 'm, 'a> {
     pub(crate) fn domain_of(&self, variable: usize) -> Option<&'m Domain> {
         let variable = self.proposal.model().variables().get(variable)?;
         Some(&variable.domain)
+    }
+
+    /// Whether a number is in the domain of a variable, where that has gaps.
+    pub(crate) fn has_in_domain(&self, variable: usize, number: i64) -> bool {
+        match self.domain_of(variable) {
+            Some(Domain::Among(numbers)) => numbers.contains(number),
+            Some(Domain::All | Domain::Within(..)) | None => true,
+        }
     }
 
     pub(crate) fn ends_of(&self, variable: usize) -> Ends {
@@ -190,86 +217,12 @@ impl<'k, 'm, 'a> Work<'k, 'm, 'a> {
         Ok(())
     }
 
-    fn wake_all(&mut self, variable: usize) -> Result<(), Stop> {
+    pub(crate) fn wake_all(&mut self, variable: usize) -> Result<(), Stop> {
         let places = self.known.places_of(variable);
         self.spend(places.len())?;
         for place in places {
             self.wake(place.point)?;
         }
         Ok(())
-    }
-
-    /// Gives a variable a value for a trial, where its domain and bounds admit that, and tells
-    /// whether they do.
-    pub(crate) fn put(&mut self, variable: usize, value: Value) -> bool {
-        let inside = match number_of(&value) {
-            Some(number) => self.ends_of(variable).has(number),
-            None => true,
-        };
-        let admitted = match self.domain_of(variable) {
-            Some(domain) => admits(domain, &value),
-            None => false,
-        };
-        inside && admitted && self.proposal.give(variable, value)
-    }
-
-    /// Confirms the value that was given for a trial.
-    pub(crate) fn keep(&mut self, variable: usize) -> Result<(), Stop> {
-        let number = match self.proposal.values().get(variable) {
-            Some(value) => number_of(value),
-            None => None,
-        };
-        if let Some(number) = number {
-            self.set_ends(variable, Ends::at(number));
-        }
-        for place in self.known.places_of(variable) {
-            if let Some(open) = self.open.get_mut(place.point) {
-                *open = open.saturating_sub(1);
-            }
-        }
-        self.wake_all(variable)
-    }
-
-    /// Gives a variable a value.
-    pub(crate) fn give(&mut self, variable: usize, value: Value) -> Result<(), Stop> {
-        if self.put(variable, value) {
-            self.keep(variable)
-        } else {
-            Err(Stop::NothingFound)
-        }
-    }
-
-    /// Narrows the bounds of a variable, and those of the sums in which it is.
-    fn set_ends(&mut self, variable: usize, then: Ends) {
-        let Some(ends) = self.ends.get_mut(variable) else {
-            return;
-        };
-        let before = *ends;
-        *ends = then;
-        for place in self.known.places_of(variable) {
-            if let Some(sums) = self.sums.get_mut(place.point) {
-                let rest = sums.without(place.coefficient, before);
-                *sums = rest.with(place.coefficient, then);
-            }
-        }
-    }
-
-    /// Takes from a variable what lies outside some bounds. Where these leave one number it gets
-    /// that.
-    pub(crate) fn tighten(&mut self, variable: usize, low: i64, high: i64) -> Result<(), Stop> {
-        let now = self.ends_of(variable);
-        let then = now.within(Ends { low, high });
-        if then.low > then.high {
-            return Err(Stop::NothingFound);
-        }
-        if then.low == then.high && !self.proposal.has(variable) {
-            let value = value_of(self.kind_of(variable), then.low);
-            return self.give(variable, value);
-        }
-        if then.low == now.low && then.high == now.high {
-            return Ok(());
-        }
-        self.set_ends(variable, then);
-        self.wake_all(variable)
     }
 }

@@ -1,6 +1,6 @@
 use Rattle.std.proofs.Common.{sym, subst}
-use Rattle.fz_model.specs.Meaning.{IsPartial, variables_of}
-use Rattle.fz_model.proofs.Partials.{give_fits, has_place}
+use Rattle.fz_bounds.specs.of_model.Meaning.{IsPartial, variables_of}
+use Rattle.fz_bounds.proofs.of_model.Partials.{give_fits, has_place}
 use Rattle.fz_search.proofs.proposal.give.Goals as goal
 
 pub set-requires-clause-in_range : goal.set-requires-clause-in_range

@@ -1,6 +1,6 @@
 use Rattle.std.proofs.Common.{sym, subst}
-use Rattle.fz_model.specs.Meaning.{IsPartial, variables_of}
-use Rattle.fz_model.proofs.Partials.{nothing_fits}
+use Rattle.fz_bounds.specs.of_model.Meaning.{IsPartial, variables_of}
+use Rattle.fz_bounds.proofs.of_model.Partials.{nothing_fits}
 use Rattle.fz_search.proofs.proposal.nothing.Goals as goal
 
 pub returns : goal.returns

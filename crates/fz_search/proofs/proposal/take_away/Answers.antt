@@ -1,6 +1,6 @@
 use Rattle.std.proofs.Common.{sym, subst}
-use Rattle.fz_model.specs.Meaning.{IsPartial, variables_of}
-use Rattle.fz_model.proofs.Partials.{less_fits}
+use Rattle.fz_bounds.specs.of_model.Meaning.{IsPartial, variables_of}
+use Rattle.fz_bounds.proofs.of_model.Partials.{less_fits}
 use Rattle.fz_search.proofs.proposal.take_away.Goals as goal
 
 pub returns : goal.returns

@@ -1,0 +1,16 @@
+use Rattle.std.proofs.Common.{arith}
+use Rattle.fz_search.proofs.Keeping.{kept, none}
+use Rattle.fz_search.proofs.refuting.take.Goals as goal
+
+pub returns-in-Empty-clause-kept : goal.returns-in-Empty-clause-kept
+returns-in-Empty-clause-kept c = kept c.args.model.now c.args.step.point _ _ (omega arith) c.in_ok-tighten.ensures.kept
+
+pub returns-in-Empty-clause-none : goal.returns-in-Empty-clause-none
+returns-in-Empty-clause-none c = none c.args.model.now c.args.step.point _ (omega arith) (c.in_ok-tighten.ensures.empty c.in-Empty.is)
+
+pub returns-in-Narrowed : goal.returns-in-Narrowed
+returns-in-Narrowed c = record {
+  in_range = tt;
+  kept = kept c.args.model.now c.args.step.point _ _ (omega arith) c.in_ok-tighten.ensures.kept;
+  none = tt;
+}

@@ -1,0 +1,53 @@
+//! What a contradiction rests on.
+
+use crate::ends::Ends;
+use crate::index::Search;
+use std::alloc::{AllocError, Global};
+
+/// The point of a step that is only supposed.
+pub(crate) const NO_POINT: usize = usize::MAX;
+
+/// A point leaves a variable no numbers but those within some bounds.
+#[derive(Clone, Copy)]
+pub(crate) struct Step {
+    pub(crate) point: usize,
+    pub(crate) variable: usize,
+    pub(crate) ends: Ends,
+}
+
+/// The steps on which a contradiction at a point rests, in their order: the last one, those of the
+/// point's variables, those of the variables in the points that these are from, and so on.
+pub(crate) fn grounds(
+    alloc: Global,
+    known: &Search,
+    steps: &[Step],
+    point: usize,
+) -> Result<Vec<Step>, AllocError> {
+    let mut marked = Vec::new(alloc);
+    marked.resize(known.variables(), false)?;
+    if let Some(step) = steps.last() {
+        mark(&mut marked, step.variable);
+    }
+    mark_all(&mut marked, known, point);
+    let mut kept = Vec::new(alloc);
+    for step in steps.iter().rev() {
+        if marked.get(step.variable).copied().unwrap_or(false) {
+            mark_all(&mut marked, known, step.point);
+            kept.push(*step)?;
+        }
+    }
+    kept.reverse();
+    Ok(kept)
+}
+
+fn mark(marked: &mut [bool], variable: usize) {
+    if let Some(mark) = marked.get_mut(variable) {
+        *mark = true;
+    }
+}
+
+fn mark_all(marked: &mut [bool], known: &Search, point: usize) {
+    for product in known.products_of(point) {
+        mark(marked, product.variable);
+    }
+}

@@ -1,0 +1,213 @@
+#!/usr/bin/env python3
+"""Damages blocks of small random models, and checks what is told of them with --complete.
+
+    damaged.py PROGRAM COUNT [SEED]
+
+A model has a solution by the way it is made, over the whole table of builtins, and its stream
+prints a part of that. In each of COUNT blocks one printed value is another one of its variable's
+domain. Whether a solution extends a block is found by trying all values of the variables that it
+leaves out, with the rows of slow.py. No block may be violated that a solution extends, and none
+satisfied that none extends. Prints how many of the blocks that no solution extends are violated,
+and ends with 'N passed, M failed'; the files of a wrong verdict are kept."""
+import itertools
+import os
+import random
+import subprocess
+import sys
+import tempfile
+
+HERE = os.path.dirname(os.path.abspath(__file__))
+sys.path.insert(0, HERE)
+import slow
+
+CORE = (
+    "int_lin_le int_lin_eq int_lin_ne int_le int_lt int_eq int_ne int_plus int_times int_min "
+    "int_max bool2int bool_clause array_bool_and array_bool_or bool_and bool_or bool_eq bool_not "
+    "array_int_element array_var_int_element array_bool_element array_int_maximum "
+    "int_lin_le_reif int_lin_eq_reif int_le_reif int_eq_reif int_ne_reif int_lin_le_imp int_eq_imp "
+    "bool_clause_reif set_in_reif fzn_all_different_int fzn_count_eq fzn_table_int set_card"
+).split()
+FORMS = [name + form for name in slow.FORMS for form in ("_reif", "_imp")]
+NAMES = sorted({*slow.TESTS, *slow.OTHER_TESTS, *slow.RESULTS, *slow.EITHER, *FORMS})
+DOMAINS = {
+    "I": [list(range(low, high + 1)) for low, high in ((0, 2), (1, 3), (0, 4), (1, 4), (-2, 3))]
+    + [[1, 3, 4], [0, 2, 5]],
+    "B": [[False, True]],
+    "S": [[frozenset(c) for n in range(4) for c in itertools.combinations((1, 2, 3), n)]],
+}
+DAMAGED = 6  # blocks of a model
+MOST_TRIED = 20_000  # assignments of a block
+MOST_SECONDS = 60
+
+
+class Small:
+    """A small model: variables with their domains and a solution, and constraints on them."""
+
+    def __init__(self, rand):
+        self.rand = rand
+        kinds = "IIIBBS" if rand.random() < 0.3 else "IIIBB"
+        self.kinds = [rand.choice(kinds) for _ in range(rand.randint(4, 8))]
+        self.domains = [rand.choice(DOMAINS[kind]) for kind in self.kinds]
+        self.solution = slow.Values(enumerate(map(rand.choice, self.domains)))
+        self.constraints = []
+        for _ in range(rand.randint(3, 7)):
+            self.add(rand.choice(CORE if rand.random() < 0.6 else NAMES))
+
+    def term(self, kind, fixed):
+        own = [n for n, k in enumerate(self.kinds) if k == kind]
+        if own and self.rand.random() >= fixed:
+            return "var", self.rand.choice(own)
+        return "fixed", self.rand.choice(self.rand.choice(DOMAINS[kind]))
+
+    def argument(self, kind, length, fixed):
+        if kind.startswith("["):
+            return [self.term(kind[1], fixed) for _ in range(length)]
+        return self.term(kind, fixed)
+
+    def add(self, name):
+        """Adds a constraint of the name that the solution satisfies, where one is soon found."""
+        row = slow.Row(name)
+        lists = [place for place, kind in enumerate(row.kinds) if kind.startswith("[")]
+        for _ in range(300):
+            length = self.rand.randint(1, 4)
+            lengths = {p: length if p in row.together else self.rand.randint(1, 4) for p in lists}
+            args = []
+            for place, kind in enumerate(row.kinds):
+                is_factors = "lin" in name and place == 0
+                fixed = 0.9 if is_factors else self.rand.choice((0.1, 0.1, 0.6))
+                args.append(self.argument(kind, lengths.get(place, 1), fixed))
+            if row.has_whole_rows and not row.has_whole_rows(*args):
+                continue
+            if holds(row, args, self.solution):
+                self.constraints.append((name, row, args))
+                return
+
+    def text(self):
+        lines = []
+        for number, (kind, domain) in enumerate(zip(self.kinds, self.domains)):
+            lines.append(f"var {domain_text(domain, kind)}: x{number};")
+        for name, row, args in self.constraints:
+            words = ",".join(map(argument_text, args))
+            lines.append(f"constraint {name}({words}){self.note(row, args)};")
+        return "\n".join(lines) + "\nsolve satisfy;\n"
+
+    def note(self, row, args):
+        """Half of the results are defined."""
+        for place in sorted(row.results):
+            if args[place][0] == "var" and self.rand.random() < 0.5:
+                return f" :: defines_var(x{args[place][1]})"
+        return ""
+
+    def is_extended(self, values):
+        """Whether some values of the other variables make a solution, or none where there are too
+        many to try."""
+        missing = [n for n in range(len(self.kinds)) if n not in values]
+        size = 1
+        for number in missing:
+            size *= len(self.domains[number])
+        if size > MOST_TRIED:
+            return None
+        if any(values[n] not in self.domains[n] for n in values):
+            return False
+        for chosen in itertools.product(*(self.domains[n] for n in missing)):
+            whole = slow.Values({**values, **dict(zip(missing, chosen))})
+            if all(holds(row, args, whole) for _, row, args in self.constraints):
+                return True
+        return False
+
+
+def holds(row, args, values):
+    try:
+        return row.holds([values.of(a) for a in args])
+    except OverflowError:
+        return False
+
+
+def value_text(value):
+    if isinstance(value, bool):
+        return "true" if value else "false"
+    if isinstance(value, frozenset):
+        return "{" + ",".join(map(str, sorted(value))) + "}"
+    return str(value)
+
+
+def domain_text(domain, kind):
+    if kind == "B":
+        return "bool"
+    if kind == "S":
+        return "set of 1..3"
+    if domain == list(range(domain[0], domain[-1] + 1)):
+        return f"{domain[0]}..{domain[-1]}"
+    return "{" + ",".join(map(str, domain)) + "}"
+
+
+def argument_text(argument):
+    if isinstance(argument, list):
+        return "[" + ",".join(map(argument_text, argument)) + "]"
+    sort, what = argument
+    return f"x{what}" if sort == "var" else value_text(what)
+
+
+def block_text(values):
+    items = [f"x{n} = {value_text(v)};\n" for n, v in sorted(values.items())]
+    return "".join(items) + "-" * 10 + "\n"
+
+
+def damaged(model, printed, rand):
+    """The values with another one in one place."""
+    number = rand.choice(sorted(printed))
+    others = [v for v in model.domains[number] if v != printed[number]]
+    return {**printed, number: rand.choice(others)}
+
+
+def write(folder, model, blocks):
+    """The paths of the model and the stream."""
+    paths = [os.path.join(folder, name) for name in ("model.fzn", "stream.txt")]
+    for path, text in zip(paths, (model.text(), "".join(map(block_text, blocks)))):
+        with open(path, "w") as f:
+            f.write(text)
+    return paths
+
+
+def verdicts(program, folder, model, blocks):
+    """The verdict on each block of a stream, or what the program writes where that is not one."""
+    paths = write(folder, model, blocks)
+    words = [program, "check", "--complete", *paths]
+    ran = subprocess.run(words, capture_output=True, text=True, timeout=MOST_SECONDS)
+    told = [line.split(": ")[1] for line in ran.stdout.splitlines() if line.startswith("block ")]
+    return told if len(told) == len(blocks) else [ran.stdout + ran.stderr] * len(blocks)
+
+
+def main():
+    program, count = sys.argv[1], int(sys.argv[2])
+    seed = sys.argv[3] if len(sys.argv) > 3 else "1"
+    passed = failed = refuted = without = number = 0
+    with tempfile.TemporaryDirectory() as folder:
+        while passed + failed < count:
+            rand = random.Random(f"{seed} {number}")
+            number += 1
+            model = Small(rand)
+            printed = {n: v for n, v in model.solution.items() if rand.random() < 0.6}
+            if not printed:
+                continue
+            blocks = [damaged(model, printed, rand) for _ in range(DAMAGED)]
+            for block, told in zip(blocks, verdicts(program, folder, model, blocks)):
+                extended = model.is_extended(block)
+                if extended is None:
+                    continue
+                without += not extended
+                refuted += not extended and told == "violated"
+                if told == "undecided" or told == ("satisfied" if extended else "violated"):
+                    passed += 1
+                else:
+                    failed += 1
+                    kept = tempfile.mkdtemp(prefix=f"damaged-{seed}-{number}-")
+                    write(kept, model, [block])
+                    print(f"{kept}: {told}, and some solution extends it: {extended}")
+    print(f"{refuted} of {without} blocks that no solution extends are violated")
+    print(f"{passed} passed, {failed} failed")
+    return 1 if failed else 0
+
+
+if __name__ == "__main__":
+    sys.exit(main())
