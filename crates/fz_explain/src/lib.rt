@@ -19,6 +19,7 @@ mod naming;
 mod notes;
 mod place;
 mod printed;
+mod refutation;
 mod remarks;
 mod scalars;
 mod sentence;

@@ -112,17 +112,26 @@ pub(crate) fn told_value(
     reading: &Reading<'_, '_, '_, '_, '_>,
     variable: usize,
 ) -> Result<String, AllocError> {
-    let name = name_at(reading.model, variable);
-    let told = match model_name(alloc, reading, name)? {
-        Some(element) => element,
-        None => shown_text(alloc, name)?,
-    };
+    let told = told_name(alloc, reading, variable)?;
     match reading.filling.get(variable) {
         Some(value) => {
             let value = value_text(alloc, value)?;
             format!(in alloc; "{told} = {value}")
         }
         None => Ok(told),
+    }
+}
+
+/// A variable's name in the MiniZinc model where it has one, else in this.
+pub(crate) fn told_name(
+    alloc: Global,
+    reading: &Reading<'_, '_, '_, '_, '_>,
+    variable: usize,
+) -> Result<String, AllocError> {
+    let name = name_at(reading.model, variable);
+    match model_name(alloc, reading, name)? {
+        Some(element) => Ok(element),
+        None => shown_text(alloc, name),
     }
 }
 

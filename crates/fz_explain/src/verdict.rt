@@ -2,7 +2,7 @@
 //! where these come from.
 
 ghost use Rattle.std.specs.Prelude.{◌<◌, length};
-ghost use Rattle.fz_judge.specs.of_model.Meaning.{points};
+ghost use Rattle.fz_judge.specs.of_model.Meaning.{IsPartial, points};
 
 use crate::case::Case;
 use crate::chain::note_chain;
@@ -13,6 +13,7 @@ use crate::message::{Message, Text, message_at};
 use crate::notes::{note_domain, note_fixed, note_variables};
 use crate::place::{constraint_of, point_place};
 use crate::printed::{note_printed, printed_place};
+use crate::refutation::note_refutation;
 use crate::remarks::remarks_on;
 use crate::sentence::sentence;
 use crate::sums::too_large_at;
@@ -77,7 +78,9 @@ pub(crate) fn verdict_place<'t>(
 pub(crate) fn verdict_message(
     alloc: Global,
     reading: &Reading<'_, '_, '_, '_, '_>,
-) -> Result<Option<Message>, AllocError> {
+) -> Result<Option<Message>, AllocError>
+    requires fits { IsPartial reading.now.model.now reading.now.filling.now }
+{
     let case = reading.case;
     let Some((text, place)) = verdict_place(reading.ast, reading.text, case) else {
         return Ok(None);
@@ -98,24 +101,36 @@ pub(crate) fn verdict_message(
         | Verdict::Undecided(Reason::NotShownBetter(now, before)) => {
             note_objective(alloc, reading, &mut message, now, before)?;
         }
-        Verdict::Violated(_) => note_sought(alloc, reading, &mut message, Sought::Failing)?,
-        Verdict::Undecided(_) => note_sought(alloc, reading, &mut message, Sought::Undecided)?,
+        Verdict::Violated(_) => note_failing(alloc, reading, &mut message)?,
+        Verdict::Undecided(_) => note_undecided(alloc, reading, &mut message)?,
     }
     note_help(alloc, reading, &mut message)?;
     Ok(Some(message))
 }
 
-/// Adds notes on the first point of the kind that is sought.
-fn note_sought(
+/// Adds notes on the first point that fails, or else on bounds that leave a variable nothing.
+fn note_failing(
     alloc: Global,
     reading: &Reading<'_, '_, '_, '_, '_>,
     message: &mut Message,
-    sought: Sought,
+) -> Result<(), AllocError>
+    requires fits { IsPartial reading.now.model.now reading.now.filling.now }
+{
+    match first_point(alloc, reading.model, reading.filling, Sought::Failing)? {
+        Some(point) => note_point(alloc, reading, message, point),
+        None => note_refutation(alloc, reading, message),
+    }
+}
+
+/// Adds notes on the first point that is undecided.
+fn note_undecided(
+    alloc: Global,
+    reading: &Reading<'_, '_, '_, '_, '_>,
+    message: &mut Message,
 ) -> Result<(), AllocError> {
-    let model = reading.model;
-    match first_point(alloc, model, reading.filling, sought)? {
-        Some(point) if point < model.points() => note_point(alloc, reading, message, point),
-        _ => Ok(()),
+    match first_point(alloc, reading.model, reading.filling, Sought::Undecided)? {
+        Some(point) => note_point(alloc, reading, message, point),
+        None => Ok(()),
     }
 }
 

@@ -33,6 +33,7 @@ pub use completion::Completion;
 pub use error::BlockError;
 pub use filling::{fill, fill_with_steps};
 pub use fz_search::fz_model;
+pub use fz_search::{Emptied, Refutation, refuted};
 pub use fz_stream;
 pub use fz_stream::fz_syntax;
 pub use judge::Judge;
