@@ -82,9 +82,9 @@ module _ (B : Ranges) (n : ℕ) (e : Ends) (at : AreEndsAt B n e) where
       let high_is : value_at B.highest n ≡ Some (number_as k h) = at.high_is ∙ sym (λ i. Some (number_as (same i) (high i))) in
       d ∙ ap (λ R. narrowed R n (number_as k l) (number_as k h)) c
       ∙ (λ i. record {
-          lowest = given_back B.lowest n v (number_as k l) low_is i;
-          highest = given_back B.highest n w (number_as k h) high_is i;
-        })
+        lowest = given_back B.lowest n v (number_as k l) low_is i;
+        highest = given_back B.highest n w (number_as k h) high_is i;
+      })
 
   -- an end that nothing has
   module _ (A : Assignment) (k : Kind) (same : k ≡ e.kind) (number : ℤ) (nowhere : IsInside (narrowed B n (number_as k number) (number_as k number)) A → ⊥) (inside : IsInside B A) where
