@@ -1,5 +1,5 @@
 -- The arguments of a constraint lie between those that bounds give.
-use Rattle.std.proofs.Common.{◌≡◌, ℕ, suc, Bool, true, false, ◌&&◌, List, [], ◌∷◌, ◌++◌, length, ◌+◌, Option, Some, None, refl, sym, ap, subst, ◌∙◌, arith, map, IfSome, IsSomeAnd, IsTrue}
+use Rattle.std.proofs.Common.{◌≡◌, ℕ, suc, Bool, true, false, List, [], ◌∷◌, Option, Some, None, refl, subst, map, IfSome, IsSomeAnd, IsTrue}
 use Rattle.std.specs.List.{list_all}
 use Rattle.std.specs.Option.{option_map_or}
 use Rattle.fz_base.specs.declared.value.Value.{Value}
@@ -9,7 +9,7 @@ use Rattle.fz_builtins.specs.of_meaning.declared.kind.Kind.TheVariants.{Int as I
 use Rattle.fz_builtins.specs.of_meaning.declared.term.Term.{Term}
 use Rattle.fz_builtins.specs.of_meaning.declared.term.Term.TheVariants.{Var, Fixed}
 use Rattle.fz_builtins.specs.of_meaning.Relations.{kind_of, same_kind}
-use Rattle.fz_builtins.specs.of_meaning.Builtins.{Of, Plain, Shape}
+use Rattle.fz_builtins.specs.of_meaning.Builtins.{Plain, Shape}
 use Rattle.fz_builtins.specs.of_meaning.Builtins.Shape.{ScalarOf, ArrayOf}
 use Rattle.fz_builtins.specs.of_meaning.Meaning.{Argument, Assignment, Partial, value_at, whole}
 use Rattle.fz_builtins.proofs.of_meaning.Values.{no, and_first, and_second}

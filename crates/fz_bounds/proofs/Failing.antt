@@ -1,16 +1,16 @@
 -- A point that fails at some values fails under each assignment that has them.
-use Rattle.std.proofs.Common.{◌≡◌, ℕ, Bool, true, false, not, ◌||◌, cond, List, [], ◌∷◌, Option, Some, None, refl, sym, ap, subst, ◌∙◌, option_map, IsTrue, ◌⊎◌, inl, inr, IsSomeAnd}
+use Rattle.std.proofs.Common.{◌≡◌, Bool, true, false, not, ◌||◌, cond, List, [], ◌∷◌, Option, Some, None, refl, sym, ap, subst, ◌∙◌, option_map, IsTrue, ◌⊎◌, inl, inr, IsSomeAnd}
 use Rattle.std.specs.List.{AllByRecursion, list_any}
 use Rattle.std.specs.Option.{option_map_or}
 use Rattle.fz_base.specs.declared.value.Value.{Value}
-use Rattle.fz_builtins.specs.of_meaning.declared.state.State.TheVariants.{Fails, Holds}
+use Rattle.fz_builtins.specs.of_meaning.declared.state.State.TheVariants.{Fails}
 use Rattle.fz_builtins.specs.of_meaning.declared.term.Term.{Term}
 use Rattle.fz_builtins.specs.of_meaning.declared.term.Term.TheVariants.{Var, Fixed}
 use Rattle.fz_builtins.specs.of_meaning.declared.term.Domain.{Domain}
 use Rattle.fz_builtins.specs.of_meaning.Relations.{same_value}
 use Rattle.fz_builtins.specs.of_meaning.Builtins.{ArgValue}
 use Rattle.fz_builtins.specs.of_meaning.Builtins.ArgValue.{OneValue, ManyValues}
-use Rattle.fz_builtins.specs.of_meaning.Meaning.{Argument, Assignment, Partial, Point, HoldsUnder, argument_value, argument_values, inside, option_cons, row_holds, row_of, terms_in, value, value_at, values, whole}
+use Rattle.fz_builtins.specs.of_meaning.Meaning.{Argument, Assignment, Partial, Point, argument_value, argument_values, inside, option_cons, row_holds, row_of, terms_in, value, value_at, values, whole}
 use Rattle.fz_builtins.specs.of_meaning.Meaning.Place.{Scalar, Array}
 use Rattle.fz_builtins.specs.of_meaning.Meaning.Argument.{One, ListOf}
 use Rattle.fz_builtins.specs.of_meaning.Meaning.Point.{DomainPoint, DefinitionPoint, ArrayPoint, ConstraintPoint}

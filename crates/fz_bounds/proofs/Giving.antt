@@ -1,5 +1,5 @@
 -- Another value of a variable.
-use Rattle.std.proofs.Common.{◌≡◌, ℕ, zero, suc, ◌≤◌, List, [], ◌∷◌, length, Option, Some, refl, sym, ap, arith, slice_set}
+use Rattle.std.proofs.Common.{◌≡◌, ℕ, zero, suc, ◌≤◌, [], ◌∷◌, length, Option, Some, refl, sym, ap, arith, slice_set}
 use Rattle.fz_base.specs.declared.value.Value.{Value}
 use Rattle.fz_builtins.specs.of_meaning.Meaning.{Partial, give, value_at}
 use Rattle.fz_builtins.specs.of_data.Partial.{without}

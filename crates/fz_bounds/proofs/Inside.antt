@@ -1,5 +1,5 @@
 -- What lies inside bounds.
-use Rattle.std.proofs.Common.{◌≡◌, ℕ, zero, suc, ℤ, pos, ◌≤ℤ◌, Bool, true, false, not, ◌||◌, List, [], ◌∷◌, length, Option, Some, None, refl, sym, ap, subst, subst₂, ◌∙◌, arith, IfSome, IsSomeAnd, IsTrue, int_le, int_lt, ◌⊎◌, inl, inr}
+use Rattle.std.proofs.Common.{◌≡◌, ℕ, zero, suc, ℤ, pos, ◌≤ℤ◌, true, false, not, ◌||◌, Option, Some, None, refl, sym, ap, subst, subst₂, arith, IfSome, IsSomeAnd, IsTrue, int_lt, ◌⊎◌, inl, inr}
 use Rattle.std.proofs.lemmas.Int.{ints}
 use Rattle.fz_base.specs.declared.value.Value.{Value}
 use Rattle.fz_base.specs.declared.value.Value.TheVariants.{Int, Bool as Truth, Set}
@@ -7,7 +7,7 @@ use Rattle.fz_builtins.specs.of_meaning.Relations.{◌=ˢ◌}
 use Rattle.fz_builtins.specs.of_meaning.declared.kind.Kind.{Kind}
 use Rattle.fz_builtins.specs.of_meaning.declared.kind.Kind.TheVariants.{Int as IntKind, Bool as BoolKind, Set as SetKind}
 use Rattle.fz_builtins.specs.of_meaning.Meaning.{Assignment, Partial, give, value_at, whole}
-use Rattle.fz_builtins.proofs.of_meaning.Values.{no, no', same_set_is, set_itself}
+use Rattle.fz_builtins.proofs.of_meaning.Values.{no, same_set_is, set_itself}
 use Rattle.fz_builtins.proofs.of_meaning.Steps.{value_at_given, value_at_other}
 use Rattle.fz_bounds.specs.Bounds.{AreFixed, HasAllOf, IsInside, LiesBetween, Ranges, is_at_most, narrowed, number_as}
 use Rattle.fz_bounds.proofs.Giving.{given_there}

@@ -1,6 +1,5 @@
 -- What a known-solution says of the domain of a variable.
-use Rattle.std.proofs.Common.{◌≡◌, ℕ, zero, suc, List, [], ◌∷◌, map, None, Some, refl, sym, ap, subst, subst₂, option_map, slice_get, ◌∙◌, IsSomeAnd, IsTrue}
-use Rattle.std.specs.List.{AllByRecursion}
+use Rattle.std.proofs.Common.{◌≡◌, ℕ, zero, suc, List, [], ◌∷◌, map, None, Some, refl, sym, ap, subst₂, option_map, slice_get, ◌∙◌, IsTrue}
 use Rattle.fz_base.specs.declared.value.Value.{Value}
 use Rattle.fz_builtins.specs.of_meaning.declared.kind.Kind.{Kind}
 use Rattle.fz_builtins.specs.of_meaning.Relations.{kind_of}

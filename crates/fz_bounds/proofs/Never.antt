@@ -1,5 +1,5 @@
 -- A constraint whose row holds at no arguments inside the bounds holds under no assignment there.
-use Rattle.std.proofs.Common.{◌≡◌, ℕ, suc, Bool, true, false, List, [], ◌∷◌, Option, None, Some, refl, sym, ap, subst, ◌∙◌, ◌⊎◌, inl, inr, IsSomeAnd, IsTrue, option_map}
+use Rattle.std.proofs.Common.{◌≡◌, ℕ, suc, true, false, List, [], ◌∷◌, Option, None, Some, refl, sym, ap, subst, ◌∙◌, ◌⊎◌, inl, inr, IsSomeAnd, IsTrue, option_map}
 use Rattle.std.proofs.lemmas.Option.{same_Some}
 use Rattle.fz_builtins.specs.of_meaning.Builtins.{ArgValue, Row, Shape, Test, passes}
 use Rattle.fz_builtins.specs.of_meaning.Meaning.{Argument, Assignment, Partial, Posted, argument_values, have_shapes, row_holds, row_of, whole}
@@ -7,7 +7,6 @@ use Rattle.fz_builtins.specs.of_meaning.Meaning.Point.{ConstraintPoint}
 use Rattle.fz_builtins.specs.of_meaning.declared.known.Known.{Known}
 use Rattle.fz_builtins.specs.of_meaning.Known.{known_row}
 use Rattle.fz_builtins.specs.of_data.Parts.{constraint_view}
-use Rattle.fz_builtins.specs.of_meaning.States.{HoldsIfKnown}
 use Rattle.fz_builtins.proofs.of_meaning.Values.{no'}
 use Rattle.fz_builtins.proofs.of_meaning.Steps.{some_of}
 use Rattle.fz_builtins.specs.of_kernel.Given.{are_read, given_from, given_values}

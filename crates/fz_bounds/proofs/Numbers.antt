@@ -1,10 +1,10 @@
 -- Bounds as numbers.
-use Rattle.std.proofs.Common.{◌≡◌, ℕ, ℤ, pos, ◌≤ℤ◌, ◌+ℤ◌, ◌-ℤ◌, Bool, true, false, not, ◌||◌, Option, Some, None, refl, sym, ap, subst, subst₂, ◌∙◌, arith, int_lt, inl, inr, slice_get, ◌<ℤ◌, Result, Ok, Err, IfOk, IsTrue}
+use Rattle.std.proofs.Common.{◌≡◌, ℕ, ℤ, pos, ◌≤ℤ◌, ◌+ℤ◌, ◌-ℤ◌, true, false, not, ◌||◌, Option, Some, None, refl, sym, ap, subst, subst₂, ◌∙◌, arith, int_lt, inl, inr, slice_get, ◌<ℤ◌, Result, Ok, Err, IfOk, IsTrue}
 use Rattle.std.proofs.lemmas.Int.{clamps, ints}
 use Rattle.std.specs.Int.{int_max, int_min}
 use Rattle.fz_base.proofs.Covers.{apart}
 use Rattle.fz_base.specs.declared.value.Value.{Value}
-use Rattle.fz_base.specs.declared.value.Value.TheVariants.{Int, Bool as Truth, Set}
+use Rattle.fz_base.specs.declared.value.Value.TheVariants.{Int, Bool as Truth}
 use Rattle.fz_builtins.specs.of_meaning.declared.kind.Kind.{Kind}
 use Rattle.fz_builtins.specs.of_meaning.declared.kind.Kind.TheVariants.{Int as IntKind, Bool as BoolKind, Set as SetKind}
 use Rattle.fz_builtins.specs.of_meaning.Meaning.{Assignment, Model, Point, inside as is_within, points, value_at, whole}
@@ -82,9 +82,9 @@ module _ (B : Ranges) (n : ℕ) (e : Ends) (at : AreEndsAt B n e) where
       let high_is : value_at B.highest n ≡ Some (number_as k h) = at.high_is ∙ sym (λ i. Some (number_as (same i) (high i))) in
       d ∙ ap (λ R. narrowed R n (number_as k l) (number_as k h)) c
       ∙ (λ i. record {
-          lowest = given_back B.lowest n v (number_as k l) low_is i;
-          highest = given_back B.highest n w (number_as k h) high_is i;
-        })
+        lowest = given_back B.lowest n v (number_as k l) low_is i;
+        highest = given_back B.highest n w (number_as k h) high_is i;
+      })
 
   -- an end that nothing has
   module _ (A : Assignment) (k : Kind) (same : k ≡ e.kind) (number : ℤ) (nowhere : IsInside (narrowed B n (number_as k number) (number_as k number)) A → ⊥) (inside : IsInside B A) where

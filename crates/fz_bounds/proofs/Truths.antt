@@ -1,5 +1,5 @@
 -- Booleans between others.
-use Rattle.std.proofs.Common.{◌≡◌, Bool, true, false, not, ◌&&◌, ◌||◌, List, [], ◌∷◌, refl, sym, ap, ◌∙◌}
+use Rattle.std.proofs.Common.{◌≡◌, Bool, true, false, not, List, [], ◌∷◌, refl, sym, ◌∙◌}
 use Rattle.std.specs.List.{list_all, list_any}
 use Rattle.fz_builtins.specs.of_meaning.declared.kind.Kind.TheVariants.{Bool as BoolKind}
 use Rattle.fz_builtins.proofs.of_meaning.Values.{no, no'}

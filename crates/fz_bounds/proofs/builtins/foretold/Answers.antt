@@ -1,4 +1,4 @@
-use Rattle.std.proofs.Common.{int_le, int_lt, not, pos, ◌&&◌, ◌+ℤ◌, ◌-ℤ◌, ◌||◌}
+use Rattle.std.proofs.Common.{not, pos, ◌&&◌, ◌+ℤ◌, ◌-ℤ◌, ◌||◌}
 use Rattle.std.specs.List.{list_all, list_any}
 use Rattle.fz_builtins.specs.of_meaning.declared.builtin.Builtin.TheVariants as builtin
 use Rattle.fz_builtins.specs.of_meaning.Builtins.{row_at}

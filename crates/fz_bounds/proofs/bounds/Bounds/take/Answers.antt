@@ -1,5 +1,5 @@
-use Rattle.std.proofs.Common.{◌≡◌, ◌+ℤ◌, ◌-ℤ◌, ◌≤ℤ◌, ◌∙◌, pos, of_z, sym, to_z, FitsSigned, w64, arith, rules}
-use Rattle.std.proofs.lemmas.Int.{ints, to_z-of_z}
+use Rattle.std.proofs.Common.{◌≡◌, ◌∙◌, sym, arith}
+use Rattle.std.proofs.lemmas.Int.{ints}
 use Rattle.fz_bounds.proofs.Numbers.{kinds_same, was_inside, without_high, without_low}
 use Rattle.fz_bounds.proofs.bounds.Bounds.take.Goals as goal
 

@@ -1,4 +1,4 @@
-use Rattle.std.proofs.Common.{◌≡◌, ◌<◌, ◌+◌, pos, true, inl, inr, ap, sym, subst, slice_get, Some, ◌∙◌, add-one, arith, rules}
+use Rattle.std.proofs.Common.{◌≡◌, ◌+◌, pos, true, inl, inr, ap, sym, subst, slice_get, Some, ◌∙◌, add-one, arith, rules}
 use Rattle.std.proofs.lemmas.Bool.{cases_lt}
 use Rattle.fz_builtins.specs.of_meaning.Relations.{◌=ℤ◌}
 use Rattle.fz_builtins.specs.of_kernel.Given.{int_at, ints_at}

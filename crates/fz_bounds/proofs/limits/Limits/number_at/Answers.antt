@@ -1,4 +1,4 @@
-use Rattle.std.proofs.Common.{◌≡◌, int_le, true, FitsSigned, of_z, subst, sym, to_z, w64, rules}
+use Rattle.std.proofs.Common.{◌≡◌, int_le, true, FitsSigned, subst, sym, w64, rules}
 use Rattle.std.proofs.lemmas.Int.{to_z-of_z}
 use Rattle.fz_builtins.specs.of_kernel.Given.{ints_at}
 use Rattle.fz_bounds.specs.Within.{given}

@@ -1,4 +1,4 @@
-use Rattle.std.proofs.Common.{◌≡◌, int_le, true, FitsSigned, of_z, sym, to_z, w64, ◌∙◌, arith, rules}
+use Rattle.std.proofs.Common.{◌≡◌, int_le, true, FitsSigned, sym, w64, ◌∙◌, arith, rules}
 use Rattle.std.proofs.lemmas.Int.{ints, to_z-of_z}
 use Rattle.fz_builtins.specs.of_kernel.Given.{ints_at}
 use Rattle.fz_bounds.specs.Within.{given}

@@ -1,4 +1,4 @@
-use Rattle.std.proofs.Common.{◌≡◌, ◌<◌, ◌+◌, ◌*ℤ◌, ◌∙◌, pos, [], ap, drop, length, FitsSigned, of_z, subst, sym, to_z, w64, arith, rules}
+use Rattle.std.proofs.Common.{◌≡◌, ◌<◌, ◌+◌, ◌*ℤ◌, ◌∙◌, [], ap, drop, length, FitsSigned, of_z, subst, sym, to_z, w64, arith, rules}
 use Rattle.std.proofs.lemmas.Int.{to_z-of_z}
 use Rattle.fz_builtins.specs.of_meaning.Relations.{as_number, total, where_true}
 use Rattle.fz_builtins.specs.of_kernel.Given.{bools_at, ints_at, slots_at}
