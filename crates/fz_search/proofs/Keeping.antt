@@ -60,5 +60,5 @@ pub none_with : {X : Type 0} (m : Model) (F : Partial) (B : Ranges) (o : Option 
     → ((A : Assignment) → IsKnownSolution m A → HasEach F (whole A) → IsInside B A)
     → IfSome o (λ _. HaveNoSolution m B)
     → IfSome o (λ _. (A : Assignment) → IsKnownSolution m A → HasEach F (whole A) → ⊥)
-none_with m F B None all none = tt
-none_with m F B (Some x) all none A solution has = none A solution (all A solution has)
+none_with m F B None all never = tt
+none_with m F B (Some x) all never = λ A solution has. never A solution (all A solution has)
