@@ -12,3 +12,4 @@ pub mod Indexed
 pub mod At
 pub mod Forms
 pub mod Never
+pub use Rattle.fz_model.proofs as of_model

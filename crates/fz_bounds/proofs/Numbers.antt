@@ -1,19 +1,23 @@
 -- Bounds as numbers.
-use Rattle.std.proofs.Common.{◌≡◌, ℕ, ℤ, pos, ◌≤ℤ◌, ◌+ℤ◌, ◌-ℤ◌, Bool, true, false, not, ◌||◌, Option, Some, None, refl, sym, ap, subst, subst₂, ◌∙◌, arith, int_lt, inl, inr, slice_get}
-use Rattle.std.proofs.lemmas.Int.{ints}
+use Rattle.std.proofs.Common.{◌≡◌, ℕ, ℤ, pos, ◌≤ℤ◌, ◌+ℤ◌, ◌-ℤ◌, Bool, true, false, not, ◌||◌, Option, Some, None, refl, sym, ap, subst, subst₂, ◌∙◌, arith, int_lt, inl, inr, slice_get, ◌<ℤ◌, Result, Ok, Err, IfOk, IsTrue}
+use Rattle.std.proofs.lemmas.Int.{clamps, ints}
 use Rattle.std.specs.Int.{int_max, int_min}
 use Rattle.fz_base.proofs.Covers.{apart}
 use Rattle.fz_base.specs.declared.value.Value.{Value}
 use Rattle.fz_base.specs.declared.value.Value.TheVariants.{Int, Bool as Truth, Set}
 use Rattle.fz_builtins.specs.of_meaning.declared.kind.Kind.{Kind}
 use Rattle.fz_builtins.specs.of_meaning.declared.kind.Kind.TheVariants.{Int as IntKind, Bool as BoolKind, Set as SetKind}
-use Rattle.fz_builtins.specs.of_meaning.Meaning.{Assignment, Model, Point, points, value_at, whole}
+use Rattle.fz_builtins.specs.of_meaning.Meaning.{Assignment, Model, Point, inside as is_within, points, value_at, whole}
 use Rattle.fz_builtins.specs.of_meaning.States.{HoldsIfKnown}
+use Rattle.fz_builtins.specs.of_meaning.declared.term.Domain.{Domain}
+use Rattle.fz_builtins.specs.of_meaning.Relations.{kind_of, same_kind}
+use Rattle.fz_builtins.proofs.of_meaning.Steps.{some_of}
 use Rattle.fz_builtins.proofs.of_meaning.Values.{no}
-use Rattle.fz_bounds.specs.Bounds.{IsInside, LiesBetween, Ranges, is_at_most, narrowed, number_as}
+use Rattle.fz_bounds.proofs.Giving.{given_back}
+use Rattle.fz_bounds.specs.Bounds.{IsInside, LiesBetween, LiesIn, NumberNeverHolds, Ranges, is_at_most, narrowed, number_as}
 use Rattle.fz_bounds.specs.Ends.{AreEndsAt, Excludes, IsTold}
 use Rattle.fz_bounds.specs.declared.ends.Ends.{Ends}
-use Rattle.fz_bounds.proofs.Inside.{inside_narrowed, narrowed_inside, numbers_in_order}
+use Rattle.fz_bounds.proofs.Inside.{at_most_itself, inside_narrowed, narrowed_inside, numbers_in_order}
 
 -- a value between two numbers is a number between them
 module _ (l h : ℤ) where
@@ -35,55 +39,118 @@ module _ (l h : ℤ) where
 
 -- ---- the bounds of a variable
 
-module _ (B : Ranges) (A : Assignment) (n : ℕ) (e : Ends) (at : AreEndsAt B n e) where
-  pub value_between : IsInside B A → (a : ℤ) × (value_at (whole A) n ≡ Some (number_as e.kind a))
-      × (e.low ≤ℤ a) × (a ≤ℤ e.high)
-  value_between inside =
+-- bounds that have the assignment's value
+pub still_inside : (B C : Ranges) (A : Assignment) (n : ℕ) (k : Kind) (a l h : ℤ)
+    → C ≡ narrowed B n (number_as k l) (number_as k h)
+    → value_at (whole A) n ≡ Some (number_as k a) → l ≤ℤ a → a ≤ℤ h → IsInside B A → IsInside C A
+still_inside B C A n k a l h c is low high inside =
+    let lies : LiesBetween (Some (number_as k l)) (Some (number_as k h)) (value_at (whole A) n) =
+    subst (LiesBetween (Some (number_as k l)) (Some (number_as k h))) (sym is) (numbers_in_order k l a low, numbers_in_order k a h high) in
+    subst (λ D. IsInside D A) (sym c) (inside_narrowed B A n (number_as k l) (number_as k h) inside lies)
+
+module _ (B : Ranges) (n : ℕ) (e : Ends) (at : AreEndsAt B n e) where
+  pub value_between : (A : Assignment) → IsInside B A
+      → (a : ℤ) × (value_at (whole A) n ≡ Some (number_as e.kind a)) × (e.low ≤ℤ a) × (a ≤ℤ e.high)
+  value_between A inside =
       number_between e.low e.high e.kind (value_at (whole A) n) at.low_told at.high_told
       (subst₂ (λ o p. LiesBetween o p (value_at (whole A) n)) at.low_is at.high_is (inside n))
 
-  -- bounds that still have the value
-  pub still_inside : (C : Ranges) (k : Kind) (a l h : ℤ)
-      → C ≡ narrowed B n (number_as k l) (number_as k h) → k ≡ e.kind
-      → value_at (whole A) n ≡ Some (number_as e.kind a) → l ≤ℤ a → a ≤ℤ h → IsInside B A
-      → IsInside C A
-  still_inside C k a l h c same is low high inside =
-      let value : value_at (whole A) n ≡ Some (number_as k a) = is ∙ ap (λ j. Some (number_as j a)) (sym same) in
-      let lies : LiesBetween (Some (number_as k l)) (Some (number_as k h)) (value_at (whole A) n) =
-      subst (LiesBetween (Some (number_as k l)) (Some (number_as k h))) (sym value) (numbers_in_order k l a low, numbers_in_order k a h high) in
-      subst (λ D. IsInside D A) (sym c) (inside_narrowed B A n (number_as k l) (number_as k h) inside lies)
-
   -- what is inside narrower bounds
-  pub was_inside : (C : Ranges) (k : Kind) (l h : ℤ)
+  pub was_inside : (C : Ranges) (A : Assignment) (k : Kind) (l h : ℤ)
       → C ≡ narrowed B n (number_as k l) (number_as k h) → k ≡ e.kind → e.low ≤ℤ l → h ≤ℤ e.high
       → IsInside C A → IsInside B A
-  was_inside C k l h c same low high inside =
+  was_inside C A k l h c same low high inside =
       narrowed_inside B A n (number_as e.kind e.low) (number_as e.kind e.high) (number_as k l) (number_as k h) at.low_is at.high_is
       (subst (λ j. is_at_most (number_as j e.low) (number_as k l) ≡ true) same (numbers_in_order k e.low l low))
       (subst (λ j. is_at_most (number_as k h) (number_as j e.high) ≡ true) same (numbers_in_order k h e.high high))
       (subst (λ D. IsInside D A) c inside)
 
+  -- bounds of the same variable among others
+  pub as_inside : (D C : Ranges) (A : Assignment) (k : Kind) (l h : ℤ)
+      → C ≡ narrowed D n (number_as k l) (number_as k h) → k ≡ e.kind → l ≡ e.low → h ≡ e.high
+      → IsInside B A → IsInside D A → IsInside C A
+  as_inside D C A k l h c same low high inside there =
+      let (a, is, from, to) = value_between A inside in
+      still_inside D C A n k a l h c (is ∙ ap (λ j. Some (number_as j a)) (sym same)) (omega (arith, ints)) (omega (arith, ints)) there
+
+  -- the bounds are put back
+  pub restored : (C D : Ranges) (v w : Value) (k : Kind) (l h : ℤ) → C ≡ narrowed B n v w
+      → D ≡ narrowed C n (number_as k l) (number_as k h) → k ≡ e.kind → l ≡ e.low → h ≡ e.high
+      → D ≡ B
+  restored C D v w k l h c d same low high =
+      let low_is : value_at B.lowest n ≡ Some (number_as k l) = at.low_is ∙ sym (λ i. Some (number_as (same i) (low i))) in
+      let high_is : value_at B.highest n ≡ Some (number_as k h) = at.high_is ∙ sym (λ i. Some (number_as (same i) (high i))) in
+      d ∙ ap (λ R. narrowed R n (number_as k l) (number_as k h)) c
+      ∙ (λ i. record {
+        lowest = given_back B.lowest n v (number_as k l) low_is i;
+        highest = given_back B.highest n w (number_as k h) high_is i;
+      })
+
   -- an end that nothing has
-  module _ (number : ℤ) (nowhere : IsInside (narrowed B n (number_as e.kind number) (number_as e.kind number)) A → ⊥) (inside : IsInside B A) where
-    differs : (a : ℤ) → value_at (whole A) n ≡ Some (number_as e.kind a) → a ≡ number → ⊥
-    differs a is same =
-        nowhere (still_inside (narrowed B n (number_as e.kind number) (number_as e.kind number)) e.kind a number number refl refl is (omega (arith, ints)) (omega (arith, ints)) inside)
+  module _ (A : Assignment) (k : Kind) (same : k ≡ e.kind) (number : ℤ) (nowhere : IsInside (narrowed B n (number_as k number) (number_as k number)) A → ⊥) (inside : IsInside B A) where
+    differs : (a : ℤ) → value_at (whole A) n ≡ Some (number_as k a) → a ≡ number → ⊥
+    differs a is equal =
+        nowhere (still_inside B (narrowed B n (number_as k number) (number_as k number)) A n k a number number refl is (omega (arith, ints)) (omega (arith, ints)) inside)
 
-    pub without_low : (C : Ranges) (k : Kind) (l h : ℤ)
-        → C ≡ narrowed B n (number_as k l) (number_as k h) → k ≡ e.kind → number ≡ e.low
-        → l ≡ number +ℤ pos 1 → h ≡ e.high → IsInside C A
-    without_low C k l h c same is_low low high =
-        let (a, is, above, below) = value_between inside in
-        let other : a ≡ number → ⊥ = differs a is in
-        still_inside C k a l h c same is (grind (arith, ints, other)) (omega (arith, ints)) inside
+    above_end : (a : ℤ) → number ≤ℤ a → (a ≡ number → ⊥) → (number +ℤ pos 1) ≤ℤ a
+    above_end a h f = elim (apart number a) [
+      | inl less ↦ omega (arith, ints)
+      | inr more ↦ absurd (f (omega (arith, ints)))
+    ]
 
-    pub without_high : (C : Ranges) (k : Kind) (l h : ℤ)
-        → C ≡ narrowed B n (number_as k l) (number_as k h) → k ≡ e.kind → number ≡ e.high
-        → l ≡ e.low → h ≡ number -ℤ pos 1 → IsInside C A
-    without_high C k l h c same is_high low high =
-        let (a, is, above, below) = value_between inside in
-        let other : a ≡ number → ⊥ = differs a is in
-        still_inside C k a l h c same is (omega (arith, ints)) (grind (arith, ints, other)) inside
+    below_end : (a : ℤ) → a ≤ℤ number → (a ≡ number → ⊥) → a ≤ℤ (number -ℤ pos 1)
+    below_end a h f = elim (apart a number) [
+      | inl less ↦ omega (arith, ints)
+      | inr more ↦ absurd (f (omega (arith, ints)))
+    ]
+
+    pub without_low : (C : Ranges) (l h : ℤ) → C ≡ narrowed B n (number_as k l) (number_as k h)
+        → number ≡ e.low → l ≡ (number +ℤ pos 1) → h ≡ e.high → IsInside C A
+    without_low C l h c is_low low high =
+        let (a, is, from, to) = value_between A inside in
+        let value : value_at (whole A) n ≡ Some (number_as k a) = is ∙ ap (λ j. Some (number_as j a)) (sym same) in
+        let more : (number +ℤ pos 1) ≤ℤ a = above_end a (omega (arith, ints)) (differs a value) in
+        still_inside B C A n k a l h c value (omega (arith, ints)) (omega (arith, ints)) inside
+
+    pub without_high : (C : Ranges) (l h : ℤ) → C ≡ narrowed B n (number_as k l) (number_as k h)
+        → number ≡ e.high → l ≡ e.low → h ≡ (number -ℤ pos 1) → IsInside C A
+    without_high C l h c is_high low high =
+        let (a, is, from, to) = value_between A inside in
+        let value : value_at (whole A) n ≡ Some (number_as k a) = is ∙ ap (λ j. Some (number_as j a)) (sym same) in
+        let less : a ≤ℤ (number -ℤ pos 1) = below_end a (omega (arith, ints)) (differs a value) in
+        still_inside B C A n k a l h c value (omega (arith, ints)) (omega (arith, ints)) inside
+
+-- ---- what a point excludes
+
+pub excluded : (m : Model) (k : ℕ) (B C : Ranges) (n : ℕ) (kind : Kind) (from to l h : ℤ)
+    → C ≡ narrowed B n (number_as kind l) (number_as kind h) → l ≡ from → h ≡ to
+    → NumberNeverHolds m k C → Excludes m k B n kind from to
+excluded m k B C n kind from to l h c low high never = record {
+  never = λ p here A there a is above below. never p here A (still_inside B C A n kind a l h c is (omega (arith, ints)) (omega (arith, ints)) there);
+}
+
+module _ (m : Model) (k : ℕ) (B : Ranges) (n : ℕ) (kind : Kind) where
+  pub none_excluded : (from to : ℤ) → to <ℤ from → Excludes m k B n kind from to
+  none_excluded from to less = record { never = λ p here A there a is above below. absurd (omega (arith, ints)) }
+
+  pub same_excluded : {f t : ℤ} (from to : ℤ) → Excludes m k B n kind f t → f ≡ from → t ≡ to
+      → Excludes m k B n kind from to
+  same_excluded from to e f t = subst₂ (λ y z. Excludes m k B n kind y z) f t e
+
+  -- some numbers more
+  pub more_excluded : {from before y z : ℤ} (to : ℤ) → Excludes m k B n kind from before
+      → Excludes m k B n kind y z → to ≤ℤ z → y ≤ℤ (before +ℤ pos 1) → Excludes m k B n kind from to
+  more_excluded {from} {before} {y} {z} to first second least most = record {
+    never = λ p here A there a is above below. elim (apart before a) [
+      | inl more ↦ second.never p here A there a is (omega (arith, ints)) (omega (arith, ints))
+      | inr less ↦ first.never p here A there a is above less
+    ];
+  }
+
+  -- the same of the same bounds
+  pub excluded_there : {C : Ranges} {y z : ℤ} → C ≡ B → Excludes m k C n kind y z
+      → Excludes m k B n kind y z
+  excluded_there {C} {y} {z} e h = subst (λ D. Excludes m k D n kind y z) e h
 
 -- the numbers that a point leaves
 pub left_between : (m : Model) (k : ℕ) (B : Ranges) (n : ℕ) (e : Ends) (low high : ℤ)
@@ -93,15 +160,73 @@ pub left_between : (m : Model) (k : ℕ) (B : Ranges) (n : ℕ) (e : Ends) (low 
     → HoldsIfKnown (whole A) p → (a : ℤ) × (value_at (whole A) n ≡ Some (number_as e.kind a))
     × (int_max low e.low ≤ℤ a) × (a ≤ℤ int_min high e.high)
 left_between m k B n e low high at below above p here A inside holds =
-    let (a, is, from, to) = value_between B A n e at inside in (
-      a,
-      is,
-      elim (apart a low) [
-        | inl less ↦ absurd (below p here A inside a is from (omega (arith, ints)) holds)
-        | inr more ↦ omega (arith, ints)
-      ],
-      elim (apart high a) [
-        | inl more ↦ absurd (above p here A inside a is (omega (arith, ints)) to holds)
-        | inr less ↦ omega (arith, ints)
-      ],
-    )
+    let (a, is, from, to) = value_between B n e at A inside in
+    let not_below : a ≤ℤ int_min e.high (low -ℤ pos 1) → ⊥ = λ h. below.never p here A inside a is from h holds in
+    let not_above : int_max e.low (high +ℤ pos 1) ≤ℤ a → ⊥ = λ h. above.never p here A inside a is h to holds in
+    (a, is, at_least a low e.low e.high from to not_below, at_most_of a high e.low e.high from to not_above)
+  where
+    at_least : (a low l h : ℤ) → l ≤ℤ a → a ≤ℤ h → (a ≤ℤ int_min h (low -ℤ pos 1) → ⊥)
+        → int_max low l ≤ℤ a
+    at_least a low l h f g not = elim (apart a low) [
+      | inl less ↦ absurd (not (omega (arith, ints, clamps)))
+      | inr more ↦ omega (arith, ints, clamps)
+    ]
+
+    at_most_of : (a high l h : ℤ) → l ≤ℤ a → a ≤ℤ h → (int_max l (high +ℤ pos 1) ≤ℤ a → ⊥)
+        → a ≤ℤ int_min high h
+    at_most_of a high l h f g not = elim (apart high a) [
+      | inl more ↦ absurd (not (omega (arith, ints, clamps)))
+      | inr less ↦ omega (arith, ints, clamps)
+    ]
+
+-- where they leave none
+pub nothing_left : (m : Model) (k : ℕ) (B : Ranges) (n : ℕ) (e : Ends) (low high : ℤ)
+    → AreEndsAt B n e → Excludes m k B n e.kind e.low (int_min e.high (low -ℤ pos 1))
+    → Excludes m k B n e.kind (int_max e.low (high +ℤ pos 1)) e.high
+    → int_min high e.high <ℤ int_max low e.low → NumberNeverHolds m k B
+nothing_left m k B n e low high at below above none p here A inside holds =
+    let (a, is, from, to) = left_between m k B n e low high at below above p here A inside holds in
+    absurd (omega (arith, ints))
+
+-- bounds of what they leave
+pub left_inside : (m : Model) (k : ℕ) (B C : Ranges) (n : ℕ) (e : Ends) (low high l h : ℤ)
+    → AreEndsAt B n e → Excludes m k B n e.kind e.low (int_min e.high (low -ℤ pos 1))
+    → Excludes m k B n e.kind (int_max e.low (high +ℤ pos 1)) e.high
+    → C ≡ narrowed B n (number_as e.kind l) (number_as e.kind h) → l ≡ int_max low e.low
+    → h ≡ int_min high e.high → (p : Point) → slice_get (points m) k ≡ Some p → (A : Assignment)
+    → IsInside B A → HoldsIfKnown (whole A) p → IsInside C A
+left_inside m k B C n e low high l h at below above c least most p here A inside holds =
+    let (a, is, from, to) = left_between m k B n e low high at below above p here A inside holds in
+    still_inside B C A n e.kind a l h c is (subst (λ z. z ≤ℤ a) (sym least) from) (subst (λ z. a ≤ℤ z) (sym most) to) inside
+
+pub least_above : (x y : ℤ) → y ≤ℤ int_max x y
+least_above x y = omega (arith, ints, clamps)
+
+pub most_below : (x y : ℤ) → int_min x y ≤ℤ y
+most_below x y = omega (arith, ints, clamps)
+
+pub kinds_same : (j k : Kind) → same_kind j k ≡ true → j ≡ k
+kinds_same IntKind IntKind e = refl
+kinds_same BoolKind BoolKind e = refl
+kinds_same SetKind SetKind e = refl
+kinds_same _ _ e = no e
+
+pub if_ok : {T E : Type 0} (r : Result T E) (P Q : T → Type 0) → ((x : T) → P x → Q x) → IfOk r P
+    → IfOk r Q
+if_ok (Ok x) P Q f h = f x h
+if_ok (Err e) P Q f h = tt
+
+-- ---- values that an assignment has
+
+pub fixed_inside : (A : Assignment) (B C : Ranges) (n : ℕ) (v : Value) → C ≡ narrowed B n v v
+    → value_at (whole A) n ≡ Some v → IsInside B A → IsInside C A
+fixed_inside A B C n v c is inside =
+    subst (λ D. IsInside D A) (sym c) (inside_narrowed B A n v v inside (subst (LiesBetween (Some v) (Some v)) (sym is) (at_most_itself v, at_most_itself v)))
+
+pub domain_inside : (A : Assignment) (B C : Ranges) (k : Kind) (d : Domain) (n : ℕ) (low high : Value)
+    → C ≡ narrowed B n low high → LiesIn k d (value_at (whole A) n)
+    → ((v : Value) → kind_of v ≡ k → IsTrue (is_within d v)
+    → IsTrue (is_at_most low v) × IsTrue (is_at_most v high)) → IsInside B A → IsInside C A
+domain_inside A B C k d n low high c lies ends there =
+    let (v, is, fits) = some_of (λ v. (kind_of v ≡ k) × IsTrue (is_within d v)) (value_at (whole A) n) lies in
+    subst (λ D. IsInside D A) (sym c) (inside_narrowed B A n low high there (subst (LiesBetween (Some low) (Some high)) (sym is) (ends v fits.0 fits.1)))

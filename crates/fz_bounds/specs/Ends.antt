@@ -30,7 +30,7 @@ pub record AreEndsAt (B : Ranges) (n : ℕ) (e : Ends) : Type 0 where
 
 -- the point of the number holds under no assignment inside the bounds that gives the variable one of
 -- these numbers (private functions only)
-abbrev pub Excludes : Model → ℕ → Ranges → ℕ → Kind → ℤ → ℤ → Type 0
-Excludes m k B n kind from to = (p : Point) → slice_get (points m) k ≡ Some p → (A : Assignment)
-    → IsInside B A → (a : ℤ) → value_at (whole A) n ≡ Some (number_as kind a) → from ≤ℤ a → a ≤ℤ to
-    → HoldsIfKnown (whole A) p → ⊥
+pub record Excludes (m : Model) (k : ℕ) (B : Ranges) (n : ℕ) (kind : Kind) (from to : ℤ) : Type 0 where
+  pub never : (p : Point) → slice_get (points m) k ≡ Some p → (A : Assignment) → IsInside B A
+      → (a : ℤ) → value_at (whole A) n ≡ Some (number_as kind a) → from ≤ℤ a → a ≤ℤ to
+      → HoldsIfKnown (whole A) p → ⊥

@@ -130,7 +130,8 @@ impl Bounds {
             → IsInside self.new A) }
     {
         if let Some(value) = others.fixed.get(number) {
-            return self.fix(alloc, number, value);
+            self.fix(alloc, number, value)?;
+            return Ok(());
         }
         if let Some(ends) = others.ends(number) {
             self.narrow(number, ends.kind, ends.low, ends.high);

@@ -30,10 +30,10 @@ pub fn cannot_hold(
     ensures never { IfOk result (λ b. IsTrue b → NumberNeverHolds model.now point bounds.now) }
 {
     let found = state(alloc, model, point, bounds.fixed())?;
-    if matches!(found, State::Fails) {
-        return Ok(true);
+    match found {
+        State::Fails => Ok(true),
+        _ => Ok(parts_fail(&model.point_parts(point), bounds)),
     }
-    Ok(parts_fail(&model.point_parts(point), bounds))
 }
 
 /// The same of a point with its parts, by its bounds alone.

@@ -74,16 +74,18 @@ impl Bounds {
             variable,
             ends,
         };
-        let shown = self.takes_below(alloc, &asked, low)? && self.takes_above(alloc, &asked, high)?;
-        if !shown {
+        if !self.takes_below(alloc, &asked, low)? {
             return Ok(Tightened::Unshown);
         }
-        let low = low.max(ends.low);
-        let high = high.min(ends.high);
-        if low > high {
+        if !self.takes_above(alloc, &asked, high)? {
+            return Ok(Tightened::Unshown);
+        }
+        let least = low.max(ends.low);
+        let most = high.min(ends.high);
+        if most < least {
             return Ok(Tightened::Empty);
         }
-        self.narrow(variable, ends.kind, low, high);
+        self.narrow(variable, ends.kind, least, most);
         Ok(Tightened::Narrowed)
     }
 
