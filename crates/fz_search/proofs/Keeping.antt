@@ -1,32 +1,28 @@
 -- What a point says of bounds is said of the known-solutions inside them.
-use Rattle.std.proofs.Common.{◌≡◌, ℕ, zero, suc, ◌<◌, List, [], ◌∷◌, length, Option, Some, None, IfSome, slice_get, refl, arith, subst, subst₂}
+use Rattle.std.proofs.Common.{◌≡◌, ℕ, ◌<◌, length, Option, Some, None, IfSome, slice_get, subst, subst₂}
 use Rattle.fz_base.specs.declared.value.Value.{Value}
 use Rattle.fz_bounds.specs.Bounds.{IsInside, LiesBetween, NumberNeverHolds, Ranges, narrowed}
 use Rattle.fz_bounds.proofs.Giving.{given_there}
 use Rattle.fz_bounds.proofs.Inside.{inside_narrowed}
-use Rattle.fz_bounds.specs.of_model.Meaning.{Assignment, Model, Point, points, value_at, whole}
+use Rattle.fz_bounds.specs.of_model.Meaning.{Assignment, Model, Partial, Point, points, value_at, whole}
+use Rattle.fz_bounds.specs.of_model.Openings.{HasEach}
 use Rattle.fz_bounds.specs.of_model.States.{HoldsIfKnown, IsKnownSolution}
-use Rattle.fz_bounds.proofs.of_model.Lists.{at_place}
+use Rattle.fz_bounds.proofs.of_model.Lists.{at_place, there_is}
 use Rattle.fz_search.specs.Refuted.{HaveNoSolution, KeepSolutions}
-
-at_point : (ps : List Point) (k : ℕ) → k < length ps → (p : Point) × (slice_get ps k ≡ Some p)
-at_point [] k in_range = cc
-at_point (p ∷ ps) zero in_range = (p, refl)
-at_point (p ∷ ps) (suc k) in_range = at_point ps k (omega arith)
 
 -- a step of the point of a number loses no known-solution
 pub kept : (m : Model) (k : ℕ) (B C : Ranges) → k < length (points m)
     → ((p : Point) → slice_get (points m) k ≡ Some p → (A : Assignment) → IsInside B A
     → HoldsIfKnown (whole A) p → IsInside C A) → KeepSolutions m B C
 kept m k B C in_range step A solution inside =
-    let (p, at) = at_point (points m) k in_range in
+    let (p, at) = there_is (points m) k in_range in
     step p at A inside (at_place (HoldsIfKnown (whole A)) (points m) k p solution.each_holds at)
 
 -- where the point of a number holds nowhere, there is none
 pub none : (m : Model) (k : ℕ) (B : Ranges) → k < length (points m) → NumberNeverHolds m k B
     → HaveNoSolution m B
 none m k B in_range never A solution inside =
-    let (p, at) = at_point (points m) k in_range in
+    let (p, at) = there_is (points m) k in_range in
     never p at A inside (at_place (HoldsIfKnown (whole A)) (points m) k p solution.each_holds at)
 
 pub kept_so : (m : Model) (B C D : Ranges) → KeepSolutions m B C → KeepSolutions m C D
@@ -56,5 +52,13 @@ pub lost : (m : Model) (B C D : Ranges) (n : ℕ) (v l h : Value) → value_at B
     → KeepSolutions m B D
 lost m B C D n v l h low high copied none taken A solution inside =
     taken A inside (λ there.
-      let is : LiesBetween (Some v) (Some v) (value_at (whole A) n) = subst₂ (λ o p. LiesBetween o p (value_at (whole A) n)) (given_there B.lowest n v l low) (given_there B.highest n v h high) (there n) in
-      none A solution (inside_narrowed C A n v v (copied A inside) is))
+    let is : LiesBetween (Some v) (Some v) (value_at (whole A) n) = subst₂ (λ o p. LiesBetween o p (value_at (whole A) n)) (given_there B.lowest n v l low) (given_there B.highest n v h high) (there n) in
+    none A solution (inside_narrowed C A n v v (copied A inside) is))
+
+-- where all that have some values lie inside
+pub none_with : {X : Type 0} (m : Model) (F : Partial) (B : Ranges) (o : Option X)
+    → ((A : Assignment) → IsKnownSolution m A → HasEach F (whole A) → IsInside B A)
+    → IfSome o (λ _. HaveNoSolution m B)
+    → IfSome o (λ _. (A : Assignment) → IsKnownSolution m A → HasEach F (whole A) → ⊥)
+none_with m F B None all never = tt
+none_with m F B (Some x) all never = λ A solution has. never A solution (all A solution has)

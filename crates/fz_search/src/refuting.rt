@@ -171,7 +171,8 @@ pub fn refuted(
             return Ok(None);
         };
         let Some(guess) = conflict.guess else {
-            return refute(alloc, model, &mut bounds, &conflict.steps, conflict.point);
+            let found = refute(alloc, model, &mut bounds, &conflict.steps, conflict.point)?;
+            return Ok(found);
         };
         if !lose(alloc, model, &mut bounds, &conflict, guess)? {
             return Ok(None);

@@ -10,9 +10,7 @@ use crate::row::Rule;
 use crate::stop::Stop;
 use crate::work::{Budget, Work};
 use fz_bounds::Bounds;
-use fz_bounds::fz_model::{
-    Domain, Goal, Model, Partial, PointParts, Scalars, Slot, Term,
-};
+use fz_bounds::fz_model::{Domain, Goal, Model, Partial, PointParts, Scalars, Slot, Term};
 use std::alloc::{AllocError, Global};
 
 /// A variable that is to get a small value, or a great one.
