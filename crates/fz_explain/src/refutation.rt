@@ -1,5 +1,5 @@
 //! The notes of a message on a block that is violated although no point fails under its filling:
-//! bounds of the variables leave one of them nothing.
+//! a point can't hold within the bounds that the other points leave.
 
 ghost use Rattle.fz_judge.specs.of_model.Meaning.{IsPartial};
 
@@ -8,14 +8,14 @@ use crate::notes::{note_variables, told_name};
 use crate::variables::variables_of;
 use crate::verdict::Reading;
 use fz_judge::fz_model::Kind;
-use fz_judge::{Emptied, refuted};
+use fz_judge::{Left, refuted};
 use std::alloc::{AllocError, Global};
 
-/// Bounds leave each variable a value, but no choice of them will do.
-const NONE_WILL_DO: &str = "none of the values that the other points leave will do here";
+/// What is said behind the bounds.
+const NONE_WILL_DO: &str = "no choice of these will do here";
 
-/// Adds the variables in the point that can't hold, and the one to which it leaves no value, with
-/// what other points leave it.
+/// Adds the variables in the point that can't hold: those with a value, and what the other points
+/// leave to those without one.
 pub(crate) fn note_refutation(
     alloc: Global,
     reading: &Reading<'_, '_, '_, '_, '_>,
@@ -27,43 +27,43 @@ pub(crate) fn note_refutation(
     let Some(found) = refuted(alloc, model, reading.filling, &mut None)? else {
         return Ok(());
     };
-    note_variables(alloc, reading, message, &variables_of(alloc, model, found.point)?)?;
-    let told = match found.emptied {
-        Some(emptied) => emptied_text(alloc, reading, emptied)?,
-        None => String::from_str(alloc, NONE_WILL_DO)?,
-    };
-    message.note(told)
+    let mut valued = variables_of(alloc, model, found.point)?;
+    valued.retain(|variable| reading.filling.has(*variable));
+    note_variables(alloc, reading, message, &valued)?;
+    for left in &found.left {
+        message.note(left_text(alloc, reading, *left)?)?;
+    }
+    message.note(String::from_str(alloc, NONE_WILL_DO)?)
 }
 
-fn emptied_text(
-    alloc: Global,
-    reading: &Reading<'_, '_, '_, '_, '_>,
-    emptied: Emptied,
-) -> Result<String, AllocError> {
-    let name = told_name(alloc, reading, emptied.variable)?;
-    let left = left_text(alloc, reading, emptied)?;
-    format!(in alloc; "no value is left for {name}: {left} by the other points, none of it by this")
-}
-
-/// What the other points leave to the variable.
+/// A variable and what the other points leave to it.
 fn left_text(
     alloc: Global,
     reading: &Reading<'_, '_, '_, '_, '_>,
-    emptied: Emptied,
+    left: Left,
 ) -> Result<String, AllocError> {
-    let Emptied { variable, low, high } = emptied;
+    let name = told_name(alloc, reading, left.variable)?;
+    let Left {
+        variable,
+        low,
+        high,
+    } = left;
     let is_bool = match reading.model.variables().get(variable) {
         Some(variable) => matches!(variable.kind, Kind::Bool),
         None => false,
     };
     if is_bool {
-        let told = if low == high { truth_text(low) } else { "false or true" };
-        return String::from_str(alloc, told);
+        let told = if low == high {
+            truth_text(low)
+        } else {
+            "false or true"
+        };
+        return format!(in alloc; "{name} = {told}, left by the other points");
     }
     if low == high {
-        return format!(in alloc; "{low}");
+        return format!(in alloc; "{name} = {low}, left by the other points");
     }
-    format!(in alloc; "{low}..{high}")
+    format!(in alloc; "{name} = {low}..{high}, left by the other points")
 }
 
 fn truth_text(number: i64) -> &'static str {

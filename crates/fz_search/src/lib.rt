@@ -34,6 +34,6 @@ mod work;
 
 pub use fz_bounds::fz_model;
 pub use index::Search;
-pub use refuting::{Emptied, Refutation, refuted};
+pub use refuting::{Left, Refutation, refuted};
 pub use row::Place;
 pub use search::{known_of, propose};

@@ -18,54 +18,69 @@ use std::alloc::{AllocError, Global};
 /// At most so many guesses are refuted.
 const MOST_GUESSES: usize = 100;
 
-/// A variable to which a point leaves no number, and its bounds before that.
+/// At most so many variables are told of a point.
+const MOST_LEFT: usize = 12;
+
+/// A variable without a value, and the bounds that other points leave it.
 #[derive(Clone, Copy, Debug)]
-pub struct Emptied {
+pub struct Left {
     pub variable: usize,
     pub low: i64,
     pub high: i64,
 }
 
 /// Why no solution has some values: the number of a point that can't hold within the bounds that
-/// other points leave, and the variable to which it leaves nothing, where there is one.
-#[derive(Clone, Copy, Debug)]
+/// other points leave, and these bounds, of the first variables in it that have no value.
+#[derive(Debug, Drop)]
 pub struct Refutation {
     pub point: usize,
-    pub emptied: Option<Emptied>,
+    pub left: Vec<Left>,
 }
 
-/// The variable of a step, with its bounds.
-fn left_before(bounds: &Bounds, variable: usize) -> Option<Emptied> {
-    let ends = bounds.ends(variable)?;
-    Some(Emptied {
-        variable,
-        low: ends.low,
-        high: ends.high,
-    })
+/// The bounds of the first variables of a point that have no value.
+fn left_at(
+    alloc: Global,
+    known: &Search,
+    filling: &Partial,
+    bounds: &Bounds,
+    point: usize,
+) -> Result<Vec<Left>, AllocError> {
+    let mut left = Vec::new(alloc);
+    for product in known.products_of(point) {
+        let variable = product.variable;
+        if filling.has(variable) || left.len() >= MOST_LEFT {
+            continue;
+        }
+        if let Some(ends) = bounds.ends(variable) {
+            let (low, high) = (ends.low, ends.high);
+            left.push(Left {
+                variable,
+                low,
+                high,
+            })?;
+        }
+    }
+    Ok(left)
 }
 
-/// Takes one step again, where its point shows it. The answer tells of a point that leaves a
+/// Takes one step again, where its point shows it. The answer is the point where it leaves the
 /// variable nothing.
 fn take(
     alloc: Global,
     model: &Model<'_>,
     bounds: &mut Bounds,
     step: Step,
-) -> Result<Option<Refutation>, AllocError>
-    ensures in_range { IfOk result (λ o. IfSome o (λ r. r.point < length (points model.now))) }
+) -> Result<Option<usize>, AllocError>
+    ensures in_range { IfOk result (λ o. IfSome o (λ k. k < length (points model.now))) }
     ensures kept { IfOk result (λ _. KeepSolutions model.now bounds.old bounds.new) }
     ensures none { IfOk result (λ o. IfSome o (λ _. HaveNoSolution model.now bounds.old)) }
 {
     if step.point >= model.points() {
         return Ok(None);
     }
-    let before = left_before(bounds, step.variable);
     let (low, high) = (step.ends.low, step.ends.high);
     match bounds.tighten(alloc, model, step.point, step.variable, low, high)? {
-        Tightened::Empty => Ok(Some(Refutation {
-            point: step.point,
-            emptied: before,
-        })),
+        Tightened::Empty => Ok(Some(step.point)),
         Tightened::Narrowed | Tightened::Unshown => Ok(None),
     }
 }
@@ -76,8 +91,8 @@ fn retake(
     model: &Model<'_>,
     bounds: &mut Bounds,
     steps: &[Step],
-) -> Result<Option<Refutation>, AllocError>
-    ensures in_range { IfOk result (λ o. IfSome o (λ r. r.point < length (points model.now))) }
+) -> Result<Option<usize>, AllocError>
+    ensures in_range { IfOk result (λ o. IfSome o (λ k. k < length (points model.now))) }
     ensures kept { IfOk result (λ _. KeepSolutions model.now bounds.old bounds.new) }
     ensures none { IfOk result (λ o. IfSome o (λ _. HaveNoSolution model.now bounds.old)) }
 {
@@ -98,8 +113,8 @@ fn refute(
     bounds: &mut Bounds,
     steps: &[Step],
     point: usize,
-) -> Result<Option<Refutation>, AllocError>
-    ensures in_range { IfOk result (λ o. IfSome o (λ r. r.point < length (points model.now))) }
+) -> Result<Option<usize>, AllocError>
+    ensures in_range { IfOk result (λ o. IfSome o (λ k. k < length (points model.now))) }
     ensures none { IfOk result (λ o. IfSome o (λ _. HaveNoSolution model.now bounds.old)) }
 {
     let found = retake(alloc, model, bounds, steps)?;
@@ -111,10 +126,7 @@ fn refute(
     }
     let fails = cannot_hold(alloc, model, point, bounds)?;
     if fails {
-        return Ok(Some(Refutation {
-            point,
-            emptied: None,
-        }));
+        return Ok(Some(point));
     }
     Ok(None)
 }
@@ -172,7 +184,11 @@ pub fn refuted(
         };
         let Some(guess) = conflict.guess else {
             let found = refute(alloc, model, &mut bounds, &conflict.steps, conflict.point)?;
-            return Ok(found);
+            let Some(point) = found else {
+                return Ok(None);
+            };
+            let left = left_at(alloc, known, filling, &bounds, point)?;
+            return Ok(Some(Refutation { point, left }));
         };
         if !lose(alloc, model, &mut bounds, &conflict, guess)? {
             return Ok(None);
