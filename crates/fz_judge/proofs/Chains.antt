@@ -273,4 +273,4 @@ pub filling_agrees : (c : Completion) (m : Model) (A : Assignment) (block : Bloc
     → IsKnownSolution m A → Extends m A block → IsFilling c m block F → HasEach F (whole A)
 filling_agrees Off m A block F solution extends filling = chain_agrees m A solution (start_agrees m A block extends) filling
 filling_agrees On m A block G solution extends (F, chain, furthered) =
-    further_agrees m A solution (filling_agrees Off m A block F solution extends chain) furthered.reached
+    further_agrees m A solution (chain_agrees m A solution (start_agrees m A block extends) chain) furthered.reached

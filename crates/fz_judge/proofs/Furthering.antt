@@ -1,5 +1,6 @@
 -- Steps by whichever result a row has, one after another.
-use Rattle.std.proofs.Common.{◌≡◌, ℕ, suc, ◌<◌, ◌≤◌, List, [], ◌∷◌, ◌++◌, append-nil, append_assoc, map, Some, slice_get, refl, sym, ap, ◌∙◌, arith}
+use Rattle.std.proofs.Common.{◌≡◌, ℕ, suc, ◌+◌, ◌<◌, ◌≤◌, inl, inr, subst, List, [], ◌∷◌, ◌++◌, append-nil, append_assoc, map, Some, slice_get, refl, sym, ap, ◌∙◌, arith}
+use Rattle.std.proofs.lemmas.Bool.{cases_lt}
 use Rattle.std.proofs.lemmas.List.{map-append}
 use Rattle.fz_base.specs.declared.value.Value.{Value}
 use Rattle.fz_search.specs.of_model.Aimed.{GivesAny, aimed}
@@ -12,7 +13,9 @@ use Rattle.fz_search.proofs.of_model.Steps.{only_open_none}
 use Rattle.fz_search.proofs.of_model.Tabled.{one_unset_less}
 use Rattle.fz_judge.specs.Filling.{Further, further_givers}
 use Rattle.fz_judge.specs.Filling.Further.{Stays, Goes}
-use Rattle.fz_judge.specs.Givers.{AddsSteps, giver_view}
+use Rattle.fz_judge.specs.Givers.{AddsSteps, AreGivers, giver_view}
+use Rattle.fz_judge.specs.declared.completion.Completion.TheVariants.{Off, On}
+use Rattle.fz_judge.specs.Stepping.{GivesNoneAt}
 use Rattle.fz_judge.specs.declared.steps.Giver.{Giver}
 
 joined : {m : Model} {K L M : Partial} → Further m K L → Further m L M → Further m K M
@@ -21,6 +24,7 @@ joined (Goes k p at gives rest) after = Goes k p at gives (joined rest after)
 
 joined_givers : {m : Model} {K L M : Partial} (r : Further m K L) (after : Further m L M)
     → further_givers (joined r after) ≡ further_givers r ++ further_givers after
+unfolding joined
 joined_givers Stays after = refl
 joined_givers (Goes {n = n} k p at gives rest) after = ap (λ ss. (n, k) ∷ ss) (joined_givers rest after)
 
@@ -58,3 +62,16 @@ no_more_unset m fits (Goes {K = K} {n = n} {v = v} k p at gives rest) =
     let less : unset_count (give K n v) < unset_count K = one_fewer m K p n v fits gives in
     let more = no_more_unset m (give_fits (variables_of m) K n v fits gives.of_kind) rest in
     omega (arith, less, more)
+
+-- one more point gives nothing
+pub none_up_to : (m : Model) (K : Partial) (k : ℕ) → ((j : ℕ) → j < k → GivesNoneAt m K j)
+    → GivesNoneAt m K k → (j : ℕ) → j < k + 1 → GivesNoneAt m K j
+none_up_to m K k before here j below = elim (cases_lt j k) [
+  | inl less ↦ before j less
+  | inr above ↦ let same : k ≡ j = omega (arith, below, above) in subst (GivesNoneAt m K) same here
+]
+
+-- the steps of a chain, and further ones behind them
+pub steps_joined : (m : Model) (K F G : Partial) (gs hs : List Giver) → AreGivers Off m K F gs
+    → AddsSteps m F G gs hs → AreGivers On m K G hs
+steps_joined m K F G gs hs (chain, are) (r, more) = (F, chain, r, more ∙ ap (λ ss. ss ++ further_givers r) are)

@@ -37,6 +37,10 @@ use Rattle.fz_judge.proofs.Violated.{WasNotBetter, array_not_fails, filling_grow
 
 -- ---- a point that fails fails under more values
 
+or_second : (a b : Bool) → b ≡ true → (a || b) ≡ true
+or_second true b e = refl
+or_second false b e = e
+
 module _ (F G : Partial) (under : HasEach F G) where
   values_same : (ts : List Term) (vs : List Value) → values F ts ≡ Some vs → Agree F G ts
   values_same [] vs e = tt
@@ -59,22 +63,21 @@ module _ (F G : Partial) (under : HasEach F G) where
       let (a, bs, is, are, cons) = option_cons_parts (argument_value F x) (argument_values F xs) as' e in
       all_append (λ t. value F t ≡ value G t) (terms_in x) (flat_map terms_in xs) (argument_same x a is) (arguments_same xs bs are)
 
+  outside_here : (d : Domain) (t : Term) (ts : List Term) (u : Value) (b : Bool) → value F t ≡ Some u
+      → not (inside d u) ≡ b
+      → (list_any (is_outside F d) ts ≡ true → list_any (is_outside G d) ts ≡ true)
+      → (b || list_any (is_outside F d) ts) ≡ true → (is_outside G d t || list_any (is_outside G d) ts) ≡ true
+  outside_here d t ts u true is out rest any = ap (λ o. option_map_or (λ v. not (inside d v)) o false || list_any (is_outside G d) ts) (value_under F G under t u is) ∙ ap (λ b. b || list_any (is_outside G d) ts) out
+  outside_here d t ts u false is out rest any = or_second (is_outside G d t) (list_any (is_outside G d) ts) (rest any)
+
   still_outside : (d : Domain) (ts : List Term) → list_any (is_outside F d) ts ≡ true
       → list_any (is_outside G d) ts ≡ true
   still_outside d [] any = any
   still_outside d (t ∷ ts) any =
       (elim (value F t) as (λ o. value F t ≡ o → (option_map_or (λ v. not (inside d v)) o false || list_any (is_outside F d) ts) ≡ true → (is_outside G d t || list_any (is_outside G d) ts) ≡ true) [
-        | None ↦ λ _ any. later (is_outside G d t) (still_outside d ts any)
-        | Some u ↦ λ is any. here u is (not (inside d u)) refl any
+        | None ↦ λ _ any. or_second (is_outside G d t) (list_any (is_outside G d) ts) (still_outside d ts any)
+        | Some u ↦ λ is any. outside_here d t ts u (not (inside d u)) is refl (λ e. still_outside d ts e) any
       ]) refl any
-    where
-      later : (b : Bool) → list_any (is_outside G d) ts ≡ true → (b || list_any (is_outside G d) ts) ≡ true
-      later true e = refl
-      later false e = e
-
-      here : (u : Value) → value F t ≡ Some u → (b : Bool) → not (inside d u) ≡ b → (b || list_any (is_outside F d) ts) ≡ true → (is_outside G d t || list_any (is_outside G d) ts) ≡ true
-      here u is true out any = ap (λ o. option_map_or (λ v. not (inside d v)) o false || list_any (is_outside G d) ts) (value_under F G under t u is) ∙ ap (λ b. b || list_any (is_outside G d) ts) out
-      here u is false out any = later (is_outside G d t) (still_outside d ts any)
 
   still_fails : (p : Point) → state F p ≡ Fails → state G p ≡ Fails
   still_fails (DomainPoint x k) s =
