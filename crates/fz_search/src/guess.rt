@@ -39,7 +39,7 @@ impl<'k, 'm, 'a> Work<'k, 'm, 'a> {
         let Some(domain) = self.domain_of(variable) else {
             return Err(Stop::NothingFound);
         };
-        let Some(members) = few_members(self.alloc, domain, self.ends_of(variable))? else {
+        let Some(members) = few_members(self.alloc, domain)? else {
             return self.guess_no_numbers(variable);
         };
         for number in 0..subsets_of(&members) {

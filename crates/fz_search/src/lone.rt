@@ -107,7 +107,7 @@ impl<'k, 'm, 'a> Work<'k, 'm, 'a> {
         let Some(domain) = self.domain_of(variable) else {
             return Err(Stop::Contradiction);
         };
-        let Some(members) = few_members(self.alloc, domain, self.ends_of(variable))? else {
+        let Some(members) = few_members(self.alloc, domain)? else {
             return Ok(());
         };
         let mut found = None;

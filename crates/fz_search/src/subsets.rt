@@ -1,6 +1,5 @@
 //! The subsets of a domain with few numbers.
 
-use crate::ends::{Ends, admits_number};
 use fz_base::{IntSet, Value};
 use fz_bounds::fz_model::Domain;
 use std::alloc::{AllocError, Global};
@@ -8,28 +7,33 @@ use std::alloc::{AllocError, Global};
 /// All subsets of at most this many numbers are tried.
 const MOST_MEMBERS: usize = 9;
 
-/// How far apart the least and the greatest of them may be.
-const WIDEST: i128 = 1000;
-
-/// The numbers of a domain with these bounds, where there are few.
-pub(crate) fn few_members(
-    alloc: Global,
-    domain: &Domain,
-    ends: Ends,
-) -> Result<Option<Vec<i64>>, AllocError> {
+/// The numbers of a domain, where there are few.
+pub(crate) fn few_members(alloc: Global, domain: &Domain) -> Result<Option<Vec<i64>>, AllocError> {
     let mut members = Vec::new(alloc);
-    if ends.width() > WIDEST {
-        return Ok(None);
-    }
-    for number in ends.low..=ends.high {
-        if admits_number(domain, number) {
-            members.push(number)?;
+    match domain {
+        Domain::All => return Ok(None),
+        Domain::Within(low, high) => add_few(&mut members, *low, *high)?,
+        Domain::Among(numbers) => {
+            for range in numbers.ranges(alloc)? {
+                add_few(&mut members, range.lo, range.hi)?;
+            }
         }
     }
     if members.len() > MOST_MEMBERS {
         return Ok(None);
     }
     Ok(Some(members))
+}
+
+/// Adds the numbers from one to another, until there are more than few.
+fn add_few(members: &mut Vec<i64>, low: i64, high: i64) -> Result<(), AllocError> {
+    for number in low..=high {
+        if members.len() > MOST_MEMBERS {
+            return Ok(());
+        }
+        members.push(number)?;
+    }
+    Ok(())
 }
 
 /// How many subsets this many numbers have.
