@@ -24,7 +24,7 @@ pub(crate) struct Conflict {
 
 impl<'k, 'm, 'a> Work<'k, 'm, 'a> {
     /// Narrows bounds as far as they go, and supposes then that the first variable without a value
-    /// has the least number, or else the greatest one, that is left to it.
+    /// has the least number that is left to it.
     fn contradict(&mut self) -> Result<(), Stop> {
         self.begin()?;
         self.settle()?;

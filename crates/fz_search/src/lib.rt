@@ -1,7 +1,8 @@
 //! The search of `--complete`: it proposes values for the variables that a solver left out and
-//! nothing forces. It reads the points of a model: which variables are in each, the linear row that
-//! it is, if it is one, and bounds of variables. What is promised is only that the values are of
-//! their variables' kinds; whether a block is satisfied with them is judged afterwards. An internal
+//! nothing forces (`propose`). It reads the points of a model: which variables are in each, the
+//! linear row that it is, if it is one, and bounds of variables. What is promised is only that the
+//! values are of their variables' kinds; whether a block is satisfied with them is judged
+//! afterwards. Where it tells that there are no such values (`refuted`), that is proved. An internal
 //! crate of `fz_check`.
 //!
 //! Its worked cases are in `tests/cases` (`completed.txt`).
