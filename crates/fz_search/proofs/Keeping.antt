@@ -56,9 +56,7 @@ lost m B C D n v l h low high copied none taken A solution inside =
     none A solution (inside_narrowed C A n v v (copied A inside) is))
 
 -- where all that have some values lie inside
-pub none_with : {X : Type 0} (m : Model) (F : Partial) (B : Ranges) (o : Option X)
+pub none_with : (m : Model) (F : Partial) (B : Ranges)
     → ((A : Assignment) → IsKnownSolution m A → HasEach F (whole A) → IsInside B A)
-    → IfSome o (λ _. HaveNoSolution m B)
-    → IfSome o (λ _. (A : Assignment) → IsKnownSolution m A → HasEach F (whole A) → ⊥)
-none_with m F B None all never = tt
-none_with m F B (Some x) all never = λ A solution has. never A solution (all A solution has)
+    → HaveNoSolution m B → (A : Assignment) → IsKnownSolution m A → HasEach F (whole A) → ⊥
+none_with m F B all never A solution has = never A solution (all A solution has)
