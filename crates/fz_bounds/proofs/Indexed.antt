@@ -1,6 +1,8 @@
 -- The element at an index.
-use Rattle.std.proofs.Common.{◌≡◌, ℕ, zero, suc, ℤ, pos, negsuc, Bool, true, false, ◌&&◌, List, [], ◌∷◌, Some, slice_get, refl, sym, ap, subst, ◌∙◌}
-use Rattle.fz_builtins.specs.of_meaning.Relations.{is_element}
+use Rattle.std.proofs.Common.{◌≡◌, ℕ, zero, suc, ℤ, pos, negsuc, Bool, true, false, ◌&&◌, not, ◌||◌, ◌<◌, arith, List, [], ◌∷◌, Some, slice_get, refl, sym, ap, subst, ◌∙◌}
+use Rattle.std.specs.List.{list_all, list_any}
+use Rattle.fz_builtins.specs.of_meaning.Relations.{◌=ℤ◌, all_different, is_among, is_element}
+use Rattle.fz_builtins.proofs.of_meaning.Values.{int_itself}
 use Rattle.fz_bounds.specs.Decided.{Decides}
 use Rattle.fz_bounds.specs.declared.outlook.Outlook.{Outlook}
 use Rattle.fz_bounds.specs.declared.outlook.Outlook.TheVariants.{Never}
@@ -25,3 +27,51 @@ pub never_both : (o : Outlook) (p q : Bool) → o ≡ Never → Decides o (p && 
 never_both o p q e h is =
     let neither : (p && q) ≡ false = subst (λ z. Decides z (p && q)) e h in
     sym (ap (λ z. z && q) is) ∙ neither
+
+-- where one element fails, not all pass
+pub one_fails : {A : Type 0} (f : A → Bool) (xs : List A) (i : ℕ) (x : A)
+    → slice_get xs i ≡ Some x → f x ≡ false → list_all f xs ≡ false
+one_fails f [] i x at e = cc
+one_fails f (y ∷ xs) zero x at e =
+    let same : y ≡ x = cc in
+    ap (λ b. b && list_all f xs) (ap f same ∙ e)
+one_fails f (y ∷ xs) (suc i) x at e =
+    ap (λ b. f y && b) (one_fails f xs i x at e) ∙ and_false (f y)
+  where
+    and_false : (b : Bool) → (b && false) ≡ false
+    and_false true = refl
+    and_false false = refl
+
+-- where each element fails, none passes
+pub none_passes : {A : Type 0} (f : A → Bool) (xs : List A)
+    → ((i : ℕ) (x : A) → slice_get xs i ≡ Some x → f x ≡ false) → list_any f xs ≡ false
+none_passes f [] h = refl
+none_passes f (x ∷ xs) h =
+    ap (λ b. b || list_any f xs) (h zero x refl) ∙ none_passes f xs (λ i y at. h (suc i) y at)
+
+is_listed : (xs : List ℤ) (i : ℕ) (a : ℤ) → slice_get xs i ≡ Some a → is_among a xs ≡ true
+is_listed [] i a at = cc
+is_listed (x ∷ xs) zero a at =
+    let same : x ≡ a = cc in
+    ap (λ y. (y =ℤ a) || is_among a xs) same ∙ ap (λ b. b || is_among a xs) (int_itself a)
+is_listed (x ∷ xs) (suc i) a at =
+    ap (λ b. (x =ℤ a) || b) (is_listed xs i a at) ∙ or_true (x =ℤ a)
+  where
+    or_true : (b : Bool) → (b || true) ≡ true
+    or_true true = refl
+    or_true false = refl
+
+-- where two elements are equal, not all are different
+pub twice_listed : (xs : List ℤ) (i j : ℕ) (a : ℤ) → i < j → slice_get xs i ≡ Some a
+    → slice_get xs j ≡ Some a → all_different xs ≡ false
+twice_listed [] i j a h d e = cc
+twice_listed (x ∷ xs) i zero a h d e = absurd (omega arith)
+twice_listed (x ∷ xs) zero (suc j) a h d e =
+    let same : x ≡ a = cc in
+    ap (λ b. not b && all_different xs) (ap (λ y. is_among y xs) same ∙ is_listed xs j a e)
+twice_listed (x ∷ xs) (suc i) (suc j) a h d e =
+    ap (λ b. not (is_among x xs) && b) (twice_listed xs i j a (omega arith) d e) ∙ and_false (not (is_among x xs))
+  where
+    and_false : (b : Bool) → (b && false) ≡ false
+    and_false true = refl
+    and_false false = refl

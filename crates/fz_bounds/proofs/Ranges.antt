@@ -1,7 +1,8 @@
 -- Ends of sums and of products.
-use Rattle.std.proofs.Common.{◌≡◌, ℕ, suc, ◌*◌, ◌≤◌, ℤ, pos, negsuc, ◌+ℤ◌, ◌*ℤ◌, true, false, Option, None, Some, IfSome, IsSomeAnd, int_le, arith}
+use Rattle.std.proofs.Common.{◌≡◌, ℕ, suc, ◌*◌, ◌≤◌, ℤ, pos, negsuc, ◌+ℤ◌, ◌-ℤ◌, ◌*ℤ◌, true, false, Option, None, Some, IfSome, IsSomeAnd, int_le, subst, sym, unsigned_abs, arith}
 use Rattle.std.proofs.Math.Nat.{mul-le-mul_left}
-use Rattle.std.proofs.lemmas.Int.{ints}
+use Rattle.std.proofs.lemmas.Int.{clamps, ints}
+use Rattle.std.specs.Int.{int_max, int_min}
 
 -- ---- sums
 
@@ -22,6 +23,48 @@ sum_high o p None a b f g h = tt
 sum_high None p (Some z) a b f g h = absurd h
 sum_high (Some x) None (Some z) a b f g h = absurd h
 sum_high (Some x) (Some y) (Some z) a b f g h = grind (arith, ints)
+
+-- ---- the greater and the lesser of two
+
+-- a number that is made of the two, which are known
+abbrev pub IsMade : (ℤ → ℤ → ℤ) → Option ℤ → Option ℤ → Option ℤ → Type 0
+IsMade f o p r = IfSome r (λ z. IsSomeAnd o (λ x. IsSomeAnd p (λ y. z ≡ f x y)))
+
+pub max_low : (o p r : Option ℤ) (a b : ℤ) → IfSome o (λ l. int_le l a ≡ true)
+    → IfSome p (λ l. int_le l b ≡ true) → IsMade int_max o p r
+    → IfSome r (λ l. int_le l (int_max a b) ≡ true)
+max_low o p None a b f g h = tt
+max_low None p (Some z) a b f g h = absurd h
+max_low (Some x) None (Some z) a b f g h = absurd h
+max_low (Some x) (Some y) (Some z) a b f g h = subst (λ w. int_le w (int_max a b) ≡ true) (sym h) (grind (arith, ints, clamps))
+
+pub max_high : (o p r : Option ℤ) (a b : ℤ) → IfSome o (λ l. int_le a l ≡ true)
+    → IfSome p (λ l. int_le b l ≡ true) → IsMade int_max o p r
+    → IfSome r (λ l. int_le (int_max a b) l ≡ true)
+max_high o p None a b f g h = tt
+max_high None p (Some z) a b f g h = absurd h
+max_high (Some x) None (Some z) a b f g h = absurd h
+max_high (Some x) (Some y) (Some z) a b f g h = subst (λ w. int_le (int_max a b) w ≡ true) (sym h) (grind (arith, ints, clamps))
+
+pub min_low : (o p r : Option ℤ) (a b : ℤ) → IfSome o (λ l. int_le l a ≡ true)
+    → IfSome p (λ l. int_le l b ≡ true) → IsMade int_min o p r
+    → IfSome r (λ l. int_le l (int_min a b) ≡ true)
+min_low o p None a b f g h = tt
+min_low None p (Some z) a b f g h = absurd h
+min_low (Some x) None (Some z) a b f g h = absurd h
+min_low (Some x) (Some y) (Some z) a b f g h = subst (λ w. int_le w (int_min a b) ≡ true) (sym h) (grind (arith, ints, clamps))
+
+pub min_high : (o p r : Option ℤ) (a b : ℤ) → IfSome o (λ l. int_le a l ≡ true)
+    → IfSome p (λ l. int_le b l ≡ true) → IsMade int_min o p r
+    → IfSome r (λ l. int_le (int_min a b) l ≡ true)
+min_high o p None a b f g h = tt
+min_high None p (Some z) a b f g h = absurd h
+min_high (Some x) None (Some z) a b f g h = absurd h
+min_high (Some x) (Some y) (Some z) a b f g h = subst (λ w. int_le (int_min a b) w ≡ true) (sym h) (grind (arith, ints, clamps))
+
+pub absolute_is : (a : ℤ) → int_max (int_max a (pos 0 -ℤ a)) (pos 0) ≡ pos (unsigned_abs a)
+absolute_is (pos n) = grind (arith, ints, clamps)
+absolute_is (negsuc n) = grind (arith, ints, clamps)
 
 -- ---- products
 

@@ -20,6 +20,9 @@ pub(crate) fn foretold(builtin: Builtin, at: &Limits<'_, '_>) -> Outlook
         Builtin::IntGt => at.number(1).below(at.number(0)),
         Builtin::IntPlus => at.number(2).equal(at.number(0).plus(at.number(1))),
         Builtin::IntMinus => at.number(2).equal(at.number(0).minus(at.number(1))),
+        Builtin::IntMin => at.number(2).equal(at.number(0).min(at.number(1))),
+        Builtin::IntMax => at.number(2).equal(at.number(0).max(at.number(1))),
+        Builtin::IntAbs => at.number(1).equal(at.number(0).abs()),
         Builtin::IntNegate => at.number(1).equal(at.number(0).negated()),
         Builtin::BoolEq => at.truth(0).same(at.truth(1)),
         Builtin::BoolLe => at.truth(0).negated().or(at.truth(1)),
@@ -54,6 +57,9 @@ pub(crate) fn foretold(builtin: Builtin, at: &Limits<'_, '_>) -> Outlook
         Builtin::BoolLinGt => at.number(2).below(at.sum_where_true()),
         Builtin::ArrayIntElement => at.int_element(),
         Builtin::ArrayBoolElement => at.bool_element(),
+        Builtin::ArrayIntMaximum => at.is_among().and(at.all_at_most()),
+        Builtin::ArrayIntMinimum => at.is_among().and(at.all_at_least()),
+        Builtin::FznAllDifferentInt => at.all_different(),
         _ => Outlook::Open,
     }
 }

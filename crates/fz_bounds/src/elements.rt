@@ -1,8 +1,9 @@
 //! Rows over the elements of arrays within bounds.
 
-ghost use Rattle.std.specs.Prelude.{◌≡◌, ◌<◌, ℤ, Bool, IfSome, Some, length, slice_get};
+ghost use Rattle.std.specs.Prelude.{◌≡◌, ◌<◌, ℕ, ℤ, Bool, IfSome, IsTrue, Some, int_le, length, slice_get};
+ghost use Rattle.std.specs.List.{list_all};
 ghost use Rattle.fz_builtins.specs.of_meaning.Meaning.{Partial as Values};
-ghost use Rattle.fz_builtins.specs.of_meaning.Relations.{◌=ℤ◌, ◌=ᴮ◌, is_element, products, total, where_true};
+ghost use Rattle.fz_builtins.specs.of_meaning.Relations.{◌=ℤ◌, ◌=ᴮ◌, all_different, is_among, is_element, products, total, where_true};
 ghost use Rattle.fz_builtins.specs.of_kernel.Given.{bool_at, bools_at, int_at, ints_at, slots_at};
 ghost use Rattle.fz_bounds.specs.Decided.{Decides, LiesIn};
 ghost use Rattle.fz_bounds.specs.Within.{NumberLies, NumbersLie, TruthLies, TruthsLie, given};
@@ -144,5 +145,77 @@ impl<'s, 'a> Limits<'s, 'a> {
             }
         }
         Outlook::Never
+    }
+
+    /// Whether the first argument is among the elements of the second.
+    pub(crate) fn is_among(&self) -> Outlook
+        ensures { (K : Values) → NumberLies self.now 0 K → NumbersLie self.now 1 K → Decides result
+            (is_among (int_at K (given self.now) 0) (ints_at K (given self.now) 1)) }
+    {
+        for place in 0..self.count(1) {
+            if !self.number_at(1, place).equal(self.number(0)).is_never() {
+                return Outlook::Open;
+            }
+        }
+        Outlook::Never
+    }
+
+    /// Whether each element of the second argument is at most the first.
+    pub(crate) fn all_at_most(&self) -> Outlook
+        ensures { (K : Values) → NumberLies self.now 0 K → NumbersLie self.now 1 K → Decides result
+            (list_all (λ x. int_le x (int_at K (given self.now) 0))
+            (ints_at K (given self.now) 1)) }
+    {
+        for place in 0..self.count(1) {
+            if self.number_at(1, place).at_most(self.number(0)).is_never() {
+                return Outlook::Never;
+            }
+        }
+        Outlook::Open
+    }
+
+    /// Whether each element of the second argument is at least the first.
+    pub(crate) fn all_at_least(&self) -> Outlook
+        ensures { (K : Values) → NumberLies self.now 0 K → NumbersLie self.now 1 K → Decides result
+            (list_all (λ x. int_le (int_at K (given self.now) 0) x)
+            (ints_at K (given self.now) 1)) }
+    {
+        for place in 0..self.count(1) {
+            if self.number(0).at_most(self.number_at(1, place)).is_never() {
+                return Outlook::Never;
+            }
+        }
+        Outlook::Open
+    }
+
+    /// Whether an element before a place can only be this number.
+    fn stands_before(&self, place: usize, number: i64) -> bool
+        requires in_range { place < length (slots_at (given self.now) 0) }
+        ensures { IsTrue result → (K : Values) → NumbersLie self.now 0 K → (p : ℕ) × (p < place)
+            × (slice_get (ints_at K (given self.now) 0) p ≡ Some number) }
+    {
+        for before in 0..place {
+            if let Some(only) = self.only_at(0, before) {
+                if only == number {
+                    return true;
+                }
+            }
+        }
+        false
+    }
+
+    /// Whether no two elements of the first argument are equal.
+    pub(crate) fn all_different(&self) -> Outlook
+        ensures { (K : Values) → NumbersLie self.now 0 K
+            → Decides result (all_different (ints_at K (given self.now) 0)) }
+    {
+        for place in 0..self.count(0) {
+            if let Some(number) = self.only_at(0, place) {
+                if self.stands_before(place, number) {
+                    return Outlook::Never;
+                }
+            }
+        }
+        Outlook::Open
     }
 }

@@ -1,8 +1,9 @@
-use Rattle.std.proofs.Common.{not, pos, ◌&&◌, ◌+ℤ◌, ◌-ℤ◌, ◌||◌}
+use Rattle.std.proofs.Common.{int_le, not, pos, unsigned_abs, ◌&&◌, ◌+ℤ◌, ◌-ℤ◌, ◌||◌}
+use Rattle.std.specs.Int.{int_max, int_min}
 use Rattle.std.specs.List.{list_all, list_any}
 use Rattle.fz_builtins.specs.of_meaning.declared.builtin.Builtin.TheVariants as builtin
 use Rattle.fz_builtins.specs.of_meaning.Builtins.{row_at}
-use Rattle.fz_builtins.specs.of_meaning.Relations.{as_number, products, total, where_true, ◌=ᴮ◌, ◌=ℤ◌}
+use Rattle.fz_builtins.specs.of_meaning.Relations.{as_number, is_among, products, total, where_true, ◌=ᴮ◌, ◌=ℤ◌}
 use Rattle.fz_builtins.specs.of_kernel.Given.{bool_at, bools_at, int_at, ints_at}
 use Rattle.fz_bounds.specs.Within.{given}
 use Rattle.fz_bounds.proofs.At.{at_row}
@@ -235,3 +236,38 @@ unfolding row_at
 returns-in-ArrayBoolElement c = at_row c.args.at.now c.args.builtin builtin.ArrayBoolElement c.bool_element.result c.in-ArrayBoolElement.is (λ K h.
     let xs = given c.args.at.now in
     c.bool_element.ensures K (record { low = h.low.0; high = h.high.0 }) (record { low = h.low.1.0; high = h.high.1.0 }) (record { low = h.low.1.1.0; high = h.high.1.1.0 }))
+
+pub returns-in-IntMin : goal.returns-in-IntMin
+unfolding row_at
+returns-in-IntMin c = at_row c.args.at.now c.args.builtin builtin.IntMin c.equal-in-IntMin.result c.in-IntMin.is (λ K h.
+    let xs = given c.args.at.now in
+    c.equal-in-IntMin.ensures (int_at K xs 2) (int_min (int_at K xs 0) (int_at K xs 1)) (c.number-in-IntMin.ensures K (record { low = h.low.1.1.0; high = h.high.1.1.0 })) (c.min.ensures (int_at K xs 0) (int_at K xs 1) (c.number-in-IntMin-2.ensures K (record { low = h.low.0; high = h.high.0 })) (c.number-in-IntMin-3.ensures K (record { low = h.low.1.0; high = h.high.1.0 }))))
+
+pub returns-in-IntMax : goal.returns-in-IntMax
+unfolding row_at
+returns-in-IntMax c = at_row c.args.at.now c.args.builtin builtin.IntMax c.equal-in-IntMax.result c.in-IntMax.is (λ K h.
+    let xs = given c.args.at.now in
+    c.equal-in-IntMax.ensures (int_at K xs 2) (int_max (int_at K xs 0) (int_at K xs 1)) (c.number-in-IntMax.ensures K (record { low = h.low.1.1.0; high = h.high.1.1.0 })) (c.max.ensures (int_at K xs 0) (int_at K xs 1) (c.number-in-IntMax-2.ensures K (record { low = h.low.0; high = h.high.0 })) (c.number-in-IntMax-3.ensures K (record { low = h.low.1.0; high = h.high.1.0 }))))
+
+pub returns-in-IntAbs : goal.returns-in-IntAbs
+unfolding row_at
+returns-in-IntAbs c = at_row c.args.at.now c.args.builtin builtin.IntAbs c.equal-in-IntAbs.result c.in-IntAbs.is (λ K h.
+    let xs = given c.args.at.now in
+    c.equal-in-IntAbs.ensures (int_at K xs 1) (pos (unsigned_abs (int_at K xs 0))) (c.number-in-IntAbs.ensures K (record { low = h.low.1.0; high = h.high.1.0 })) (c.abs.ensures (int_at K xs 0) (c.number-in-IntAbs-2.ensures K (record { low = h.low.0; high = h.high.0 }))))
+
+pub returns-in-ArrayIntMaximum : goal.returns-in-ArrayIntMaximum
+unfolding row_at
+returns-in-ArrayIntMaximum c = at_row c.args.at.now c.args.builtin builtin.ArrayIntMaximum c.and-in-ArrayIntMaximum.result c.in-ArrayIntMaximum.is (λ K h.
+    let xs = given c.args.at.now in
+    c.and-in-ArrayIntMaximum.ensures (is_among (int_at K xs 0) (ints_at K xs 1)) (list_all (λ x. int_le x (int_at K xs 0)) (ints_at K xs 1)) (c.is_among.ensures K (record { low = h.low.0; high = h.high.0 }) (record { low = h.low.1.0; high = h.high.1.0 })) (c.all_at_most.ensures K (record { low = h.low.0; high = h.high.0 }) (record { low = h.low.1.0; high = h.high.1.0 })))
+
+pub returns-in-ArrayIntMinimum : goal.returns-in-ArrayIntMinimum
+unfolding row_at
+returns-in-ArrayIntMinimum c = at_row c.args.at.now c.args.builtin builtin.ArrayIntMinimum c.and-in-ArrayIntMinimum.result c.in-ArrayIntMinimum.is (λ K h.
+    let xs = given c.args.at.now in
+    c.and-in-ArrayIntMinimum.ensures (is_among (int_at K xs 0) (ints_at K xs 1)) (list_all (λ x. int_le (int_at K xs 0) x) (ints_at K xs 1)) (c.is_among-in-ArrayIntMinimum.ensures K (record { low = h.low.0; high = h.high.0 }) (record { low = h.low.1.0; high = h.high.1.0 })) (c.all_at_least.ensures K (record { low = h.low.0; high = h.high.0 }) (record { low = h.low.1.0; high = h.high.1.0 })))
+
+pub returns-in-FznAllDifferentInt : goal.returns-in-FznAllDifferentInt
+unfolding row_at
+returns-in-FznAllDifferentInt c = at_row c.args.at.now c.args.builtin builtin.FznAllDifferentInt c.all_different.result c.in-FznAllDifferentInt.is (λ K h.
+    c.all_different.ensures K (record { low = h.low.0; high = h.high.0 }))
