@@ -3,7 +3,7 @@
 ghost use Rattle.std.specs.Prelude.{◌≡◌, ◌<◌, ℕ, ℤ, Bool, IfSome, IsTrue, Some, int_le, length, slice_get};
 ghost use Rattle.std.specs.List.{list_all};
 ghost use Rattle.fz_builtins.specs.of_meaning.Meaning.{Partial as Values};
-ghost use Rattle.fz_builtins.specs.of_meaning.Relations.{◌=ℤ◌, ◌=ᴮ◌, all_different, is_among, is_element, products, total, where_true};
+ghost use Rattle.fz_builtins.specs.of_meaning.Relations.{◌=ℤ◌, ◌=ᴮ◌, all_different, count_of, is_among, is_element, products, total, where_true};
 ghost use Rattle.fz_builtins.specs.of_kernel.Given.{bool_at, bools_at, int_at, ints_at, slots_at};
 ghost use Rattle.fz_bounds.specs.Decided.{Decides, LiesIn};
 ghost use Rattle.fz_bounds.specs.Within.{NumberLies, NumbersLie, TruthLies, TruthsLie, given};
@@ -111,6 +111,20 @@ impl<'s, 'a> Limits<'s, 'a> {
                 return Range::unknown();
             };
             sum = sum.plus(self.truth_at(1, place).number().times(coefficient));
+        }
+        sum
+    }
+
+    /// How many elements of an array of integers are the integer that is another argument.
+    pub(crate) fn count_of(&self, array: usize, wanted: usize) -> Range
+        ensures { (K : Values) → NumbersLie self.now array K → NumberLies self.now wanted K
+            → LiesIn result (count_of (ints_at K (given self.now) array)
+            (int_at K (given self.now) wanted)) }
+    {
+        let mut sum = Range::of(0);
+        for place in 0..self.count(array) {
+            let same = self.number_at(array, place).equal(self.number(wanted));
+            sum = sum.plus(same.number());
         }
         sum
     }
