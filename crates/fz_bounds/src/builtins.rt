@@ -20,6 +20,7 @@ pub(crate) fn foretold(builtin: Builtin, at: &Limits<'_, '_>) -> Outlook
         Builtin::IntGt => at.number(1).below(at.number(0)),
         Builtin::IntPlus => at.number(2).equal(at.number(0).plus(at.number(1))),
         Builtin::IntMinus => at.number(2).equal(at.number(0).minus(at.number(1))),
+        Builtin::IntTimes => at.number(2).equal(at.product()),
         Builtin::IntMin => at.number(2).equal(at.number(0).min(at.number(1))),
         Builtin::IntMax => at.number(2).equal(at.number(0).max(at.number(1))),
         Builtin::IntAbs => at.number(1).equal(at.number(0).abs()),

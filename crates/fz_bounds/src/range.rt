@@ -193,6 +193,17 @@ impl Range {
         }
     }
 
+    /// Of the numbers that lie between a number of the one range and one of the other.
+    pub(crate) fn hull(self, other: Range) -> Range
+        ensures { (a b n : ℤ) → LiesIn self a → LiesIn other b → int_le (int_min a b) n ≡ true
+            → int_le n (int_max a b) ≡ true → LiesIn result n }
+    {
+        Range {
+            low: lesser(self.low, other.low),
+            high: greater(self.high, other.high),
+        }
+    }
+
     /// Of the absolute values.
     pub(crate) fn abs(self) -> Range
         ensures { (a : ℤ) → LiesIn self a → LiesIn result (pos (unsigned_abs a)) }

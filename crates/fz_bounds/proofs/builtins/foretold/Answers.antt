@@ -1,4 +1,4 @@
-use Rattle.std.proofs.Common.{int_le, not, pos, unsigned_abs, ◌&&◌, ◌+ℤ◌, ◌-ℤ◌, ◌||◌}
+use Rattle.std.proofs.Common.{int_le, not, pos, unsigned_abs, ◌&&◌, ◌+ℤ◌, ◌-ℤ◌, ◌*ℤ◌, ◌||◌}
 use Rattle.std.specs.Int.{int_max, int_min}
 use Rattle.std.specs.List.{list_all, list_any}
 use Rattle.fz_builtins.specs.of_meaning.declared.builtin.Builtin.TheVariants as builtin
@@ -325,3 +325,9 @@ unfolding row_at
 returns-in-FznExactlyInt c = at_row c.args.at.now c.args.builtin builtin.FznExactlyInt c.equal-in-FznExactlyInt.result c.in-FznExactlyInt.is (λ K h.
     let xs = given c.args.at.now in
     c.equal-in-FznExactlyInt.ensures (int_at K xs 0) (count_of (ints_at K xs 1) (int_at K xs 2)) (c.number-in-FznExactlyInt.ensures K (record { low = h.low.0; high = h.high.0 })) (c.count_of-in-FznExactlyInt.ensures K (record { low = h.low.1.0; high = h.high.1.0 }) (record { low = h.low.1.1.0; high = h.high.1.1.0 })))
+
+pub returns-in-IntTimes : goal.returns-in-IntTimes
+unfolding row_at
+returns-in-IntTimes c = at_row c.args.at.now c.args.builtin builtin.IntTimes c.equal-in-IntTimes.result c.in-IntTimes.is (λ K h.
+    let xs = given c.args.at.now in
+    c.equal-in-IntTimes.ensures (int_at K xs 2) ((int_at K xs 0) *ℤ (int_at K xs 1)) (c.number-in-IntTimes.ensures K (record { low = h.low.1.1.0; high = h.high.1.1.0 })) (c.product.ensures K (record { low = h.low.0; high = h.high.0 }) (record { low = h.low.1.0; high = h.high.1.0 })))
