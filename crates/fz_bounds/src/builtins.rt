@@ -70,6 +70,7 @@ pub(crate) fn foretold(builtin: Builtin, at: &Limits<'_, '_>) -> Outlook
         Builtin::FznAtMostInt => at.count_of(1, 2).at_most(at.number(0)),
         Builtin::FznExactlyInt => at.number(0).equal(at.count_of(1, 2)),
         Builtin::FznAllDifferentInt => at.all_different(),
+        Builtin::FznAlldifferentExcept0 => at.different_but_zeros(),
         _ => Outlook::Open,
     }
 }

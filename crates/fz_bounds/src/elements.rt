@@ -1,9 +1,9 @@
 //! Rows over the elements of arrays within bounds.
 
 ghost use Rattle.std.specs.Prelude.{◌≡◌, ◌<◌, ℕ, ℤ, Bool, IfSome, IsTrue, Some, int_le, length, slice_get};
-ghost use Rattle.std.specs.List.{list_all};
+ghost use Rattle.std.specs.List.{filter, list_all};
 ghost use Rattle.fz_builtins.specs.of_meaning.Meaning.{Partial as Values};
-ghost use Rattle.fz_builtins.specs.of_meaning.Relations.{◌=ℤ◌, ◌=ᴮ◌, all_different, count_of, is_among, is_element, products, total, where_true};
+ghost use Rattle.fz_builtins.specs.of_meaning.Relations.{◌=ℤ◌, ◌=ᴮ◌, all_different, count_of, is_among, is_element, is_nonzero, products, total, where_true};
 ghost use Rattle.fz_builtins.specs.of_kernel.Given.{bool_at, bools_at, int_at, ints_at, slots_at};
 ghost use Rattle.fz_bounds.specs.Decided.{Decides, LiesIn};
 ghost use Rattle.fz_bounds.specs.Within.{NumberLies, NumbersLie, TruthLies, TruthsLie, given};
@@ -226,6 +226,21 @@ impl<'s, 'a> Limits<'s, 'a> {
         for place in 0..self.count(0) {
             if let Some(number) = self.only_at(0, place) {
                 if self.stands_before(place, number) {
+                    return Outlook::Never;
+                }
+            }
+        }
+        Outlook::Open
+    }
+
+    /// Whether no two elements of the first argument are equal, unless they are 0.
+    pub(crate) fn different_but_zeros(&self) -> Outlook
+        ensures { (K : Values) → NumbersLie self.now 0 K
+            → Decides result (all_different (filter is_nonzero (ints_at K (given self.now) 0))) }
+    {
+        for place in 0..self.count(0) {
+            if let Some(number) = self.only_at(0, place) {
+                if number != 0 && self.stands_before(place, number) {
                     return Outlook::Never;
                 }
             }

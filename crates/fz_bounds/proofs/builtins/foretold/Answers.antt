@@ -331,3 +331,8 @@ unfolding row_at
 returns-in-IntTimes c = at_row c.args.at.now c.args.builtin builtin.IntTimes c.equal-in-IntTimes.result c.in-IntTimes.is (λ K h.
     let xs = given c.args.at.now in
     c.equal-in-IntTimes.ensures (int_at K xs 2) ((int_at K xs 0) *ℤ (int_at K xs 1)) (c.number-in-IntTimes.ensures K (record { low = h.low.1.1.0; high = h.high.1.1.0 })) (c.product.ensures K (record { low = h.low.0; high = h.high.0 }) (record { low = h.low.1.0; high = h.high.1.0 })))
+
+pub returns-in-FznAlldifferentExcept0 : goal.returns-in-FznAlldifferentExcept0
+unfolding row_at
+returns-in-FznAlldifferentExcept0 c = at_row c.args.at.now c.args.builtin builtin.FznAlldifferentExcept0 c.different_but_zeros.result c.in-FznAlldifferentExcept0.is (λ K h.
+    c.different_but_zeros.ensures K (record { low = h.low.0; high = h.high.0 }))
