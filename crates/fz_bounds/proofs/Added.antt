@@ -1,7 +1,9 @@
 -- Sums of products within ranges, added one after another.
 use Rattle.std.proofs.Common.{◌≡◌, ℕ, ◌+◌, ℤ, pos, ◌+ℤ◌, ◌*ℤ◌, Bool, true, false, List, ◌∷◌, drop, Some, slice_get, sym, ap, subst, ◌∙◌, arith}
 use Rattle.std.proofs.lemmas.Int.{ints}
-use Rattle.fz_builtins.specs.of_meaning.Relations.{as_number, products, total, where_true}
+use Rattle.std.specs.List.{filter}
+use Rattle.std.specs.Prelude.{cond, length}
+use Rattle.fz_builtins.specs.of_meaning.Relations.{◌=ℤ◌, as_number, count_of, products, total, where_true}
 use Rattle.fz_builtins.proofs.of_kernel.Left.{next}
 use Rattle.fz_bounds.specs.Decided.{LiesIn}
 use Rattle.fz_bounds.specs.declared.range.Range.{Range}
@@ -58,3 +60,13 @@ pub next_counted : (as' : List ℤ) (bs : List Bool) (i : ℕ) (a : ℤ) (b : Bo
     ≡ (a *ℤ as_number b) +ℤ total (where_true (drop (i + 1) as') (drop (i + 1) bs))
 next_counted as' bs i a b d e =
     (λ j. total (where_true (next as' i a d j) (next bs i b e j))) ∙ counted a b (drop (i + 1) as') (drop (i + 1) bs)
+
+one_less : (b : Bool) (x : ℤ) (xs : List ℤ)
+    → pos (length (cond b (x ∷ xs) xs)) ≡ as_number b +ℤ pos (length xs)
+one_less true x xs = omega (arith, ints)
+one_less false x xs = omega (arith, ints)
+
+pub next_same : (xs : List ℤ) (v : ℤ) (i : ℕ) (x : ℤ) → slice_get xs i ≡ Some x
+    → count_of (drop i xs) v ≡ as_number (x =ℤ v) +ℤ count_of (drop (i + 1) xs) v
+next_same xs v i x at =
+    ap (λ ys. count_of ys v) (next xs i x at) ∙ one_less (x =ℤ v) x (filter (λ y. y =ℤ v) (drop (i + 1) xs))

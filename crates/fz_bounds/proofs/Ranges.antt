@@ -1,7 +1,9 @@
 -- Ends of sums and of products.
-use Rattle.std.proofs.Common.{◌≡◌, ℕ, suc, ◌*◌, ◌≤◌, ℤ, pos, negsuc, ◌+ℤ◌, ◌*ℤ◌, true, false, Option, None, Some, IfSome, IsSomeAnd, int_le, arith}
+use Rattle.std.proofs.Common.{◌≡◌, ℕ, suc, ◌*◌, ◌≤◌, ℤ, pos, negsuc, ◌+ℤ◌, ◌-ℤ◌, ◌*ℤ◌, true, false, Option, None, Some, IfSome, IsSomeAnd, int_le, refl, subst, subst₂, sym, unsigned_abs, arith}
+use Rattle.std.proofs.Math.IntN.{*ℤ_comm}
 use Rattle.std.proofs.Math.Nat.{mul-le-mul_left}
-use Rattle.std.proofs.lemmas.Int.{ints}
+use Rattle.std.proofs.lemmas.Int.{clamps, ints}
+use Rattle.std.specs.Int.{int_max, int_min}
 
 -- ---- sums
 
@@ -22,6 +24,61 @@ sum_high o p None a b f g h = tt
 sum_high None p (Some z) a b f g h = absurd h
 sum_high (Some x) None (Some z) a b f g h = absurd h
 sum_high (Some x) (Some y) (Some z) a b f g h = grind (arith, ints)
+
+-- ---- the greater and the lesser of two
+
+-- a number that is made of the two, which are known
+abbrev pub IsMade : (ℤ → ℤ → ℤ) → Option ℤ → Option ℤ → Option ℤ → Type 0
+IsMade f o p r = IfSome r (λ z. IsSomeAnd o (λ x. IsSomeAnd p (λ y. z ≡ f x y)))
+
+pub max_low : (o p r : Option ℤ) (a b : ℤ) → IfSome o (λ l. int_le l a ≡ true)
+    → IfSome p (λ l. int_le l b ≡ true) → IsMade int_max o p r
+    → IfSome r (λ l. int_le l (int_max a b) ≡ true)
+max_low o p None a b f g h = tt
+max_low None p (Some z) a b f g h = absurd h
+max_low (Some x) None (Some z) a b f g h = absurd h
+max_low (Some x) (Some y) (Some z) a b f g h = subst (λ w. int_le w (int_max a b) ≡ true) (sym h) (grind (arith, ints, clamps))
+
+pub max_high : (o p r : Option ℤ) (a b : ℤ) → IfSome o (λ l. int_le a l ≡ true)
+    → IfSome p (λ l. int_le b l ≡ true) → IsMade int_max o p r
+    → IfSome r (λ l. int_le (int_max a b) l ≡ true)
+max_high o p None a b f g h = tt
+max_high None p (Some z) a b f g h = absurd h
+max_high (Some x) None (Some z) a b f g h = absurd h
+max_high (Some x) (Some y) (Some z) a b f g h = subst (λ w. int_le (int_max a b) w ≡ true) (sym h) (grind (arith, ints, clamps))
+
+pub min_low : (o p r : Option ℤ) (a b : ℤ) → IfSome o (λ l. int_le l a ≡ true)
+    → IfSome p (λ l. int_le l b ≡ true) → IsMade int_min o p r
+    → IfSome r (λ l. int_le l (int_min a b) ≡ true)
+min_low o p None a b f g h = tt
+min_low None p (Some z) a b f g h = absurd h
+min_low (Some x) None (Some z) a b f g h = absurd h
+min_low (Some x) (Some y) (Some z) a b f g h = subst (λ w. int_le w (int_min a b) ≡ true) (sym h) (grind (arith, ints, clamps))
+
+pub min_high : (o p r : Option ℤ) (a b : ℤ) → IfSome o (λ l. int_le a l ≡ true)
+    → IfSome p (λ l. int_le b l ≡ true) → IsMade int_min o p r
+    → IfSome r (λ l. int_le (int_min a b) l ≡ true)
+min_high o p None a b f g h = tt
+min_high None p (Some z) a b f g h = absurd h
+min_high (Some x) None (Some z) a b f g h = absurd h
+min_high (Some x) (Some y) (Some z) a b f g h = subst (λ w. int_le (int_min a b) w ≡ true) (sym h) (grind (arith, ints, clamps))
+
+-- a number between two others
+pub above_lesser : (o p r : Option ℤ) (a b n : ℤ) → IfSome o (λ l. int_le l a ≡ true)
+    → IfSome p (λ l. int_le l b ≡ true) → IsMade int_min o p r → int_le (int_min a b) n ≡ true
+    → IfSome r (λ l. int_le l n ≡ true)
+above_lesser o p None a b n f g h k = tt
+above_lesser o p (Some z) a b n f g h k = let low = min_low o p (Some z) a b f g h in grind (arith, ints)
+
+pub below_greater : (o p r : Option ℤ) (a b n : ℤ) → IfSome o (λ l. int_le a l ≡ true)
+    → IfSome p (λ l. int_le b l ≡ true) → IsMade int_max o p r → int_le n (int_max a b) ≡ true
+    → IfSome r (λ l. int_le n l ≡ true)
+below_greater o p None a b n f g h k = tt
+below_greater o p (Some z) a b n f g h k = let high = max_high o p (Some z) a b f g h in grind (arith, ints)
+
+pub absolute_is : (a : ℤ) → int_max (int_max a (pos 0 -ℤ a)) (pos 0) ≡ pos (unsigned_abs a)
+absolute_is (pos n) = grind (arith, ints, clamps)
+absolute_is (negsuc n) = grind (arith, ints, clamps)
 
 -- ---- products
 
@@ -81,3 +138,30 @@ module _ (c : ℤ) where
   product_high_of_low o None a p f h = tt
   product_high_of_low None (Some z) a p f h = absurd h
   product_high_of_low (Some x) (Some z) a p f h = let k = times_in_reverse c x a p f in grind (arith, ints)
+
+-- ---- the product of a number between two others
+
+module _ (l a h b : ℤ) (low : int_le l a ≡ true) (high : int_le a h ≡ true) where
+  pub product_above : int_le (int_min (l *ℤ b) (h *ℤ b)) (a *ℤ b) ≡ true
+  product_above = elim (int_le (pos 0) b) as (λ t. int_le (pos 0) b ≡ t → int_le (int_min (l *ℤ b) (h *ℤ b)) (a *ℤ b) ≡ true) [
+    | true ↦ λ e. smaller (l *ℤ b) (h *ℤ b) (a *ℤ b) (subst₂ (λ x y. int_le x y ≡ true) (*ℤ_comm b l) (*ℤ_comm b a) (times_in_order b l a e low))
+    | false ↦ λ e. smaller_too (l *ℤ b) (h *ℤ b) (a *ℤ b) (subst₂ (λ x y. int_le x y ≡ true) (*ℤ_comm b h) (*ℤ_comm b a) (times_in_reverse b a h e high))
+  ] refl
+    where
+      smaller : (x y z : ℤ) → int_le x z ≡ true → int_le (int_min x y) z ≡ true
+      smaller x y z e = grind (arith, ints, clamps)
+
+      smaller_too : (x y z : ℤ) → int_le y z ≡ true → int_le (int_min x y) z ≡ true
+      smaller_too x y z e = grind (arith, ints, clamps)
+
+  pub product_below : int_le (a *ℤ b) (int_max (l *ℤ b) (h *ℤ b)) ≡ true
+  product_below = elim (int_le (pos 0) b) as (λ t. int_le (pos 0) b ≡ t → int_le (a *ℤ b) (int_max (l *ℤ b) (h *ℤ b)) ≡ true) [
+    | true ↦ λ e. larger_too (l *ℤ b) (h *ℤ b) (a *ℤ b) (subst₂ (λ x y. int_le x y ≡ true) (*ℤ_comm b a) (*ℤ_comm b h) (times_in_order b a h e high))
+    | false ↦ λ e. larger (l *ℤ b) (h *ℤ b) (a *ℤ b) (subst₂ (λ x y. int_le x y ≡ true) (*ℤ_comm b a) (*ℤ_comm b l) (times_in_reverse b l a e low))
+  ] refl
+    where
+      larger : (x y z : ℤ) → int_le z x ≡ true → int_le z (int_max x y) ≡ true
+      larger x y z e = grind (arith, ints, clamps)
+
+      larger_too : (x y z : ℤ) → int_le z y ≡ true → int_le z (int_max x y) ≡ true
+      larger_too x y z e = grind (arith, ints, clamps)

@@ -1,8 +1,9 @@
 //! Rows over the elements of arrays within bounds.
 
-ghost use Rattle.std.specs.Prelude.{◌≡◌, ◌<◌, ℤ, Bool, IfSome, Some, length, slice_get};
+ghost use Rattle.std.specs.Prelude.{◌≡◌, ◌<◌, ℕ, ℤ, Bool, IfSome, IsTrue, Some, int_le, length, slice_get};
+ghost use Rattle.std.specs.List.{filter, list_all};
 ghost use Rattle.fz_builtins.specs.of_meaning.Meaning.{Partial as Values};
-ghost use Rattle.fz_builtins.specs.of_meaning.Relations.{◌=ℤ◌, ◌=ᴮ◌, is_element, products, total, where_true};
+ghost use Rattle.fz_builtins.specs.of_meaning.Relations.{◌=ℤ◌, ◌=ᴮ◌, all_different, count_of, is_among, is_element, is_nonzero, products, total, where_true};
 ghost use Rattle.fz_builtins.specs.of_kernel.Given.{bool_at, bools_at, int_at, ints_at, slots_at};
 ghost use Rattle.fz_bounds.specs.Decided.{Decides, LiesIn};
 ghost use Rattle.fz_bounds.specs.Within.{NumberLies, NumbersLie, TruthLies, TruthsLie, given};
@@ -114,6 +115,20 @@ impl<'s, 'a> Limits<'s, 'a> {
         sum
     }
 
+    /// How many elements of an array of integers are the integer that is another argument.
+    pub(crate) fn count_of(&self, array: usize, wanted: usize) -> Range
+        ensures { (K : Values) → NumbersLie self.now array K → NumberLies self.now wanted K
+            → LiesIn result (count_of (ints_at K (given self.now) array)
+            (int_at K (given self.now) wanted)) }
+    {
+        let mut sum = Range::of(0);
+        for place in 0..self.count(array) {
+            let same = self.number_at(array, place).equal(self.number(wanted));
+            sum = sum.plus(same.number());
+        }
+        sum
+    }
+
     /// Whether the element of the second argument, at the index that is the first, is the third.
     pub(crate) fn int_element(&self) -> Outlook
         ensures { (K : Values) → NumberLies self.now 0 K → NumbersLie self.now 1 K
@@ -144,5 +159,92 @@ impl<'s, 'a> Limits<'s, 'a> {
             }
         }
         Outlook::Never
+    }
+
+    /// Whether the first argument is among the elements of the second.
+    pub(crate) fn is_among(&self) -> Outlook
+        ensures { (K : Values) → NumberLies self.now 0 K → NumbersLie self.now 1 K → Decides result
+            (is_among (int_at K (given self.now) 0) (ints_at K (given self.now) 1)) }
+    {
+        for place in 0..self.count(1) {
+            if !self.number_at(1, place).equal(self.number(0)).is_never() {
+                return Outlook::Open;
+            }
+        }
+        Outlook::Never
+    }
+
+    /// Whether each element of the second argument is at most the first.
+    pub(crate) fn all_at_most(&self) -> Outlook
+        ensures { (K : Values) → NumberLies self.now 0 K → NumbersLie self.now 1 K → Decides result
+            (list_all (λ x. int_le x (int_at K (given self.now) 0))
+            (ints_at K (given self.now) 1)) }
+    {
+        for place in 0..self.count(1) {
+            if self.number_at(1, place).at_most(self.number(0)).is_never() {
+                return Outlook::Never;
+            }
+        }
+        Outlook::Open
+    }
+
+    /// Whether each element of the second argument is at least the first.
+    pub(crate) fn all_at_least(&self) -> Outlook
+        ensures { (K : Values) → NumberLies self.now 0 K → NumbersLie self.now 1 K → Decides result
+            (list_all (λ x. int_le (int_at K (given self.now) 0) x)
+            (ints_at K (given self.now) 1)) }
+    {
+        for place in 0..self.count(1) {
+            if self.number(0).at_most(self.number_at(1, place)).is_never() {
+                return Outlook::Never;
+            }
+        }
+        Outlook::Open
+    }
+
+    /// Whether an element before a place can only be this number.
+    fn stands_before(&self, place: usize, number: i64) -> bool
+        requires in_range { place < length (slots_at (given self.now) 0) }
+        ensures { IsTrue result → (K : Values) → NumbersLie self.now 0 K → (p : ℕ) × (p < place)
+            × (slice_get (ints_at K (given self.now) 0) p ≡ Some number) }
+    {
+        for before in 0..place {
+            if let Some(only) = self.only_at(0, before) {
+                if only == number {
+                    return true;
+                }
+            }
+        }
+        false
+    }
+
+    /// Whether no two elements of the first argument are equal.
+    pub(crate) fn all_different(&self) -> Outlook
+        ensures { (K : Values) → NumbersLie self.now 0 K
+            → Decides result (all_different (ints_at K (given self.now) 0)) }
+    {
+        for place in 0..self.count(0) {
+            if let Some(number) = self.only_at(0, place) {
+                if self.stands_before(place, number) {
+                    return Outlook::Never;
+                }
+            }
+        }
+        Outlook::Open
+    }
+
+    /// Whether no two elements of the first argument are equal, unless they are 0.
+    pub(crate) fn different_but_zeros(&self) -> Outlook
+        ensures { (K : Values) → NumbersLie self.now 0 K
+            → Decides result (all_different (filter is_nonzero (ints_at K (given self.now) 0))) }
+    {
+        for place in 0..self.count(0) {
+            if let Some(number) = self.only_at(0, place) {
+                if number != 0 && self.stands_before(place, number) {
+                    return Outlook::Never;
+                }
+            }
+        }
+        Outlook::Open
     }
 }

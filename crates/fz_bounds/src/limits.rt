@@ -1,6 +1,6 @@
 //! The arguments of a constraint within bounds.
 
-ghost use Rattle.std.specs.Prelude.{◌≡◌, not};
+ghost use Rattle.std.specs.Prelude.{◌≡◌, ◌*ℤ◌, not};
 ghost use Rattle.std.specs.List.{list_all, list_any};
 ghost use Rattle.fz_builtins.specs.of_meaning.Meaning.{Partial as Values};
 ghost use Rattle.fz_builtins.specs.of_kernel.Given.{bool_at, bools_at, int_at};
@@ -45,6 +45,16 @@ impl<'s, 'a> Limits<'s, 'a> {
             → LiesIn result (int_at K (given self.now) index) }
     {
         Range::between(self.low().int(index), self.high().int(index))
+    }
+
+    /// The product of the first two arguments.
+    pub(crate) fn product(&self) -> Range
+        ensures { (K : Values) → NumberLies self.now 0 K → NumberLies self.now 1 K
+            → LiesIn result (int_at K (given self.now) 0 *ℤ int_at K (given self.now) 1) }
+    {
+        let least = self.number(1).times(self.low().int(0));
+        let most = self.number(1).times(self.high().int(0));
+        least.hull(most)
     }
 
     /// The Boolean that is the argument at an index.

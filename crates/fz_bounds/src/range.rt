@@ -1,6 +1,7 @@
 //! Ranges of numbers, and what they say of tests of numbers.
 
-ghost use Rattle.std.specs.Prelude.{◌≡◌, ℤ, pos, ◌+◌, ◌+ℤ◌, ◌-ℤ◌, ◌*ℤ◌, int_le, int_lt, IfSome, IsSomeAnd, IsTrue, true};
+ghost use Rattle.std.specs.Prelude.{◌≡◌, ℤ, pos, ◌+◌, ◌+ℤ◌, ◌-ℤ◌, ◌*ℤ◌, int_le, int_lt, IfSome, IsSomeAnd, IsTrue, true, unsigned_abs};
+ghost use Rattle.std.specs.Int.{int_max, int_min};
 ghost use Rattle.fz_builtins.specs.of_meaning.Relations.{◌=ℤ◌};
 ghost use Rattle.fz_bounds.specs.Decided.{Decides, LiesIn};
 
@@ -52,6 +53,20 @@ fn multiplied(coefficient: i64, number: Option<i128>) -> Option<i128>
     ensures { IfSome result (λ r. IsSomeAnd number (λ a. r ≡ coefficient *ℤ a)) }
 {
     i128::from(coefficient).checked_mul(number?)
+}
+
+/// The greater of the two, where both are known.
+fn greater(one: Option<i128>, other: Option<i128>) -> Option<i128>
+    ensures { IfSome result (λ r. IsSomeAnd one (λ a. IsSomeAnd other (λ b. r ≡ int_max a b))) }
+{
+    Some(one?.max(other?))
+}
+
+/// The lesser of the two, where both are known.
+fn lesser(one: Option<i128>, other: Option<i128>) -> Option<i128>
+    ensures { IfSome result (λ r. IsSomeAnd one (λ a. IsSomeAnd other (λ b. r ≡ int_min a b))) }
+{
+    Some(one?.min(other?))
 }
 
 impl Range {
@@ -156,6 +171,44 @@ impl Range {
         ensures { (a b : ℤ) → LiesIn self a → LiesIn other b → LiesIn result (a -ℤ b) }
     {
         self.plus(other.negated())
+    }
+
+    /// Of the greater of two numbers.
+    pub(crate) fn max(self, other: Range) -> Range
+        ensures { (a b : ℤ) → LiesIn self a → LiesIn other b → LiesIn result (int_max a b) }
+    {
+        Range {
+            low: greater(self.low, other.low),
+            high: greater(self.high, other.high),
+        }
+    }
+
+    /// Of the lesser of two numbers.
+    pub(crate) fn min(self, other: Range) -> Range
+        ensures { (a b : ℤ) → LiesIn self a → LiesIn other b → LiesIn result (int_min a b) }
+    {
+        Range {
+            low: lesser(self.low, other.low),
+            high: lesser(self.high, other.high),
+        }
+    }
+
+    /// Of the numbers that lie between a number of the one range and one of the other.
+    pub(crate) fn hull(self, other: Range) -> Range
+        ensures { (a b n : ℤ) → LiesIn self a → LiesIn other b → int_le (int_min a b) n ≡ true
+            → int_le n (int_max a b) ≡ true → LiesIn result n }
+    {
+        Range {
+            low: lesser(self.low, other.low),
+            high: greater(self.high, other.high),
+        }
+    }
+
+    /// Of the absolute values.
+    pub(crate) fn abs(self) -> Range
+        ensures { (a : ℤ) → LiesIn self a → LiesIn result (pos (unsigned_abs a)) }
+    {
+        self.max(self.negated()).max(Range::of(0))
     }
 
     /// Of the products with a number.

@@ -1,8 +1,9 @@
-use Rattle.std.proofs.Common.{not, pos, ◌&&◌, ◌+ℤ◌, ◌-ℤ◌, ◌||◌}
+use Rattle.std.proofs.Common.{int_le, not, pos, unsigned_abs, ◌&&◌, ◌+ℤ◌, ◌-ℤ◌, ◌*ℤ◌, ◌||◌}
+use Rattle.std.specs.Int.{int_max, int_min}
 use Rattle.std.specs.List.{list_all, list_any}
 use Rattle.fz_builtins.specs.of_meaning.declared.builtin.Builtin.TheVariants as builtin
 use Rattle.fz_builtins.specs.of_meaning.Builtins.{row_at}
-use Rattle.fz_builtins.specs.of_meaning.Relations.{as_number, products, total, where_true, ◌=ᴮ◌, ◌=ℤ◌}
+use Rattle.fz_builtins.specs.of_meaning.Relations.{as_number, count_of, is_among, products, total, where_true, ◌=ᴮ◌, ◌=ℤ◌}
 use Rattle.fz_builtins.specs.of_kernel.Given.{bool_at, bools_at, int_at, ints_at}
 use Rattle.fz_bounds.specs.Within.{given}
 use Rattle.fz_bounds.proofs.At.{at_row}
@@ -235,3 +236,103 @@ unfolding row_at
 returns-in-ArrayBoolElement c = at_row c.args.at.now c.args.builtin builtin.ArrayBoolElement c.bool_element.result c.in-ArrayBoolElement.is (λ K h.
     let xs = given c.args.at.now in
     c.bool_element.ensures K (record { low = h.low.0; high = h.high.0 }) (record { low = h.low.1.0; high = h.high.1.0 }) (record { low = h.low.1.1.0; high = h.high.1.1.0 }))
+
+pub returns-in-IntMin : goal.returns-in-IntMin
+unfolding row_at
+returns-in-IntMin c = at_row c.args.at.now c.args.builtin builtin.IntMin c.equal-in-IntMin.result c.in-IntMin.is (λ K h.
+    let xs = given c.args.at.now in
+    c.equal-in-IntMin.ensures (int_at K xs 2) (int_min (int_at K xs 0) (int_at K xs 1)) (c.number-in-IntMin.ensures K (record { low = h.low.1.1.0; high = h.high.1.1.0 })) (c.min.ensures (int_at K xs 0) (int_at K xs 1) (c.number-in-IntMin-2.ensures K (record { low = h.low.0; high = h.high.0 })) (c.number-in-IntMin-3.ensures K (record { low = h.low.1.0; high = h.high.1.0 }))))
+
+pub returns-in-IntMax : goal.returns-in-IntMax
+unfolding row_at
+returns-in-IntMax c = at_row c.args.at.now c.args.builtin builtin.IntMax c.equal-in-IntMax.result c.in-IntMax.is (λ K h.
+    let xs = given c.args.at.now in
+    c.equal-in-IntMax.ensures (int_at K xs 2) (int_max (int_at K xs 0) (int_at K xs 1)) (c.number-in-IntMax.ensures K (record { low = h.low.1.1.0; high = h.high.1.1.0 })) (c.max.ensures (int_at K xs 0) (int_at K xs 1) (c.number-in-IntMax-2.ensures K (record { low = h.low.0; high = h.high.0 })) (c.number-in-IntMax-3.ensures K (record { low = h.low.1.0; high = h.high.1.0 }))))
+
+pub returns-in-IntAbs : goal.returns-in-IntAbs
+unfolding row_at
+returns-in-IntAbs c = at_row c.args.at.now c.args.builtin builtin.IntAbs c.equal-in-IntAbs.result c.in-IntAbs.is (λ K h.
+    let xs = given c.args.at.now in
+    c.equal-in-IntAbs.ensures (int_at K xs 1) (pos (unsigned_abs (int_at K xs 0))) (c.number-in-IntAbs.ensures K (record { low = h.low.1.0; high = h.high.1.0 })) (c.abs.ensures (int_at K xs 0) (c.number-in-IntAbs-2.ensures K (record { low = h.low.0; high = h.high.0 }))))
+
+pub returns-in-ArrayIntMaximum : goal.returns-in-ArrayIntMaximum
+unfolding row_at
+returns-in-ArrayIntMaximum c = at_row c.args.at.now c.args.builtin builtin.ArrayIntMaximum c.and-in-ArrayIntMaximum.result c.in-ArrayIntMaximum.is (λ K h.
+    let xs = given c.args.at.now in
+    c.and-in-ArrayIntMaximum.ensures (is_among (int_at K xs 0) (ints_at K xs 1)) (list_all (λ x. int_le x (int_at K xs 0)) (ints_at K xs 1)) (c.is_among.ensures K (record { low = h.low.0; high = h.high.0 }) (record { low = h.low.1.0; high = h.high.1.0 })) (c.all_at_most.ensures K (record { low = h.low.0; high = h.high.0 }) (record { low = h.low.1.0; high = h.high.1.0 })))
+
+pub returns-in-ArrayIntMinimum : goal.returns-in-ArrayIntMinimum
+unfolding row_at
+returns-in-ArrayIntMinimum c = at_row c.args.at.now c.args.builtin builtin.ArrayIntMinimum c.and-in-ArrayIntMinimum.result c.in-ArrayIntMinimum.is (λ K h.
+    let xs = given c.args.at.now in
+    c.and-in-ArrayIntMinimum.ensures (is_among (int_at K xs 0) (ints_at K xs 1)) (list_all (λ x. int_le (int_at K xs 0) x) (ints_at K xs 1)) (c.is_among-in-ArrayIntMinimum.ensures K (record { low = h.low.0; high = h.high.0 }) (record { low = h.low.1.0; high = h.high.1.0 })) (c.all_at_least.ensures K (record { low = h.low.0; high = h.high.0 }) (record { low = h.low.1.0; high = h.high.1.0 })))
+
+pub returns-in-FznAllDifferentInt : goal.returns-in-FznAllDifferentInt
+unfolding row_at
+returns-in-FznAllDifferentInt c = at_row c.args.at.now c.args.builtin builtin.FznAllDifferentInt c.all_different.result c.in-FznAllDifferentInt.is (λ K h.
+    c.all_different.ensures K (record { low = h.low.0; high = h.high.0 }))
+
+pub returns-in-FznCountEq : goal.returns-in-FznCountEq
+unfolding row_at
+returns-in-FznCountEq c = at_row c.args.at.now c.args.builtin builtin.FznCountEq c.equal-in-FznCountEq.result c.in-FznCountEq.is (λ K h.
+    let xs = given c.args.at.now in
+    c.equal-in-FznCountEq.ensures (int_at K xs 2) (count_of (ints_at K xs 0) (int_at K xs 1)) (c.number-in-FznCountEq.ensures K (record { low = h.low.1.1.0; high = h.high.1.1.0 })) (c.count_of.ensures K (record { low = h.low.0; high = h.high.0 }) (record { low = h.low.1.0; high = h.high.1.0 })))
+
+pub returns-in-FznCountNeq : goal.returns-in-FznCountNeq
+unfolding row_at
+returns-in-FznCountNeq c = at_row c.args.at.now c.args.builtin builtin.FznCountNeq c.negated-in-FznCountNeq.result c.in-FznCountNeq.is (λ K h.
+    let xs = given c.args.at.now in
+    c.negated-in-FznCountNeq.ensures ((int_at K xs 2) =ℤ (count_of (ints_at K xs 0) (int_at K xs 1))) (c.equal-in-FznCountNeq.ensures (int_at K xs 2) (count_of (ints_at K xs 0) (int_at K xs 1)) (c.number-in-FznCountNeq.ensures K (record { low = h.low.1.1.0; high = h.high.1.1.0 })) (c.count_of-in-FznCountNeq.ensures K (record { low = h.low.0; high = h.high.0 }) (record { low = h.low.1.0; high = h.high.1.0 }))))
+
+pub returns-in-FznCountGeq : goal.returns-in-FznCountGeq
+unfolding row_at
+returns-in-FznCountGeq c = at_row c.args.at.now c.args.builtin builtin.FznCountGeq c.at_most-in-FznCountGeq.result c.in-FznCountGeq.is (λ K h.
+    let xs = given c.args.at.now in
+    c.at_most-in-FznCountGeq.ensures (count_of (ints_at K xs 0) (int_at K xs 1)) (int_at K xs 2) (c.count_of-in-FznCountGeq.ensures K (record { low = h.low.0; high = h.high.0 }) (record { low = h.low.1.0; high = h.high.1.0 })) (c.number-in-FznCountGeq.ensures K (record { low = h.low.1.1.0; high = h.high.1.1.0 })))
+
+pub returns-in-FznCountGt : goal.returns-in-FznCountGt
+unfolding row_at
+returns-in-FznCountGt c = at_row c.args.at.now c.args.builtin builtin.FznCountGt c.below-in-FznCountGt.result c.in-FznCountGt.is (λ K h.
+    let xs = given c.args.at.now in
+    c.below-in-FznCountGt.ensures (count_of (ints_at K xs 0) (int_at K xs 1)) (int_at K xs 2) (c.count_of-in-FznCountGt.ensures K (record { low = h.low.0; high = h.high.0 }) (record { low = h.low.1.0; high = h.high.1.0 })) (c.number-in-FznCountGt.ensures K (record { low = h.low.1.1.0; high = h.high.1.1.0 })))
+
+pub returns-in-FznCountLeq : goal.returns-in-FznCountLeq
+unfolding row_at
+returns-in-FznCountLeq c = at_row c.args.at.now c.args.builtin builtin.FznCountLeq c.at_most-in-FznCountLeq.result c.in-FznCountLeq.is (λ K h.
+    let xs = given c.args.at.now in
+    c.at_most-in-FznCountLeq.ensures (int_at K xs 2) (count_of (ints_at K xs 0) (int_at K xs 1)) (c.number-in-FznCountLeq.ensures K (record { low = h.low.1.1.0; high = h.high.1.1.0 })) (c.count_of-in-FznCountLeq.ensures K (record { low = h.low.0; high = h.high.0 }) (record { low = h.low.1.0; high = h.high.1.0 })))
+
+pub returns-in-FznCountLt : goal.returns-in-FznCountLt
+unfolding row_at
+returns-in-FznCountLt c = at_row c.args.at.now c.args.builtin builtin.FznCountLt c.below-in-FznCountLt.result c.in-FznCountLt.is (λ K h.
+    let xs = given c.args.at.now in
+    c.below-in-FznCountLt.ensures (int_at K xs 2) (count_of (ints_at K xs 0) (int_at K xs 1)) (c.number-in-FznCountLt.ensures K (record { low = h.low.1.1.0; high = h.high.1.1.0 })) (c.count_of-in-FznCountLt.ensures K (record { low = h.low.0; high = h.high.0 }) (record { low = h.low.1.0; high = h.high.1.0 })))
+
+pub returns-in-FznAtLeastInt : goal.returns-in-FznAtLeastInt
+unfolding row_at
+returns-in-FznAtLeastInt c = at_row c.args.at.now c.args.builtin builtin.FznAtLeastInt c.at_most-in-FznAtLeastInt.result c.in-FznAtLeastInt.is (λ K h.
+    let xs = given c.args.at.now in
+    c.at_most-in-FznAtLeastInt.ensures (int_at K xs 0) (count_of (ints_at K xs 1) (int_at K xs 2)) (c.number-in-FznAtLeastInt.ensures K (record { low = h.low.0; high = h.high.0 })) (c.count_of-in-FznAtLeastInt.ensures K (record { low = h.low.1.0; high = h.high.1.0 }) (record { low = h.low.1.1.0; high = h.high.1.1.0 })))
+
+pub returns-in-FznAtMostInt : goal.returns-in-FznAtMostInt
+unfolding row_at
+returns-in-FznAtMostInt c = at_row c.args.at.now c.args.builtin builtin.FznAtMostInt c.at_most-in-FznAtMostInt.result c.in-FznAtMostInt.is (λ K h.
+    let xs = given c.args.at.now in
+    c.at_most-in-FznAtMostInt.ensures (count_of (ints_at K xs 1) (int_at K xs 2)) (int_at K xs 0) (c.count_of-in-FznAtMostInt.ensures K (record { low = h.low.1.0; high = h.high.1.0 }) (record { low = h.low.1.1.0; high = h.high.1.1.0 })) (c.number-in-FznAtMostInt.ensures K (record { low = h.low.0; high = h.high.0 })))
+
+pub returns-in-FznExactlyInt : goal.returns-in-FznExactlyInt
+unfolding row_at
+returns-in-FznExactlyInt c = at_row c.args.at.now c.args.builtin builtin.FznExactlyInt c.equal-in-FznExactlyInt.result c.in-FznExactlyInt.is (λ K h.
+    let xs = given c.args.at.now in
+    c.equal-in-FznExactlyInt.ensures (int_at K xs 0) (count_of (ints_at K xs 1) (int_at K xs 2)) (c.number-in-FznExactlyInt.ensures K (record { low = h.low.0; high = h.high.0 })) (c.count_of-in-FznExactlyInt.ensures K (record { low = h.low.1.0; high = h.high.1.0 }) (record { low = h.low.1.1.0; high = h.high.1.1.0 })))
+
+pub returns-in-IntTimes : goal.returns-in-IntTimes
+unfolding row_at
+returns-in-IntTimes c = at_row c.args.at.now c.args.builtin builtin.IntTimes c.equal-in-IntTimes.result c.in-IntTimes.is (λ K h.
+    let xs = given c.args.at.now in
+    c.equal-in-IntTimes.ensures (int_at K xs 2) ((int_at K xs 0) *ℤ (int_at K xs 1)) (c.number-in-IntTimes.ensures K (record { low = h.low.1.1.0; high = h.high.1.1.0 })) (c.product.ensures K (record { low = h.low.0; high = h.high.0 }) (record { low = h.low.1.0; high = h.high.1.0 })))
+
+pub returns-in-FznAlldifferentExcept0 : goal.returns-in-FznAlldifferentExcept0
+unfolding row_at
+returns-in-FznAlldifferentExcept0 c = at_row c.args.at.now c.args.builtin builtin.FznAlldifferentExcept0 c.different_but_zeros.result c.in-FznAlldifferentExcept0.is (λ K h.
+    c.different_but_zeros.ensures K (record { low = h.low.0; high = h.high.0 }))
