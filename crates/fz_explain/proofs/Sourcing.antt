@@ -57,14 +57,14 @@ source_at F steps n v at = ap (λ o. option_map_or
 
 data Taken (c : Completion) (m : Model) : Partial → Partial → List (ℕ × ℕ) → Type 0 where
   NoneTaken : {K : Partial} → Taken c m K K []
-  Took : {K F : Partial} {n : ℕ} {v : Value} {steps : List (ℕ × ℕ)} (k : ℕ) (p : Point)
+  Took : {K F : Partial} {n : ℕ} {steps : List (ℕ × ℕ)} (v : Value) (k : ℕ) (p : Point)
       → slice_get (points m) k ≡ Some p → IsGivenBy c m K p n v → value_at K n ≡ None
       → Taken c m (give K n v) F steps → Taken c m K F ((n, k) ∷ steps)
 
 chain_taken : (m : Model) {K F : Partial} {from : ℕ} (c : Chain m K from F)
     → Taken Off m K F (givers c)
 chain_taken m (Ends h) = NoneTaken
-chain_taken m (Step {K = K} {from = from} {k = k} {n = n} {v = v} s rest) = Took k s.point (stands m K from k n v s) s.gives (step_unset m K from k n v s) (chain_taken m rest)
+chain_taken m (Step {K = K} {from = from} {k = k} {n = n} {v = v} s rest) = Took v k s.point (stands m K from k n v s) s.gives (step_unset m K from k n v s) (chain_taken m rest)
 
 -- what a constraint gives its defined variable it gives by a result
 by_result : (m : Model) (K : Partial) (p : Point) (n : ℕ) (v : Value) → Gives m K p n v
@@ -77,13 +77,13 @@ by_result m K (ConstraintPoint k p) n v gives = subst (λ t. Gives m K (Constrai
 further_taken : (m : Model) {K G : Partial} (r : Further m K G)
     → Taken On m K G (further_givers r)
 further_taken m Stays = NoneTaken
-further_taken m (Goes {K = K} {n = n} k p at gives rest) = Took k p at gives (only_open_none K n (terms_of (aimed n p)) gives.only_open) (further_taken m rest)
+further_taken m (Goes {K = K} {n = n} {v = v} k p at gives rest) = Took v k p at gives (only_open_none K n (terms_of (aimed n p)) gives.only_open) (further_taken m rest)
 
 chain_and_more : (m : Model) {K F G : Partial} {from : ℕ} (c : Chain m K from F)
     (more : List (ℕ × ℕ)) → Taken On m F G more → Taken On m K G (givers c ++ more)
 chain_and_more m (Ends h) more taken = taken
 chain_and_more m (Step {K = K} {from = from} {k = k} {n = n} {v = v} s rest) more taken =
-    Took k s.point (stands m K from k n v s) (by_result m K s.point n v s.gives) (step_unset m K from k n v s) (chain_and_more m rest more taken)
+    Took v k s.point (stands m K from k n v s) (by_result m K s.point n v s.gives) (step_unset m K from k n v s) (chain_and_more m rest more taken)
 
 are_taken : (c : Completion) (m : Model) (K F : Partial) (steps : List (ℕ × ℕ))
     → AreSteps c m K F steps → Taken c m K F steps
@@ -95,13 +95,13 @@ are_taken On m K G steps (F, chain, r, are) = subst (Taken On m K G) (sym are) (
 grows : (c : Completion) (m : Model) {K F : Partial} {steps : List (ℕ × ℕ)} → Taken c m K F steps
     → HasEach K F
 grows c m NoneTaken = λ n v e. e
-grows c m (Took {K = K} {n = n} {v = v} k p at gives unset rest) = λ j u e. grows c m rest j u (given_grows K n v unset j u e)
+grows c m (Took {K = K} {n = n} v k p at gives unset rest) = λ j u e. grows c m rest j u (given_grows K n v unset j u e)
 
 -- a variable that has a value gets none
 none_given : (c : Completion) (m : Model) {K F : Partial} {steps : List (ℕ × ℕ)}
     → Taken c m K F steps → (j : ℕ) (w : Value) → value_at K j ≡ Some w → giver_of steps j ≡ None
 none_given c m NoneTaken j w e = refl
-none_given c m (Took {K = K} {n = n} {v = v} {steps = steps} k p at gives unset rest) j w e =
+none_given c m (Took {K = K} {n = n} {steps = steps} v k p at gives unset rest) j w e =
     let other : n ≡ j → ⊥ = λ same.
     let none : value_at K j ≡ None = ap (value_at K) (sym same) ∙ unset in cc in
     giver_other n k steps j other
@@ -112,7 +112,7 @@ not_given : (c : Completion) (m : Model) {K F : Partial} {steps : List (ℕ × �
     → Taken c m K F steps → (n : ℕ) (v : Value) → value_at F n ≡ Some v → giver_of steps n ≡ None
     → value_at K n ≡ Some v
 not_given c m NoneTaken n v at none = at
-not_given c m (Took {K = K} {n = x} {v = u} {steps = steps} j p is gives unset rest) n v at none =
+not_given c m (Took {K = K} {n = x} {steps = steps} u j p is gives unset rest) n v at none =
     let other : x ≡ n → ⊥ = λ same.
     let some : None ≡ Some j = sym none ∙ giver_here x j steps n same in cc in
     sym (value_at_other K x n u (λ same. other (sym same)))
@@ -121,7 +121,7 @@ not_given c m (Took {K = K} {n = x} {v = u} {steps = steps} j p is gives unset r
 as_long : (c : Completion) (m : Model) {K F : Partial} {steps : List (ℕ × ℕ)} → Taken c m K F steps
     → length F ≡ length K
 as_long c m NoneTaken = refl
-as_long c m (Took {K = K} {n = n} {v = v} k p at gives unset rest) = as_long c m rest ∙ length_given K n v
+as_long c m (Took {K = K} {n = n} v k p at gives unset rest) = as_long c m rest ∙ length_given K n v
 
 -- the value that is given stays
 given_stays : (c : Completion) (m : Model) (K F : Partial) (steps : List (ℕ × ℕ)) (n : ℕ)
@@ -138,13 +138,13 @@ found : (c : Completion) (m : Model) (F : Partial) (all : List (ℕ × ℕ)) {K 
     → all ≡ before ++ steps → (n k : ℕ) (v : Value) → value_at F n ≡ Some v
     → giver_of steps n ≡ Some k → IsGivenBefore c m F all n k v
 found c m F all NoneTaken before are n k v at given = cc
-found c m F all (Took {K = K} {n = x} {v = u} {steps = steps} j p is gives unset rest) before are
+found c m F all (Took {K = K} {n = x} {steps = steps} u j p is gives unset rest) before are
     n k v at given = elim (cases_eq x n) [
       | inl same ↦
           let number : j ≡ k = (
           let both : Some j ≡ Some k = sym (giver_here x j steps n same) ∙ given in cc) in
           let value : u ≡ v = given_stays c m K F steps x u v rest (ap (value_at F) same ∙ at) in
-          let whole : Taken c m K F ((x, j) ∷ steps) = Took j p is gives unset rest in
+          let whole : Taken c m K F ((x, j) ∷ steps) = Took u j p is gives unset rest in
           let here : IsGivenBefore c m F all x j u = record {
             before = before;
             after = steps;
