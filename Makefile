@@ -2,9 +2,10 @@
 #                  on where it was stopped, and uses JOBS processors (all)
 # make test        the gate: every proof from nothing, the must-fail edits, the tests, the program
 # make corpus      runs the built program over tests/corpus and examples, beside the second checker
-#                  (tests/corpus/slow.py) on random models and on damaged blocks, and with minizinc/,
-#                  and inside MiniZinc, where that is installed
-# make fuzz        runs it on random broken texts beside that checker, for SECONDS (600), by SEED
+#                  (tests/corpus/slow.py) on random models, and with minizinc/, and inside MiniZinc,
+#                  where that is installed
+# make fuzz        runs it beside that checker on random broken texts, for SECONDS (600), and on
+#                  20,000 damaged blocks of random models, by SEED
 # make bench       measures the built program beside the plain program in plain/ (some minutes), or
 #                  with SIZE=500 on models of 500 MB
 # make quick       judges examples/first.fzn with NO proof, or MODEL=FILE [STREAM=FILE], with the
@@ -50,19 +51,20 @@ test:
 	tests/cases/run.py build/fzcheck crates/fz_hostile/out/fz_hostile
 	tests/corpus/run.py build/fzcheck tests/corpus examples
 	tests/corpus/left_out.py build/fzcheck
+	tests/corpus/damaged.py build/fzcheck 2000
 	tests/hostile/run.py build/fzcheck crates/fz_hostile/out/fz_hostile
 
 corpus: build/fzcheck
 	tests/corpus/run.py build/fzcheck tests/corpus examples
 	tests/corpus/left_out.py build/fzcheck
 	tests/corpus/differ.py build/fzcheck - 300
-	tests/corpus/damaged.py build/fzcheck 2000
 	tests/corpus/reasons.py build/fzcheck 10000
 	tests/minizinc.py build/fzcheck
 	tests/inside.py build/fzcheck
 
 fuzz: build/fzcheck
 	tests/hostile/fuzz.py build/fzcheck $(SECONDS) $(SEED)
+	tests/corpus/damaged.py build/fzcheck 20000 $(SEED)
 
 # Cargo builds the plain program, from its own sources alone; build/bench has the files to measure.
 bench: build/fzcheck
