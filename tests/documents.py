@@ -66,7 +66,7 @@ def wrong():
             yield f"{calls}: not with the clauses {sorted(clauses)}"
     architecture = (ROOT / "docs" / "ARCHITECTURE.md").read_text()
     told = re.search(r"there\s+are\s+(\d+)\s+paths", architecture)
-    if not paths("fzcheck") == int(told[1]) <= 310:
+    if not paths("fzcheck") == int(told[1]) <= 165:
         yield f"there are {paths('fzcheck')} paths below fzcheck"
 
 

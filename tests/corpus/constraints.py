@@ -34,12 +34,15 @@ def cumulative(s, d, r, b):
     return all(sum(use for a, n, use in tasks if a <= t < a + n) <= b for t in starts)
 
 
+def in_turn(tasks):
+    pairs = [(p, q) for i, p in enumerate(tasks) for q in tasks[:i]]
+    return all(a + m <= b or b + n <= a for (a, m), (b, n) in pairs)
+
+
 def disjunctive(s, d, strict):
     if any(n < 0 for n in d):
         return False
-    tasks = [(a, n) for a, n in zip(s, d) if strict or n > 0]
-    pairs = [(p, q) for i, p in enumerate(tasks) for q in tasks[:i]]
-    return all(a + m <= b or b + n <= a for (a, m), (b, n) in pairs)
+    return in_turn([(a, n) for a, n in zip(s, d) if strict or n > 0])
 
 
 def apart(x, y, dx, dy, strict):
@@ -77,6 +80,13 @@ def windows(low, high, k, x):
     if k < 0:
         return False
     return all(low <= sum(x[i : i + k]) <= high for i in range(len(x) - k + 1))
+
+
+def weight(e, w, x):
+    """None where a thing comes twice, or the set has another."""
+    if not all_different(e) or not x <= set(e):
+        return None
+    return sum(n for v, n in zip(e, w) if v in x)
 
 
 def cycle(x, start):
@@ -160,6 +170,26 @@ def channels(x, xo, y, yo):
     return all(part == {xo + i for i, v in enumerate(x) if v == yo + j} for j, part in enumerate(y))
 
 
+def inverse_sets(x, y, xo, yo):
+    pairs = {(i, j) for i, part in enumerate(x, xo) for j in part}
+    return pairs == {(i, j) for j, part in enumerate(y, yo) for i in part}
+
+
+def precede_sets(x, s, t):
+    return all(
+        any(s in q and t not in q for q in x[:i])
+        for i, p in enumerate(x)
+        if t in p and s not in p
+    )
+
+
+def union_at(x, y):
+    """None where x has what is no index of y."""
+    if not x <= set(range(1, len(y) + 1)):
+        return None
+    return set().union(*(y[i - 1] for i in x))
+
+
 def partition(parts, whole):
     return set().union(*parts) == whole and sum(map(len, parts)) == len(whole)
 
@@ -193,6 +223,7 @@ TESTS = {
     "fzn_cumulative": ("[I] [I] [I] I", cumulative, "012"),
     "fzn_disjunctive": (L, lambda s, d: disjunctive(s, d, False), "01"),
     "fzn_disjunctive_strict": (L, lambda s, d: disjunctive(s, d, True), "01"),
+    "gecode_schedule_unary": (L, lambda s, d: in_turn(list(zip(s, d))), "01"),
     "fzn_diffn": ("[I] [I] [I] [I]", lambda *a: apart(*a, True), "0123"),
     "fzn_diffn_nonstrict": ("[I] [I] [I] [I]", lambda *a: apart(*a, False), "0123"),
     "gecode_nooverlap": (
@@ -223,6 +254,7 @@ TESTS = {
     "fzn_strictly_increasing_int": (I, lambda x: neighbours(lambda a, b: a < b, x), ""),
     "fzn_value_precede_int": ("I I [I]", precede, ""),
     "gecode_precede": (C, lambda x, s, t: precede(s, t, x), ""),
+    "gecode_precede_set": ("[S] I I", precede_sets, ""),
     "fzn_value_precede_chain_int": (
         L,
         lambda c, x: neighbours(lambda s, t: precede(s, t, x), c),
@@ -234,8 +266,15 @@ TESTS = {
     "fzn_member_bool": ("[B] B", lambda x, y: y in x, ""),
     "fzn_knapsack": ("[I] [I] [I] I I", knapsack, "012"),
     "fzn_sliding_sum": ("I I I [I]", windows, ""),
+    "gecode_among_seq_int": (
+        "[I] S I I I",
+        lambda x, s, l, m, n: windows(m, n, l, [v in s for v in x]),
+        "",
+    ),
+    "set_convex": ("S", lambda s: not s or max(s) - min(s) < len(s), ""),
     "gecode_link_set_to_booleans": ("S [B] I", flags, ""),
     "gecode_int_set_channel": ("[I] I [S] I", channels, ""),
+    "gecode_inverse_set": ("[S] [S] I I", inverse_sets, ""),
     "fzn_disjoint": ("S S", lambda a, b: not a & b, ""),
     "fzn_partition_set": ("[S] S", partition, ""),
 }
@@ -245,6 +284,12 @@ RESULTS = {
     "fzn_nvalue": ("I [I]", 0, lambda x: len(set(x))),
     "gecode_maximum_arg_int_offset": (C, 2, lambda x, o: o + x.index(max(x)) if x else None),
     "gecode_minimum_arg_int_offset": (C, 2, lambda x, o: o + x.index(min(x)) if x else None),
+    "gecode_maximum_arg_bool_offset": (
+        "[B] I I",
+        2,
+        lambda x, o: o + x.index(max(x)) if x else None,
+    ),
+    "gecode_set_weights": ("[I] [I] S I", 3, weight),
 }
 WHOLE_ROWS = {
     "fzn_table_int": has_rows,

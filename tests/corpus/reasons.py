@@ -219,6 +219,21 @@ def in_another_set(args, part, value, again, back):
         and at(x, int(value) - first + 1) == (None if back is None else int(back)) != int(part)
 
 
+def refers_nowhere(place, value, x, y, first, first_y):
+    return value in at(x, place) and first + place - 1 not in (at(y, value - first_y + 1) or set())
+
+
+def early_set(args, place, value, before, *again):
+    sets, pair = args[0], (int(before), int(value))
+    alone = [(s in it and t not in it) for s, t in (pair, pair[::-1]) for it in sets[: int(place)]]
+    return [before, value] == [*again] and [*pair] == args[1:3] and alone[-1] and not any(alone[: int(place) - 1])
+
+
+def in_chosen(args, number, sets, third):
+    chosen = [args[1][i - 1] for i in args[0] if 1 <= i <= len(args[1])]
+    return in_one([chosen, args[2]], number, sets, third)
+
+
 def in_one(args, number, sets, whole):
     return any(int(number) in it for it in args[0]) == (sets == "one") != (int(number) in args[1]) == (whole == "in")
 
@@ -279,6 +294,7 @@ FORMS = {
     "the lists are the same": lambda n, a: a[0] == a[1],
     f"element (\\d+) is ({NUMBER}), and none before it is ({NUMBER})": lambda n, a, k, v, b: any(
         isinstance(x, list) and at(x, k) == int(v) and int(b) not in x[: int(k) - 1] for x in a),
+    f"set (\\d+) has ({NUMBER}) without ({NUMBER}), none before it ({NUMBER}) without ({NUMBER})": lambda n, a, *p: early_set(a, *p),
     f"task (\\d+) lasts ({NUMBER})": lambda n, a, k, v: any(
         isinstance(x, list) and at(x, k) == int(v) < 0 for x in a),
     f"task (\\d+) uses ({NUMBER})": lambda n, a, k, v: at(a[2], k) == int(v) < 0,
@@ -295,6 +311,8 @@ FORMS = {
     r"the circle (.*) has (\d+) of (\d+)": lambda n, a, *p: circle(n, a, p),
     f"element (\\d+) of the (first|second) list is ({NUMBER}), which doesn't lead back": lambda n, a, k, l, v: (
         leads_nowhere(int(k), int(v), *(a if l == "first" else (a[2], a[3], a[0], a[1])))),
+    f"element (\\d+) of the (first|second) list has ({NUMBER}), which doesn't lead back": lambda n, a, k, l, v: (
+        refers_nowhere(int(k), int(v), *(a if l == "first" else (a[1], a[0], a[3], a[2])))),
     f"the element with index ({NUMBER}) is ({NUMBER}), and set ({NUMBER}) hasn't ({NUMBER})": (
         lambda n, a, *p: not_in_its_set(a, *p)),
     f"set ({NUMBER}) has ({NUMBER}), and the element with index ({NUMBER}) is ({NUMBER})": (
@@ -321,11 +339,19 @@ FORMS = {
     f"elements (\\d+) to (\\d+) add up to ({NUMBER}), not from ({NUMBER}) to ({NUMBER})": lambda n, a, i, j, s, l, h: (
         int(j) - int(i) + 1 == a[2] and sum(a[3][int(i) - 1 : int(j)]) == int(s)
         and [int(l), int(h)] == a[:2] and not int(l) <= int(s) <= int(h)),
+    f"of elements (\\d+) to (\\d+) ({NUMBER}) are in the set, not from ({NUMBER}) to ({NUMBER})": (
+        lambda n, a, i, j, s, l, h: int(j) - int(i) + 1 == a[2]
+        and sum(v in a[1] for v in a[0][int(i) - 1 : int(j)]) == int(s)
+        and [int(l), int(h)] == a[3:5] and not int(l) <= int(s) <= int(h)),
+    f"({NUMBER}) isn't in the set, which has a lesser number and a greater one": lambda n, a, v: (
+        min(a[0]) < int(v) < max(a[0]) and int(v) not in a[0]),
     f"no row fits; row (\\d+) differs at element (\\d+): ({SCALAR}), not ({SCALAR})": lambda n, a, *p: near_row(a, *p),
     f"({NUMBER}) is (in|not in) the first, (in|not in) the second and (in|not in) the third": lambda n, a, *p: in_sets(a, *p),
     f"({NUMBER}) is (in|not in) the first and (in|not in) the second": lambda n, a, *p: in_sets(a, *p),
     f"({NUMBER}) is (in|not in) the element and (in|not in) the set": lambda n, a, v, *there: (
         in_sets([at(a[1], a[0]), a[2]], v, *there) and there[0] != there[1]),
+    f"({NUMBER}) is in (one|none) of the chosen sets and (in|not in) the third": lambda n, a, *p: in_chosen(a, *p),
+    f"({NUMBER}) is in the first, and no index": lambda n, a, v: int(v) in a[0] and at(a[1], v) is None,
     f"({NUMBER}) is in (one|none) of the sets and (in|not in) the whole": lambda n, a, *p: in_one(a, *p),
     f"({NUMBER}) is (in|not in) the set, and its Boolean (is|isn't) true": lambda n, a, *p: flagged(a, *p),
 }

@@ -388,6 +388,7 @@ RESULTS = {
     "set_card": ("S I", 1, len),
     "array_set_element": ("I [S] S", 2, element),
     "array_var_set_element": ("I [S] S", 2, element),
+    "gecode_array_set_element_union": ("S [S] S", 2, constraints.union_at),
 } | constraints.RESULTS
 # Rows of which either side may be filled: how a side follows from the other.
 EITHER = {
@@ -413,8 +414,8 @@ class Row:
 
     def __init__(self, name):
         self.known = True
-        lin = "01" if name.startswith(("int_lin", "bool_lin")) else ""
-        together = constraints.TESTS[name][2] if name in constraints.TESTS else lin
+        paired = "01" if name.startswith(("int_lin", "bool_lin", "gecode_set_weights")) else ""
+        together = constraints.TESTS[name][2] if name in constraints.TESTS else paired
         self.together = [int(place) for place in together]
         self.has_whole_rows = constraints.WHOLE_ROWS.get(name)
         self.element_is_result = name == "int_lin_eq"

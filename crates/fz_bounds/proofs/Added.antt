@@ -3,8 +3,8 @@ use Rattle.std.proofs.Common.{◌≡◌, ℕ, ◌+◌, ℤ, pos, ◌+ℤ◌, ◌
 use Rattle.std.proofs.lemmas.Int.{ints}
 use Rattle.std.specs.List.{filter}
 use Rattle.std.specs.Prelude.{cond, length}
-use Rattle.fz_builtins.specs.of_meaning.Relations.{◌=ℤ◌, as_number, count_of, products, total, where_true}
-use Rattle.fz_builtins.proofs.of_kernel.Left.{next}
+use Rattle.fz_model.specs.Relations.{as_number, products, total, where_true}
+use Rattle.fz_model.proofs.of_builtins.of_kernel.Left.{next}
 use Rattle.fz_bounds.specs.Decided.{LiesIn}
 use Rattle.fz_bounds.specs.declared.range.Range.{Range}
 
@@ -66,7 +66,8 @@ one_less : (b : Bool) (x : ℤ) (xs : List ℤ)
 one_less true x xs = omega (arith, ints)
 one_less false x xs = omega (arith, ints)
 
-pub next_same : (xs : List ℤ) (v : ℤ) (i : ℕ) (x : ℤ) → slice_get xs i ≡ Some x
-    → count_of (drop i xs) v ≡ as_number (x =ℤ v) +ℤ count_of (drop (i + 1) xs) v
-next_same xs v i x at =
-    ap (λ ys. count_of ys v) (next xs i x at) ∙ one_less (x =ℤ v) x (filter (λ y. y =ℤ v) (drop (i + 1) xs))
+pub next_passing : (f : ℤ → Bool) (xs : List ℤ) (i : ℕ) (x : ℤ) → slice_get xs i ≡ Some x
+    → pos (length (filter f (drop i xs)))
+    ≡ as_number (f x) +ℤ pos (length (filter f (drop (i + 1) xs)))
+next_passing f xs i x at =
+    ap (λ ys. pos (length (filter f ys))) (next xs i x at) ∙ one_less (f x) x (filter f (drop (i + 1) xs))

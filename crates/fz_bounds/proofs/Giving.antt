@@ -1,9 +1,9 @@
 -- Another value of a variable.
 use Rattle.std.proofs.Common.{◌≡◌, ℕ, zero, suc, ◌≤◌, [], ◌∷◌, length, Option, Some, refl, sym, ap, arith, slice_set}
 use Rattle.fz_base.specs.declared.value.Value.{Value}
-use Rattle.fz_builtins.specs.of_meaning.Meaning.{Partial, give, value_at}
-use Rattle.fz_builtins.specs.of_data.Partial.{without}
-use Rattle.fz_bounds.specs.Bounds.{HasAllOf}
+use Rattle.fz_model.specs.Meaning.{Partial, give, value_at}
+use Rattle.fz_model.specs.Partial.{without}
+use Rattle.fz_model.specs.Openings.{HasEach}
 
 pub given_anew : (K : Partial) (n : ℕ) (v : Value) → give (without K n) n v ≡ give K n v
 given_anew [] n v = refl
@@ -42,8 +42,8 @@ as_long (p ∷ K) (suc n) o = ap suc (as_long K n o)
 
 -- ---- one partial assignment under another
 
-pub both_given : (K L : Partial) (n : ℕ) (v : Value) → HasAllOf K L → length L ≡ length K
-    → HasAllOf (give K n v) (give L n v)
+pub both_given : (K L : Partial) (n : ℕ) (v : Value) → HasEach K L → length L ≡ length K
+    → HasEach (give K n v) (give L n v)
 both_given [] L n v under as_many k u e = cc
 both_given (o ∷ K) [] n v under as_many k u e = absurd (omega arith)
 both_given (o ∷ K) (p ∷ L) zero v under as_many zero u e = e
@@ -52,8 +52,8 @@ both_given (o ∷ K) (p ∷ L) (suc n) v under as_many zero u e = under zero u e
 both_given (o ∷ K) (p ∷ L) (suc n) v under as_many (suc k) u e =
     both_given K L n v (λ k. under (suc k)) (omega arith) k u e
 
-pub one_less : (K L : Partial) (n : ℕ) (v : Value) → HasAllOf K L → length L ≡ length K
-    → HasAllOf (without K n) (give L n v)
+pub one_less : (K L : Partial) (n : ℕ) (v : Value) → HasEach K L → length L ≡ length K
+    → HasEach (without K n) (give L n v)
 one_less [] L n v under as_many k u e = cc
 one_less (o ∷ K) [] n v under as_many k u e = absurd (omega arith)
 one_less (o ∷ K) (p ∷ L) zero v under as_many zero u e = cc

@@ -3,13 +3,14 @@ use Rattle.std.proofs.Common.{◌≡◌, ℕ, zero, suc, ℤ, pos, ◌≤ℤ◌,
 use Rattle.std.proofs.lemmas.Int.{ints}
 use Rattle.fz_base.specs.declared.value.Value.{Value}
 use Rattle.fz_base.specs.declared.value.Value.TheVariants.{Int, Bool as Truth, Set}
-use Rattle.fz_builtins.specs.of_meaning.Relations.{◌=ˢ◌}
-use Rattle.fz_builtins.specs.of_meaning.declared.kind.Kind.{Kind}
-use Rattle.fz_builtins.specs.of_meaning.declared.kind.Kind.TheVariants.{Int as IntKind, Bool as BoolKind, Set as SetKind}
-use Rattle.fz_builtins.specs.of_meaning.Meaning.{Assignment, Partial, give, value_at, whole}
-use Rattle.fz_builtins.proofs.of_meaning.Values.{no, same_set_is, set_itself}
-use Rattle.fz_builtins.proofs.of_meaning.Steps.{value_at_given, value_at_other}
-use Rattle.fz_bounds.specs.Bounds.{AreFixed, HasAllOf, IsInside, LiesBetween, Ranges, is_at_most, narrowed, number_as}
+use Rattle.fz_model.specs.Relations.{◌=ˢ◌}
+use Rattle.fz_model.specs.declared.Kind.{Kind}
+use Rattle.fz_model.specs.declared.Kind.TheVariants.{Int as IntKind, Bool as BoolKind, Set as SetKind}
+use Rattle.fz_model.specs.Meaning.{Assignment, Partial, give, value_at, whole}
+use Rattle.fz_model.proofs.Values.{no, same_set_is, set_itself}
+use Rattle.fz_model.proofs.Steps.{value_at_given, value_at_other}
+use Rattle.fz_model.specs.Openings.{HasEach}
+use Rattle.fz_bounds.specs.Bounds.{AreFixed, IsInside, LiesBetween, Ranges, is_at_most, narrowed, number_as}
 use Rattle.fz_bounds.proofs.Giving.{given_there}
 
 -- ---- the order of values
@@ -69,7 +70,7 @@ one_value None p q v d e h = cc
 one_value (Some u) None q v d e h = cc
 
 pub fixed_under : (B : Ranges) (K : Partial) (A : Assignment) → AreFixed B K → IsInside B A
-    → HasAllOf K (whole A)
+    → HasEach K (whole A)
 fixed_under B K A f inside n v e =
     one_value (value_at B.lowest n) (value_at B.highest n) (value_at (whole A) n) v (f.least n v e) (f.greatest n v e) (inside n)
 

@@ -1,27 +1,16 @@
 -- What a known-solution says of the domain of a variable.
-use Rattle.std.proofs.Common.{◌≡◌, ℕ, zero, suc, List, [], ◌∷◌, map, None, Some, refl, sym, ap, subst₂, option_map, slice_get, ◌∙◌, IsTrue}
-use Rattle.fz_base.specs.declared.value.Value.{Value}
-use Rattle.fz_builtins.specs.of_meaning.declared.kind.Kind.{Kind}
-use Rattle.fz_builtins.specs.of_meaning.Relations.{kind_of}
-use Rattle.fz_builtins.specs.of_meaning.Meaning.{Assignment, FitVariables, Model, Partial, Point, Variable, inside, points, value_at, variables_of, whole}
-use Rattle.fz_builtins.specs.of_meaning.Meaning.Point.{DomainPoint, DefinitionPoint, ArrayPoint, ConstraintPoint}
-use Rattle.fz_builtins.specs.of_meaning.States.{HoldsIfKnown, IsKnownSolution}
-use Rattle.fz_builtins.specs.of_data.Partial.{nothing_for}
-use Rattle.fz_builtins.proofs.of_meaning.Lists.{at_place}
-use Rattle.fz_builtins.proofs.of_meaning.Points.{points_fit}
-use Rattle.fz_builtins.proofs.of_meaning.States.{intro}
-use Rattle.fz_builtins.proofs.of_meaning.Steps.{PointFits}
+use Rattle.std.proofs.Common.{◌≡◌, ℕ, zero, suc, List, [], ◌∷◌, map, None, Some, refl, sym, ap, subst₂, slice_get, ◌∙◌, IsTrue}
+use Rattle.fz_model.specs.Relations.{kind_of}
+use Rattle.fz_model.specs.Meaning.{Assignment, Model, Partial, Point, Variable, inside, points, value_at, variables_of, whole}
+use Rattle.fz_model.specs.Meaning.Point.{DomainPoint, DefinitionPoint, ArrayPoint, ConstraintPoint}
+use Rattle.fz_model.specs.States.{HoldsIfKnown, IsKnownSolution}
+use Rattle.fz_model.specs.Partial.{nothing_for}
+use Rattle.fz_model.proofs.Lists.{at_place}
+use Rattle.fz_model.proofs.Points.{points_fit}
+use Rattle.fz_model.proofs.States.{intro}
+use Rattle.fz_model.proofs.Steps.{PointFits}
+use Rattle.fz_model.proofs.Under.{assigned, some_and}
 use Rattle.fz_bounds.specs.Bounds.{IsInDomain, IsInside, LiesBetween, LiesIn}
-use Rattle.fz_bounds.proofs.Failing.{some_and}
-
--- an assignment gives each variable a value of its kind
-assigned : (xs : List Variable) (A : Assignment) (n : ℕ) (k : Kind) → FitVariables xs (whole A)
-    → option_map (λ x. x.kind) (slice_get xs n) ≡ Some k
-    → (w : Value) × (value_at (whole A) n ≡ Some w) × (kind_of w ≡ k)
-assigned [] A n k h e = cc
-assigned (x ∷ xs) [] n k h e = absurd h
-assigned (x ∷ xs) (a ∷ A) zero k h e = let same : x.kind ≡ k = cc in (a, refl, h.0 ∙ same)
-assigned (x ∷ xs) (a ∷ A) (suc n) k h e = assigned xs A n k h.1 e
 
 known_domain : (m : Model) (A : Assignment) (k : ℕ) (x : Variable) (n : ℕ)
     → IsKnownSolution m A → slice_get (points m) k ≡ Some (DomainPoint x n)

@@ -1,6 +1,5 @@
 pub mod Giving
 pub mod Inside
-pub mod Failing
 pub mod Known
 pub mod Numbers
 pub mod Between
@@ -9,6 +8,12 @@ pub mod Ranges
 pub mod Lists
 pub mod Added
 pub mod Indexed
+pub mod Chosen
+pub mod Failed
+pub mod Peak
+pub mod Remainders
+pub mod Distinct
+pub mod Declared
 pub mod At
 pub mod Forms
 pub mod Never

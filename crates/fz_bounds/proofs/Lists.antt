@@ -1,16 +1,16 @@
 -- Lists between others.
-use Rattle.std.proofs.Common.{◌≡◌, ℕ, zero, suc, ◌<◌, ℤ, Bool, true, List, [], ◌∷◌, length, Some, slice_get, sym, ap, subst₂, ◌∙◌, arith, int_le}
+use Rattle.std.proofs.Common.{◌≡◌, ℕ, zero, suc, ◌<◌, ℤ, ◌≤ℤ◌, Bool, true, List, [], ◌∷◌, length, Some, slice_get, sym, ap, subst₂, ◌∙◌, arith, int_le}
 use Rattle.std.proofs.lemmas.Int.{ints as numerals}
 use Rattle.std.proofs.lemmas.List.{length-map}
 use Rattle.std.proofs.lemmas.Option.{same_Some, slice_get_within}
-use Rattle.fz_builtins.specs.of_meaning.declared.kind.Kind.{Kind}
-use Rattle.fz_builtins.specs.of_meaning.declared.kind.Kind.TheVariants.{Int as IntKind, Bool as BoolKind}
-use Rattle.fz_builtins.specs.of_meaning.Builtins.{Plain}
-use Rattle.fz_builtins.specs.of_meaning.Meaning.{Argument, Partial}
-use Rattle.fz_builtins.proofs.of_meaning.Lists.{there_is}
-use Rattle.fz_builtins.specs.of_kernel.declared.elements.Elements.{Elements}
-use Rattle.fz_builtins.specs.of_kernel.Given.{bool_of, bools_at, bools_of, int_of, ints_at, ints_of, slots_at}
-use Rattle.fz_builtins.specs.of_kernel.Views.{bools, ints, slots_of, under}
+use Rattle.fz_model.specs.declared.Kind.{Kind}
+use Rattle.fz_model.specs.declared.Kind.TheVariants.{Int as IntKind, Bool as BoolKind}
+use Rattle.fz_model.specs.Builtins.{Plain}
+use Rattle.fz_model.specs.Meaning.{Argument, Partial}
+use Rattle.fz_model.proofs.Lists.{there_is}
+use Rattle.fz_model.specs.of_builtins.of_kernel.declared.elements.Elements.{Elements}
+use Rattle.fz_model.specs.of_builtins.of_kernel.Given.{bool_of, bools_at, bools_of, int_of, ints_at, ints_of, slots_at}
+use Rattle.fz_model.specs.of_builtins.of_kernel.Views.{bools, ints, slots_of, under}
 use Rattle.fz_bounds.specs.Between.{AreAtMost, at_most}
 
 pub each_at_most : (k : Kind) (as' bs : List (Plain k)) (i : ℕ) (a b : Plain k)
@@ -37,6 +37,12 @@ module _ (e : Elements) (K L : Partial) (xs ys : List Argument) (i : ℕ) (is : 
 
   pub bools_are : bools e ≡ bools_at L ys i
   bools_are = λ j. bools_of ((is ∙ same) j) ((are ∙ ap (λ zs. slots_at zs i) also) j)
+
+pub first_at_most : (a b n : ℤ) → a ≡ b → int_le b n ≡ true → a ≤ℤ n
+first_at_most a b n e h = grind (arith, numerals)
+
+pub last_at_least : (a b n : ℤ) → a ≡ b → int_le n b ≡ true → n ≤ℤ a
+last_at_least a b n e h = grind (arith, numerals)
 
 pub only_between : (l h n : ℤ) → int_le h l ≡ true → int_le l n ≡ true → int_le n h ≡ true → n ≡ l
 only_between l h n e f g = grind (arith, numerals)

@@ -1,18 +1,18 @@
 -- A constraint whose row holds at no arguments inside the bounds holds under no assignment there.
 use Rattle.std.proofs.Common.{◌≡◌, ℕ, suc, true, false, List, [], ◌∷◌, Option, None, Some, refl, sym, ap, subst, ◌∙◌, ◌⊎◌, inl, inr, IsSomeAnd, IsTrue, option_map}
 use Rattle.std.proofs.lemmas.Option.{same_Some}
-use Rattle.fz_builtins.specs.of_meaning.Builtins.{ArgValue, Row, Shape, Test, passes}
-use Rattle.fz_builtins.specs.of_meaning.Meaning.{Argument, Assignment, Partial, Posted, argument_values, have_shapes, row_holds, row_of, whole}
-use Rattle.fz_builtins.specs.of_meaning.Meaning.Point.{ConstraintPoint}
-use Rattle.fz_builtins.specs.of_meaning.declared.known.Known.{Known}
-use Rattle.fz_builtins.specs.of_meaning.Known.{known_row}
-use Rattle.fz_builtins.specs.of_data.Parts.{constraint_view}
-use Rattle.fz_builtins.proofs.of_meaning.Values.{no'}
-use Rattle.fz_builtins.proofs.of_meaning.Steps.{some_of}
-use Rattle.fz_builtins.specs.of_kernel.Given.{are_read, given_from, given_values}
-use Rattle.fz_builtins.proofs.of_kernel.Ready.{ready_values, wrong_kind}
-use Rattle.fz_builtins.specs.Outcomes.{argument_at, test_from}
-use Rattle.fz_builtins.proofs.Rows.{reads}
+use Rattle.fz_model.specs.Builtins.{ArgValue, Row, Shape, Test, passes}
+use Rattle.fz_model.specs.Meaning.{Argument, Assignment, Partial, Posted, argument_values, have_shapes, row_holds, row_of, whole}
+use Rattle.fz_model.specs.Meaning.Point.{ConstraintPoint}
+use Rattle.fz_model.specs.declared.Known.{Known}
+use Rattle.fz_model.specs.of_builtins.of_meaning.Known.{known_row}
+use Rattle.fz_model.specs.Parts.{constraint_view}
+use Rattle.fz_model.proofs.Values.{no'}
+use Rattle.fz_model.proofs.Steps.{some_of}
+use Rattle.fz_model.specs.of_builtins.of_kernel.Given.{are_read, given_from, given_values}
+use Rattle.fz_model.proofs.of_builtins.of_kernel.Ready.{ready_values, wrong_kind}
+use Rattle.fz_model.specs.of_builtins.Outcomes.{argument_at, test_from}
+use Rattle.fz_model.proofs.of_builtins.Rows.{reads}
 use Rattle.fz_model.proofs.ConstraintStates.{row_fits}
 use Rattle.fz_bounds.specs.Bounds.{IsInside, NeverHolds, Ranges}
 use Rattle.fz_bounds.specs.Between.{AreBetween}

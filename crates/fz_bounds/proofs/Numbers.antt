@@ -5,14 +5,14 @@ use Rattle.std.specs.Int.{int_max, int_min}
 use Rattle.fz_base.proofs.Covers.{apart}
 use Rattle.fz_base.specs.declared.value.Value.{Value}
 use Rattle.fz_base.specs.declared.value.Value.TheVariants.{Int, Bool as Truth}
-use Rattle.fz_builtins.specs.of_meaning.declared.kind.Kind.{Kind}
-use Rattle.fz_builtins.specs.of_meaning.declared.kind.Kind.TheVariants.{Int as IntKind, Bool as BoolKind, Set as SetKind}
-use Rattle.fz_builtins.specs.of_meaning.Meaning.{Assignment, Model, Point, inside as is_within, points, value_at, whole}
-use Rattle.fz_builtins.specs.of_meaning.States.{HoldsIfKnown}
-use Rattle.fz_builtins.specs.of_meaning.declared.term.Domain.{Domain}
-use Rattle.fz_builtins.specs.of_meaning.Relations.{kind_of, same_kind}
-use Rattle.fz_builtins.proofs.of_meaning.Steps.{some_of}
-use Rattle.fz_builtins.proofs.of_meaning.Values.{no}
+use Rattle.fz_model.specs.declared.Kind.{Kind}
+use Rattle.fz_model.specs.declared.Kind.TheVariants.{Int as IntKind, Bool as BoolKind, Set as SetKind}
+use Rattle.fz_model.specs.Meaning.{Assignment, Model, Point, inside as is_within, points, value_at, whole}
+use Rattle.fz_model.specs.States.{HoldsIfKnown}
+use Rattle.fz_model.specs.declared.Domain.{Domain}
+use Rattle.fz_model.specs.Relations.{kind_of, same_kind}
+use Rattle.fz_model.proofs.Steps.{some_of}
+use Rattle.fz_model.proofs.Values.{no}
 use Rattle.fz_bounds.proofs.Giving.{given_back}
 use Rattle.fz_bounds.specs.Bounds.{IsInside, LiesBetween, LiesIn, NumberNeverHolds, Ranges, is_at_most, narrowed, number_as}
 use Rattle.fz_bounds.specs.Ends.{AreEndsAt, Excludes, IsTold}

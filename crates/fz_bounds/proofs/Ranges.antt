@@ -1,5 +1,5 @@
 -- Ends of sums and of products.
-use Rattle.std.proofs.Common.{◌≡◌, ℕ, suc, ◌*◌, ◌≤◌, ℤ, pos, negsuc, ◌+ℤ◌, ◌-ℤ◌, ◌*ℤ◌, true, false, Option, None, Some, IfSome, IsSomeAnd, int_le, refl, subst, subst₂, sym, unsigned_abs, arith}
+use Rattle.std.proofs.Common.{◌≡◌, ℕ, suc, ◌*◌, ◌≤◌, ℤ, pos, negsuc, ◌+ℤ◌, ◌-ℤ◌, ◌*ℤ◌, Bool, true, false, cond, Option, None, Some, IfSome, IsSomeAnd, int_le, refl, subst, subst₂, sym, unsigned_abs, arith}
 use Rattle.std.proofs.Math.IntN.{*ℤ_comm}
 use Rattle.std.proofs.Math.Nat.{mul-le-mul_left}
 use Rattle.std.proofs.lemmas.Int.{clamps, ints}
@@ -75,6 +75,15 @@ pub below_greater : (o p r : Option ℤ) (a b n : ℤ) → IfSome o (λ l. int_l
     → IfSome r (λ l. int_le n l ≡ true)
 below_greater o p None a b n f g h k = tt
 below_greater o p (Some z) a b n f g h k = let high = max_high o p (Some z) a b f g h in grind (arith, ints)
+
+-- a number that counts or not
+pub above_none : (a : ℤ) (b : Bool) → int_le (int_min a (pos 0)) (cond b a (pos 0)) ≡ true
+above_none a true = grind (arith, ints, clamps)
+above_none a false = grind (arith, ints, clamps)
+
+pub below_all : (a : ℤ) (b : Bool) → int_le (cond b a (pos 0)) (int_max a (pos 0)) ≡ true
+below_all a true = grind (arith, ints, clamps)
+below_all a false = grind (arith, ints, clamps)
 
 pub absolute_is : (a : ℤ) → int_max (int_max a (pos 0 -ℤ a)) (pos 0) ≡ pos (unsigned_abs a)
 absolute_is (pos n) = grind (arith, ints, clamps)

@@ -3,13 +3,14 @@
 use Rattle.std.specs.Prelude.{◌≡◌, ℕ, ℤ, pos, Bool, false, not, ◌||◌, int_le, int_lt, length, Option, Some, IfSome, IsSomeAnd, IsTrue, slice_get, ⊤}
 use Rattle.fz_base.specs.declared.value.Value.{Value}
 use Rattle.fz_base.specs.declared.value.Value.TheVariants.{Int, Bool as Truth, Set}
-use Rattle.fz_builtins.specs.of_meaning.Relations.{◌=ˢ◌, kind_of}
-use Rattle.fz_builtins.specs.of_meaning.declared.kind.Kind.{Kind}
-use Rattle.fz_builtins.specs.of_meaning.declared.kind.Kind.TheVariants.{Int as IntKind, Bool as BoolKind, Set as SetKind}
-use Rattle.fz_builtins.specs.of_meaning.declared.term.Domain.{Domain}
-use Rattle.fz_builtins.specs.of_meaning.Meaning.{Assignment, Model, Partial, Point, give, inside, points, value_at, whole}
-use Rattle.fz_builtins.specs.of_meaning.Meaning.Point.{DomainPoint, DefinitionPoint, ArrayPoint, ConstraintPoint}
-use Rattle.fz_builtins.specs.of_meaning.States.{HoldsIfKnown}
+use Rattle.fz_model.specs.Relations.{◌=ˢ◌, kind_of}
+use Rattle.fz_model.specs.declared.Kind.{Kind}
+use Rattle.fz_model.specs.declared.Kind.TheVariants.{Int as IntKind, Bool as BoolKind, Set as SetKind}
+use Rattle.fz_model.specs.declared.Domain.{Domain}
+use Rattle.fz_model.specs.Meaning.{Assignment, Model, Partial, Point, give, inside, points, value_at, whole}
+use Rattle.fz_model.specs.Meaning.Point.{DomainPoint, DefinitionPoint, ArrayPoint, ConstraintPoint}
+use Rattle.fz_model.specs.States.{HoldsIfKnown}
+use Rattle.fz_model.specs.Openings.{HasEach}
 
 -- a number that is no greater, a Boolean that is true only where the other is, the same set
 abbrev pub is_at_most : Value → Value → Bool
@@ -47,16 +48,12 @@ number_as BoolKind n = Truth (int_lt (pos 0) n)
 number_as IntKind n = Int n
 number_as SetKind n = Int n
 
--- the second has every value of the first
-abbrev pub HasAllOf : Partial → Partial → Type 0
-HasAllOf K L = (n : ℕ) (v : Value) → value_at K n ≡ Some v → value_at L n ≡ Some v
-
 -- ---- private functions only
 
 -- each value is the least and the greatest of its variable
 pub record AreFixed (B : Ranges) (K : Partial) : Type 0 where
-  pub least : HasAllOf K B.lowest
-  pub greatest : HasAllOf K B.highest
+  pub least : HasEach K B.lowest
+  pub greatest : HasEach K B.highest
   pub as_many : length B.lowest ≡ length K
   pub as_many_too : length B.highest ≡ length K
 

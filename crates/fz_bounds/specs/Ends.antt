@@ -1,10 +1,11 @@
 -- Bounds of a variable as numbers.
 use Rattle.std.specs.Prelude.{◌≡◌, ℕ, ℤ, pos, ◌≤ℤ◌, Some, ⊤, slice_get}
 use Rattle.fz_base.specs.declared.value.Value.{Value}
-use Rattle.fz_builtins.specs.of_meaning.declared.kind.Kind.{Kind}
-use Rattle.fz_builtins.specs.of_meaning.declared.kind.Kind.TheVariants.{Int as IntKind, Bool as BoolKind, Set as SetKind}
-use Rattle.fz_builtins.specs.of_meaning.Meaning.{Assignment, Model, Point, points, value_at, whole}
-use Rattle.fz_builtins.specs.of_meaning.States.{HoldsIfKnown}
+use Rattle.fz_model.specs.declared.Kind.{Kind}
+use Rattle.fz_model.specs.declared.Kind.TheVariants.{Int as IntKind, Bool as BoolKind, Set as SetKind}
+use Rattle.fz_model.specs.Meaning.{Assignment, Model, Point, points, value, value_at, whole}
+use Rattle.fz_model.specs.declared.Term.{Term}
+use Rattle.fz_model.specs.States.{HoldsIfKnown}
 use Rattle.fz_bounds.specs.Bounds.{IsInside, Ranges, number_as}
 use Rattle.fz_bounds.specs.declared.ends.Ends.{Ends}
 
@@ -27,6 +28,11 @@ pub record AreEndsAt (B : Ranges) (n : ℕ) (e : Ends) : Type 0 where
   pub high_is : value_at B.highest n ≡ Some (number_as e.kind e.high)
   pub low_told : IsTold e.kind e.low
   pub high_told : IsTold e.kind e.high
+
+-- an assignment inside the bounds gives the scalar one of these numbers
+abbrev pub LiesAt : Ranges → Term → Ends → Type 0
+LiesAt B t e = (A : Assignment) → IsInside B A → (a : ℤ)
+    × (value (whole A) t ≡ Some (number_as e.kind a)) × (e.low ≤ℤ a) × (a ≤ℤ e.high)
 
 -- the point of the number holds under no assignment inside the bounds that gives the variable one of
 -- these numbers (private functions only)

@@ -3,4 +3,5 @@ pub mod Ends
 pub mod Decided
 pub mod Between
 pub mod Within
+pub mod Spans
 pub use Rattle.fz_model.specs as of_model

@@ -1,11 +1,11 @@
 -- Arguments of a constraint that lie within bounds (private functions only).
 use Rattle.std.specs.Prelude.{◌≡◌, ℕ, List, true}
-use Rattle.fz_builtins.specs.of_meaning.declared.kind.Kind.TheVariants.{Int as IntKind, Bool as BoolKind}
-use Rattle.fz_builtins.specs.of_meaning.Builtins.{Row, Shape}
-use Rattle.fz_builtins.specs.of_meaning.Meaning.{Argument, Partial}
-use Rattle.fz_builtins.specs.of_data.Parts.{constraint_view}
-use Rattle.fz_builtins.specs.of_kernel.Given.{are_read, bool_at, bools_at, int_at, ints_at}
-use Rattle.fz_builtins.specs.Outcomes.{test_from}
+use Rattle.fz_model.specs.declared.Kind.TheVariants.{Int as IntKind, Bool as BoolKind, Set as SetKind}
+use Rattle.fz_model.specs.Builtins.{Row, Shape}
+use Rattle.fz_model.specs.Meaning.{Argument, Partial}
+use Rattle.fz_model.specs.Parts.{constraint_view}
+use Rattle.fz_model.specs.of_builtins.of_kernel.Given.{are_read, bool_at, bools_at, int_at, ints_at, set_at}
+use Rattle.fz_model.specs.of_builtins.Outcomes.{test_from}
 use Rattle.fz_bounds.specs.Between.{AreAtMost, AreBetween, at_most}
 use Rattle.fz_bounds.specs.Decided.{Decides}
 use Rattle.fz_bounds.specs.declared.limits.Limits.{Limits}
@@ -23,6 +23,11 @@ pub record NumberLies (s : Limits) (i : ℕ) (K : Partial) : Type 0 where
 pub record TruthLies (s : Limits) (i : ℕ) (K : Partial) : Type 0 where
   pub low : at_most BoolKind (bool_at s.lowest.now (given s) i) (bool_at K (given s) i) ≡ true
   pub high : at_most BoolKind (bool_at K (given s) i) (bool_at s.highest.now (given s) i) ≡ true
+
+-- a set lies only within itself
+pub record SetLies (s : Limits) (i : ℕ) (K : Partial) : Type 0 where
+  pub low : at_most SetKind (set_at s.lowest.now (given s) i) (set_at K (given s) i) ≡ true
+  pub high : at_most SetKind (set_at K (given s) i) (set_at s.highest.now (given s) i) ≡ true
 
 -- each element does
 pub record NumbersLie (s : Limits) (i : ℕ) (K : Partial) : Type 0 where

@@ -1,18 +1,18 @@
 //! The bounds of a model's variables.
 
 ghost use Rattle.std.specs.Prelude.{◌≡◌, IfOk, IfSome};
-ghost use Rattle.fz_builtins.specs.of_meaning.Meaning.{Assignment, whole};
-ghost use Rattle.fz_builtins.specs.of_meaning.States.{IsKnownSolution};
-ghost use Rattle.fz_builtins.specs.of_data.Shown.{point_view};
-ghost use Rattle.fz_bounds.specs.Bounds.{AreFixed, HasAllOf, IsBoth, IsInDomain, IsInside, narrowed, number_as};
+ghost use Rattle.fz_model.specs.Meaning.{Assignment, whole};
+ghost use Rattle.fz_model.specs.States.{IsKnownSolution};
+ghost use Rattle.fz_model.specs.Shown.{point_view};
+ghost use Rattle.fz_model.specs.Openings.{HasEach};
+ghost use Rattle.fz_bounds.specs.Bounds.{AreFixed, IsBoth, IsInDomain, IsInside, narrowed, number_as};
 ghost use Rattle.fz_bounds.specs.Ends.{AreEndsAt};
 
 use crate::domains::ends_of;
 use crate::ends::{Ends, ends_between, number_as};
 use crate::replacing::replace;
 use fz_base::Value;
-use fz_builtins::fz_data::{Model, Partial, PointParts};
-use fz_builtins::fz_meaning::Kind;
+use fz_model::{Kind, Model, Partial, PointParts};
 use std::alloc::{AllocError, Global};
 
 /// The least and the greatest value that each variable may have, so far as they are known. Of a set
@@ -28,7 +28,7 @@ pub struct Bounds {
 impl std::marker::Model for Bounds {
     ghost use Rattle.fz_base.specs.contracts.sets.IntSet as the_set;
     ghost use Rattle.std.specs.Coded.{codes};
-    ghost use Rattle.fz_builtins.specs.of_data.Shown.{point_view};
+    ghost use Rattle.fz_model.specs.Shown.{point_view};
     ghost use Rattle.fz_bounds.specs.Bounds.{AreFixed, Ranges};
 
     ghost Value = { Ranges };
@@ -59,7 +59,7 @@ impl Bounds {
     /// Out of memory.
     pub fn new(alloc: Global, model: &Model<'_>, filling: &Partial) -> Result<Bounds, AllocError>
         ensures inside { IfOk result (λ b. (A : Assignment) → IsKnownSolution model.now A
-            → HasAllOf filling.now (whole A) → IsInside b A) }
+            → HasEach filling.now (whole A) → IsInside b A) }
     {
         let mut bounds = Bounds::unknown(alloc, model)?;
         'domains: for number in 0..model.points() {
@@ -116,7 +116,7 @@ impl Bounds {
     /// Gives a variable the value that it has in a partial assignment, where it has one.
     fn fix_as(&mut self, alloc: Global, values: &Partial, number: usize) -> Result<(), AllocError>
         ensures { IfOk result (λ _. (A : Assignment) → IsInside self.old A
-            → HasAllOf values.now (whole A) → IsInside self.new A) }
+            → HasEach values.now (whole A) → IsInside self.new A) }
     {
         if let Some(value) = values.get(number) {
             self.fix(alloc, number, value)?;
@@ -140,7 +140,11 @@ impl Bounds {
     }
 
     /// Gives a variable a value.
-    fn fix(&mut self, alloc: Global, number: usize, value: &Value) -> Result<(), AllocError>
+    ///
+    /// # Errors
+    ///
+    /// Out of memory.
+    pub fn fix(&mut self, alloc: Global, number: usize, value: &Value) -> Result<(), AllocError>
         ensures { IfOk result (λ _. self.new ≡ narrowed self.old number value.now value.now) }
     {
         let low = value.copy(alloc)?;

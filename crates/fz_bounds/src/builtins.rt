@@ -1,11 +1,12 @@
 //! What bounds say of a builtin's row.
 
-ghost use Rattle.fz_builtins.specs.of_meaning.Builtins.{row_at};
+ghost use Rattle.fz_model.specs.Builtins.{row_at};
 ghost use Rattle.fz_bounds.specs.Within.{Foretells};
 
 use crate::limits::Limits;
+use crate::order::Order;
 use crate::outlook::Outlook;
-use fz_builtins::fz_meaning::Builtin;
+use fz_model::Builtin;
 
 /// Whether the row of a builtin holds at no arguments inside the bounds, or at all of them.
 pub(crate) fn foretold(builtin: Builtin, at: &Limits<'_, '_>) -> Outlook
@@ -20,7 +21,7 @@ pub(crate) fn foretold(builtin: Builtin, at: &Limits<'_, '_>) -> Outlook
         Builtin::IntGt => at.number(1).below(at.number(0)),
         Builtin::IntPlus => at.number(2).equal(at.number(0).plus(at.number(1))),
         Builtin::IntMinus => at.number(2).equal(at.number(0).minus(at.number(1))),
-        Builtin::IntTimes => at.number(2).equal(at.product()),
+        Builtin::IntTimes => at.number(2).equal(at.product(0, 1)),
         Builtin::IntMin => at.number(2).equal(at.number(0).min(at.number(1))),
         Builtin::IntMax => at.number(2).equal(at.number(0).max(at.number(1))),
         Builtin::IntAbs => at.number(1).equal(at.number(0).abs()),
@@ -58,19 +59,44 @@ pub(crate) fn foretold(builtin: Builtin, at: &Limits<'_, '_>) -> Outlook
         Builtin::BoolLinGt => at.number(2).below(at.sum_where_true()),
         Builtin::ArrayIntElement => at.int_element(),
         Builtin::ArrayBoolElement => at.bool_element(),
-        Builtin::ArrayIntMaximum => at.is_among().and(at.all_at_most()),
-        Builtin::ArrayIntMinimum => at.is_among().and(at.all_at_least()),
-        Builtin::FznCountEq => at.number(2).equal(at.count_of(0, 1)),
-        Builtin::FznCountNeq => at.number(2).equal(at.count_of(0, 1)).negated(),
-        Builtin::FznCountGeq => at.count_of(0, 1).at_most(at.number(2)),
-        Builtin::FznCountGt => at.count_of(0, 1).below(at.number(2)),
-        Builtin::FznCountLeq => at.number(2).at_most(at.count_of(0, 1)),
-        Builtin::FznCountLt => at.number(2).below(at.count_of(0, 1)),
-        Builtin::FznAtLeastInt => at.number(0).at_most(at.count_of(1, 2)),
-        Builtin::FznAtMostInt => at.count_of(1, 2).at_most(at.number(0)),
-        Builtin::FznExactlyInt => at.number(0).equal(at.count_of(1, 2)),
+        Builtin::ArrayIntMaximum => at.is_among(at.number(0), 1).and(at.all_at_most()),
+        Builtin::ArrayIntMinimum => at.is_among(at.number(0), 1).and(at.all_at_least()),
+        Builtin::FznCountEq => at.number(2).equal(at.count_of(0, at.number(1))),
+        Builtin::FznCountNeq => at.number(2).equal(at.count_of(0, at.number(1))).negated(),
+        Builtin::FznCountGeq => at.count_of(0, at.number(1)).at_most(at.number(2)),
+        Builtin::FznCountGt => at.count_of(0, at.number(1)).below(at.number(2)),
+        Builtin::FznCountLeq => at.number(2).at_most(at.count_of(0, at.number(1))),
+        Builtin::FznCountLt => at.number(2).below(at.count_of(0, at.number(1))),
+        Builtin::FznAtLeastInt => at.number(0).at_most(at.count_of(1, at.number(2))),
+        Builtin::FznAtMostInt => at.count_of(1, at.number(2)).at_most(at.number(0)),
+        Builtin::FznExactlyInt => at.number(0).equal(at.count_of(1, at.number(2))),
         Builtin::FznAllDifferentInt => at.all_different(),
         Builtin::FznAlldifferentExcept0 => at.different_but_zeros(),
+        Builtin::FznBinPacking => at.loads_are_within(),
+        Builtin::GecodeBinPackingLoad => at.are_in_bins().and(at.loads_are()),
+        Builtin::FznGlobalCardinality => at.counts_are(0, 1, 2),
+        Builtin::FznGlobalCardinalityClosed => at.counts_are(0, 1, 2).and(at.is_closed()),
+        Builtin::FznGlobalCardinalityLowUp => at.counts_lie(),
+        Builtin::FznGlobalCardinalityLowUpClosed => at.counts_lie().and(at.is_closed()),
+        Builtin::FznDistribute => at.counts_are(2, 1, 0),
+        Builtin::FznCumulative => at.is_cumulative(),
+        Builtin::FznDisjunctive => at.is_disjunctive(true),
+        Builtin::FznDisjunctiveStrict => at.is_disjunctive(false),
+        Builtin::IntDiv => at.is_quotient(),
+        Builtin::IntMod => at.is_remainder(),
+        Builtin::FznAllEqualInt => at.are_in_order(Order::Same),
+        Builtin::FznIncreasingInt => at.are_in_order(Order::AtMost),
+        Builtin::FznDecreasingInt => at.are_in_order(Order::AtLeast),
+        Builtin::FznStrictlyIncreasingInt => at.are_in_order(Order::Below),
+        Builtin::FznIncreasingBool => at.are_rising(),
+        Builtin::FznDecreasingBool => at.are_falling(),
+        Builtin::FznValuePrecedeInt => at.precedes(at.number(0), at.number(1), 2),
+        Builtin::GecodePrecede => at.precedes(at.number(1), at.number(2), 0),
+        Builtin::FznValuePrecedeChainInt => at.precede_in_turn(),
+        Builtin::FznSeqPrecedeChainInt => at.rise_by_one(),
+        Builtin::SetIn => at.is_in(),
+        Builtin::FznAmong => at.number(0).equal(at.count_in()),
+        Builtin::FznMemberInt => at.is_among(at.number(1), 0),
         _ => Outlook::Open,
     }
 }

@@ -3,12 +3,12 @@
 ghost use Rattle.std.specs.Prelude.{◌≡◌, ℤ, int_le, IfSome, IsTrue};
 ghost use Rattle.fz_base.specs.declared.value.Value.{Value as Held};
 ghost use Rattle.fz_base.specs.Sets.{LiesWithin};
-ghost use Rattle.fz_builtins.specs.of_meaning.Relations.{kind_of};
-ghost use Rattle.fz_builtins.specs.of_meaning.Meaning.{admits, inside};
+ghost use Rattle.fz_model.specs.Relations.{kind_of};
+ghost use Rattle.fz_model.specs.Meaning.{admits, inside};
 ghost use Rattle.fz_bounds.specs.Bounds.{is_at_most};
 
 use fz_base::{IntSet, Value};
-use fz_builtins::fz_meaning::{Domain, Kind};
+use fz_model::{Domain, Kind};
 
 /// The number in the middle between two.
 fn middle(low: i64, high: i64) -> i64 {

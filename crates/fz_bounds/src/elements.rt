@@ -1,10 +1,10 @@
 //! Rows over the elements of arrays within bounds.
 
-ghost use Rattle.std.specs.Prelude.{◌≡◌, ◌<◌, ℕ, ℤ, Bool, IfSome, IsTrue, Some, int_le, length, slice_get};
-ghost use Rattle.std.specs.List.{filter, list_all};
-ghost use Rattle.fz_builtins.specs.of_meaning.Meaning.{Partial as Values};
-ghost use Rattle.fz_builtins.specs.of_meaning.Relations.{◌=ℤ◌, ◌=ᴮ◌, all_different, count_of, is_among, is_element, is_nonzero, products, total, where_true};
-ghost use Rattle.fz_builtins.specs.of_kernel.Given.{bool_at, bools_at, int_at, ints_at, slots_at};
+ghost use Rattle.std.specs.Prelude.{◌≡◌, ◌<◌, ℤ, Bool, IfSome, Some, int_le, length, slice_get};
+ghost use Rattle.std.specs.List.{list_all};
+ghost use Rattle.fz_model.specs.Meaning.{Partial as Values};
+ghost use Rattle.fz_model.specs.Relations.{◌=ℤ◌, ◌=ᴮ◌, count_of, is_among, is_element, products, total, where_true};
+ghost use Rattle.fz_model.specs.of_builtins.of_kernel.Given.{bool_at, bools_at, int_at, ints_at, slots_at};
 ghost use Rattle.fz_bounds.specs.Decided.{Decides, LiesIn};
 ghost use Rattle.fz_bounds.specs.Within.{NumberLies, NumbersLie, TruthLies, TruthsLie, given};
 
@@ -14,14 +14,14 @@ use crate::range::Range;
 
 impl<'s, 'a> Limits<'s, 'a> {
     /// How many elements the argument at an index has.
-    fn count(&self, index: usize) -> usize
+    pub(crate) fn count(&self, index: usize) -> usize
         ensures { result ≡ length (slots_at (given self.now) index) }
     {
         self.low().elements(index).len()
     }
 
     /// The least value of an element of an array of integers.
-    fn least(&self, index: usize, place: usize) -> i64
+    pub(crate) fn least(&self, index: usize, place: usize) -> i64
         requires in_range { place < length (slots_at (given self.now) index) }
         ensures { slice_get (ints_at self.now.lowest.now (given self.now) index) place
             ≡ Some result }
@@ -30,7 +30,7 @@ impl<'s, 'a> Limits<'s, 'a> {
     }
 
     /// Its greatest value.
-    fn greatest(&self, index: usize, place: usize) -> i64
+    pub(crate) fn greatest(&self, index: usize, place: usize) -> i64
         requires in_range { place < length (slots_at (given self.now) index) }
         ensures { slice_get (ints_at self.now.highest.now (given self.now) index) place
             ≡ Some result }
@@ -57,7 +57,7 @@ impl<'s, 'a> Limits<'s, 'a> {
     }
 
     /// The element of an array of integers.
-    fn number_at(&self, index: usize, place: usize) -> Range
+    pub(crate) fn number_at(&self, index: usize, place: usize) -> Range
         requires in_range { place < length (slots_at (given self.now) index) }
         ensures { (K : Values) → NumbersLie self.now index K → (n : ℤ)
             → slice_get (ints_at K (given self.now) index) place ≡ Some n → LiesIn result n }
@@ -66,7 +66,7 @@ impl<'s, 'a> Limits<'s, 'a> {
     }
 
     /// The element of an array of Booleans.
-    fn truth_at(&self, index: usize, place: usize) -> Outlook
+    pub(crate) fn truth_at(&self, index: usize, place: usize) -> Outlook
         requires in_range { place < length (slots_at (given self.now) index) }
         ensures { (K : Values) → TruthsLie self.now index K → (b : Bool)
             → slice_get (bools_at K (given self.now) index) place ≡ Some b → Decides result b }
@@ -75,7 +75,7 @@ impl<'s, 'a> Limits<'s, 'a> {
     }
 
     /// The number that the element is, where it can be only one; a coefficient mostly is.
-    fn only_at(&self, index: usize, place: usize) -> Option<i64>
+    pub(crate) fn only_at(&self, index: usize, place: usize) -> Option<i64>
         requires in_range { place < length (slots_at (given self.now) index) }
         ensures { IfSome result (λ c. (K : Values) → NumbersLie self.now index K → (n : ℤ)
             → slice_get (ints_at K (given self.now) index) place ≡ Some n → n ≡ c) }
@@ -115,15 +115,14 @@ impl<'s, 'a> Limits<'s, 'a> {
         sum
     }
 
-    /// How many elements of an array of integers are the integer that is another argument.
-    pub(crate) fn count_of(&self, array: usize, wanted: usize) -> Range
-        ensures { (K : Values) → NumbersLie self.now array K → NumberLies self.now wanted K
-            → LiesIn result (count_of (ints_at K (given self.now) array)
-            (int_at K (given self.now) wanted)) }
+    /// How many elements of an array of integers are a number.
+    pub(crate) fn count_of(&self, array: usize, wanted: Range) -> Range
+        ensures { (K : Values) → NumbersLie self.now array K → (v : ℤ) → LiesIn wanted v
+            → LiesIn result (count_of (ints_at K (given self.now) array) v) }
     {
         let mut sum = Range::of(0);
         for place in 0..self.count(array) {
-            let same = self.number_at(array, place).equal(self.number(wanted));
+            let same = self.number_at(array, place).equal(wanted);
             sum = sum.plus(same.number());
         }
         sum
@@ -161,13 +160,13 @@ impl<'s, 'a> Limits<'s, 'a> {
         Outlook::Never
     }
 
-    /// Whether the first argument is among the elements of the second.
-    pub(crate) fn is_among(&self) -> Outlook
-        ensures { (K : Values) → NumberLies self.now 0 K → NumbersLie self.now 1 K → Decides result
-            (is_among (int_at K (given self.now) 0) (ints_at K (given self.now) 1)) }
+    /// Whether a number is among the elements of an array.
+    pub(crate) fn is_among(&self, wanted: Range, array: usize) -> Outlook
+        ensures { (K : Values) → NumbersLie self.now array K → (v : ℤ) → LiesIn wanted v
+            → Decides result (is_among v (ints_at K (given self.now) array)) }
     {
-        for place in 0..self.count(1) {
-            if !self.number_at(1, place).equal(self.number(0)).is_never() {
+        for place in 0..self.count(array) {
+            if !self.number_at(array, place).equal(wanted).is_never() {
                 return Outlook::Open;
             }
         }
@@ -197,52 +196,6 @@ impl<'s, 'a> Limits<'s, 'a> {
         for place in 0..self.count(1) {
             if self.number(0).at_most(self.number_at(1, place)).is_never() {
                 return Outlook::Never;
-            }
-        }
-        Outlook::Open
-    }
-
-    /// Whether an element before a place can only be this number.
-    fn stands_before(&self, place: usize, number: i64) -> bool
-        requires in_range { place < length (slots_at (given self.now) 0) }
-        ensures { IsTrue result → (K : Values) → NumbersLie self.now 0 K → (p : ℕ) × (p < place)
-            × (slice_get (ints_at K (given self.now) 0) p ≡ Some number) }
-    {
-        for before in 0..place {
-            if let Some(only) = self.only_at(0, before) {
-                if only == number {
-                    return true;
-                }
-            }
-        }
-        false
-    }
-
-    /// Whether no two elements of the first argument are equal.
-    pub(crate) fn all_different(&self) -> Outlook
-        ensures { (K : Values) → NumbersLie self.now 0 K
-            → Decides result (all_different (ints_at K (given self.now) 0)) }
-    {
-        for place in 0..self.count(0) {
-            if let Some(number) = self.only_at(0, place) {
-                if self.stands_before(place, number) {
-                    return Outlook::Never;
-                }
-            }
-        }
-        Outlook::Open
-    }
-
-    /// Whether no two elements of the first argument are equal, unless they are 0.
-    pub(crate) fn different_but_zeros(&self) -> Outlook
-        ensures { (K : Values) → NumbersLie self.now 0 K
-            → Decides result (all_different (filter is_nonzero (ints_at K (given self.now) 0))) }
-    {
-        for place in 0..self.count(0) {
-            if let Some(number) = self.only_at(0, place) {
-                if number != 0 && self.stands_before(place, number) {
-                    return Outlook::Never;
-                }
             }
         }
         Outlook::Open

@@ -5,7 +5,7 @@ ghost use Rattle.fz_bounds.specs.Bounds.{number_as};
 ghost use Rattle.fz_bounds.specs.Ends.{AreEnds};
 
 use fz_base::Value;
-use fz_builtins::fz_meaning::Kind;
+use fz_model::Kind;
 
 /// The bounds of a variable as numbers: of a Boolean, 0 is false and 1 is true.
 #[derive(Clone, Copy)]

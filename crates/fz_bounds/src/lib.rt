@@ -7,17 +7,25 @@
 //! Nothing promises that a point which cannot hold is found out.
 #![tactic(auto)]
 
+mod bins;
 mod bounds;
 mod builtins;
+mod cardinality;
+mod declarations;
+mod different;
 mod domains;
 mod elements;
 mod ends;
 mod limits;
+mod members;
+mod order;
 mod outlook;
+mod quotients;
 mod range;
 mod refuting;
 mod replacing;
 mod rows;
+mod tasks;
 mod tightening;
 
 pub use bounds::Bounds;

@@ -2,17 +2,17 @@
 
 ghost use Rattle.std.specs.Prelude.{◌≡◌, ◌*ℤ◌, not};
 ghost use Rattle.std.specs.List.{list_all, list_any};
-ghost use Rattle.fz_builtins.specs.of_meaning.Meaning.{Partial as Values};
-ghost use Rattle.fz_builtins.specs.of_kernel.Given.{bool_at, bools_at, int_at};
-ghost use Rattle.fz_builtins.specs.of_kernel.Views.{arguments_of, assigned};
+ghost use Rattle.fz_model.specs.Meaning.{Partial as Values};
+ghost use Rattle.fz_model.specs.of_builtins.of_kernel.Given.{bool_at, bools_at, int_at};
+ghost use Rattle.fz_model.specs.of_builtins.of_kernel.Views.{arguments_of, assigned};
 ghost use Rattle.fz_bounds.specs.Decided.{Decides, LiesIn};
 ghost use Rattle.fz_bounds.specs.Within.{NumberLies, TruthLies, TruthsLie, given};
 
 use crate::outlook::Outlook;
 use crate::range::Range;
-use fz_builtins::fz_data::{ConstraintParts, Partial};
-use fz_builtins::fz_kernel::ArgumentView;
-use fz_builtins::fz_kernel::arrays::{all_true, any_false, any_true};
+use fz_model::fz_builtins::fz_kernel::ArgumentView;
+use fz_model::fz_builtins::fz_kernel::arrays::{all_true, any_false, any_true};
+use fz_model::{ConstraintParts, Partial};
 
 /// A constraint with the least and the greatest values of variables.
 #[derive(Clone, Copy)]
@@ -47,13 +47,13 @@ impl<'s, 'a> Limits<'s, 'a> {
         Range::between(self.low().int(index), self.high().int(index))
     }
 
-    /// The product of the first two arguments.
-    pub(crate) fn product(&self) -> Range
-        ensures { (K : Values) → NumberLies self.now 0 K → NumberLies self.now 1 K
-            → LiesIn result (int_at K (given self.now) 0 *ℤ int_at K (given self.now) 1) }
+    /// The product of two arguments.
+    pub(crate) fn product(&self, one: usize, other: usize) -> Range
+        ensures { (K : Values) → NumberLies self.now one K → NumberLies self.now other K
+            → LiesIn result (int_at K (given self.now) one *ℤ int_at K (given self.now) other) }
     {
-        let least = self.number(1).times(self.low().int(0));
-        let most = self.number(1).times(self.high().int(0));
+        let least = self.number(other).times(self.low().int(one));
+        let most = self.number(other).times(self.high().int(one));
         least.hull(most)
     }
 

@@ -1,8 +1,8 @@
 //! What bounds say of a test.
 
 ghost use Rattle.std.specs.Prelude.{◌≡◌, ◌↔◌, Bool, IsTrue, true, not, ◌&&◌, ◌||◌};
-ghost use Rattle.fz_builtins.specs.of_meaning.Relations.{◌=ᴮ◌, as_number};
-ghost use Rattle.fz_bounds.specs.declared.outlook.Outlook.TheVariants.{Never};
+ghost use Rattle.fz_model.specs.Relations.{◌=ᴮ◌, as_number};
+ghost use Rattle.fz_bounds.specs.declared.outlook.Outlook.TheVariants.{Always, Never};
 ghost use Rattle.fz_bounds.specs.Decided.{Decides, LiesIn};
 
 use crate::range::Range;
@@ -45,6 +45,13 @@ impl Outlook {
         ensures { IsTrue result ↔ (self ≡ Never) }
     {
         matches!(self, Outlook::Never)
+    }
+
+    /// Whether it holds at all of them.
+    pub(crate) fn is_always(self) -> bool
+        ensures { IsTrue result ↔ (self ≡ Always) }
+    {
+        matches!(self, Outlook::Always)
     }
 
     /// Of the opposite.

@@ -1,8 +1,8 @@
 //! Ranges of numbers, and what they say of tests of numbers.
 
-ghost use Rattle.std.specs.Prelude.{◌≡◌, ℤ, pos, ◌+◌, ◌+ℤ◌, ◌-ℤ◌, ◌*ℤ◌, int_le, int_lt, IfSome, IsSomeAnd, IsTrue, true, unsigned_abs};
+ghost use Rattle.std.specs.Prelude.{◌≡◌, ℤ, Bool, cond, pos, ◌+◌, ◌+ℤ◌, ◌-ℤ◌, ◌*ℤ◌, int_le, int_lt, IfSome, IsSomeAnd, IsTrue, true, unsigned_abs};
 ghost use Rattle.std.specs.Int.{int_max, int_min};
-ghost use Rattle.fz_builtins.specs.of_meaning.Relations.{◌=ℤ◌};
+ghost use Rattle.fz_model.specs.Relations.{◌=ℤ◌};
 ghost use Rattle.fz_bounds.specs.Decided.{Decides, LiesIn};
 
 use crate::outlook::Outlook;
@@ -87,6 +87,13 @@ impl Range {
         Range::of(place as i128 + 1)
     }
 
+    /// Of how many there are of something.
+    pub(crate) fn size(count: usize) -> Range
+        ensures { LiesIn result (pos count) }
+    {
+        Range::of(count as i128)
+    }
+
     /// Of the numbers from one to another.
     pub(crate) fn between(low: i64, high: i64) -> Range
         ensures { (n : ℤ) → int_le low n ≡ true → int_le n high ≡ true → LiesIn result n }
@@ -105,6 +112,23 @@ impl Range {
             low: Some(number),
             high: Some(number),
         }
+    }
+
+    /// Whether it has only one number.
+    pub(crate) fn is_one(self) -> bool {
+        match (self.low, self.high) {
+            (Some(low), Some(high)) => low == high,
+            _ => false,
+        }
+    }
+
+    /// Whether it has fewer numbers than so many.
+    pub(crate) fn has_fewer_than(self, count: usize) -> bool
+        ensures { IsTrue result → IsSomeAnd self.low (λ l. IsSomeAnd self.high
+            (λ h. int_lt (h +ℤ pos 1) (l +ℤ pos count) ≡ true)) }
+    {
+        let end = added(self.low, Range::size(count).low);
+        is_below(added(self.high, Some(1)), end)
     }
 
     /// Of the numbers of one range being at most those of another.
@@ -201,6 +225,18 @@ impl Range {
         Range {
             low: lesser(self.low, other.low),
             high: greater(self.high, other.high),
+        }
+    }
+
+    /// Of the numbers where a test holds, and of 0 where it doesn't.
+    pub(crate) fn where_holds(self, test: Outlook) -> Range
+        ensures { (a : ℤ) (b : Bool) → LiesIn self a → Decides test b
+            → LiesIn result (cond b a (pos 0)) }
+    {
+        match test {
+            Outlook::Always => self,
+            Outlook::Never => Range::of(0),
+            Outlook::Open => self.hull(Range::of(0)),
         }
     }
 

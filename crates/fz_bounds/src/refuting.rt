@@ -1,17 +1,16 @@
 //! Points that cannot hold inside bounds.
 
 ghost use Rattle.std.specs.Prelude.{◌≡◌, ◌<◌, IfOk, IsTrue, Some, length, option_map};
-ghost use Rattle.fz_builtins.specs.of_meaning.Known.{known_row};
-ghost use Rattle.fz_builtins.specs.of_meaning.Meaning.{points, row_of};
-ghost use Rattle.fz_builtins.specs.of_data.Parts.{constraint_view};
-ghost use Rattle.fz_builtins.specs.of_data.Shown.{IfConstraint, point_view};
+ghost use Rattle.fz_model.specs.of_builtins.of_meaning.Known.{known_row};
+ghost use Rattle.fz_model.specs.Meaning.{points, row_of};
+ghost use Rattle.fz_model.specs.Parts.{constraint_view};
+ghost use Rattle.fz_model.specs.Shown.{IfConstraint, point_view};
 ghost use Rattle.fz_bounds.specs.Bounds.{NeverHolds, NumberNeverHolds};
 
 use crate::bounds::Bounds;
+use crate::declarations::{definition_fails, elements_fail, lies_outside};
 use crate::rows::row_fails;
-use fz_builtins::fz_data::{Model, PointParts};
-use fz_builtins::fz_meaning::State;
-use fz_model::state;
+use fz_model::{Model, PointParts, State, state};
 use std::alloc::{AllocError, Global};
 
 /// Whether the point of a number, from 0, is found to hold under no assignment inside the bounds. A
@@ -43,9 +42,9 @@ fn parts_fail(parts: &PointParts<'_, '_>, bounds: &Bounds) -> bool
     ensures { IsTrue result → NeverHolds bounds.now (point_view parts.now) }
 {
     match parts {
-        PointParts::Domain(..) => false,
-        PointParts::Definition(..) => false,
-        PointParts::Elements(..) => false,
+        PointParts::Domain(variable, number) => lies_outside(&variable.domain, *number, bounds),
+        PointParts::Definition(_, number, term) => definition_fails(*number, term, bounds),
+        PointParts::Elements(_, domain, elements) => elements_fail(domain, elements, bounds),
         PointParts::Constraint(constraint) => row_fails(constraint, bounds),
     }
 }

@@ -1,10 +1,10 @@
 //! Another value for a variable.
 
 ghost use Rattle.std.specs.Prelude.{◌≡◌};
-ghost use Rattle.fz_builtins.specs.of_meaning.Meaning.{give};
+ghost use Rattle.fz_model.specs.Meaning.{give};
 
 use fz_base::Value;
-use fz_builtins::fz_data::Partial;
+use fz_model::Partial;
 
 /// Gives a variable a value, whatever value it had, and changes nothing else.
 #[tactic(auto, using(crate::proofs::Giving::given_anew, crate::proofs::Giving::none_to_give))]

@@ -1,12 +1,12 @@
 //! Rows of THE TABLE, and their reified forms, within bounds.
 
 ghost use Rattle.std.specs.Prelude.{◌≡◌, ◌↔◌, IsTrue, length, option_map};
-ghost use Rattle.fz_builtins.specs.of_meaning.Builtins.{row_at};
-ghost use Rattle.fz_builtins.specs.of_meaning.Known.{HasTruth, known_row};
-ghost use Rattle.fz_builtins.specs.of_meaning.Meaning.{row_of};
-ghost use Rattle.fz_builtins.specs.of_meaning.Meaning.Point.{ConstraintPoint};
-ghost use Rattle.fz_builtins.specs.of_data.Parts.{constraint_view};
-ghost use Rattle.fz_builtins.specs.of_kernel.declared.reading.Readiness.TheVariants.{Ready};
+ghost use Rattle.fz_model.specs.Builtins.{row_at};
+ghost use Rattle.fz_model.specs.of_builtins.of_meaning.Known.{HasTruth, known_row};
+ghost use Rattle.fz_model.specs.Meaning.{row_of};
+ghost use Rattle.fz_model.specs.Meaning.Point.{ConstraintPoint};
+ghost use Rattle.fz_model.specs.Parts.{constraint_view};
+ghost use Rattle.fz_model.specs.of_builtins.of_kernel.declared.reading.Readiness.TheVariants.{Ready};
 ghost use Rattle.fz_bounds.specs.Bounds.{NeverHolds};
 ghost use Rattle.fz_bounds.specs.Within.{AreKnown, Foretells, TellsTruth};
 
@@ -14,9 +14,9 @@ use crate::bounds::Bounds;
 use crate::builtins::foretold;
 use crate::limits::Limits;
 use crate::outlook::Outlook;
-use fz_builtins::fz_data::ConstraintParts;
-use fz_builtins::fz_kernel::Readiness;
-use fz_builtins::fz_meaning::{Form, Known};
+use fz_model::fz_builtins::control_index;
+use fz_model::fz_builtins::fz_kernel::Readiness;
+use fz_model::{ConstraintParts, Form, Known};
 
 /// Whether a constraint is found to hold under no assignment inside the bounds. Each of its scalars
 /// has to have bounds.
@@ -54,7 +54,7 @@ fn control(known: Known, at: &Limits<'_, '_>) -> Outlook
     requires { HasTruth known.form }
     ensures { TellsTruth at.now (length (row_at known.builtin).shapes) result }
 {
-    at.truth(known.shapes().len() - 1)
+    at.truth(control_index(known))
 }
 
 impl<'s, 'a> Limits<'s, 'a> {

@@ -2,8 +2,8 @@
 
 ghost use Rattle.std.specs.Prelude.{◌≡◌, ◌<◌, pos, ◌+ℤ◌, ◌-ℤ◌, IfOk, IsTrue, OnErr, Some, length, slice_get};
 ghost use Rattle.std.specs.Int.{int_max, int_min};
-ghost use Rattle.fz_builtins.specs.of_meaning.Meaning.{Assignment, Point, points, whole};
-ghost use Rattle.fz_builtins.specs.of_meaning.States.{HoldsIfKnown};
+ghost use Rattle.fz_model.specs.Meaning.{Assignment, Point, points, whole};
+ghost use Rattle.fz_model.specs.States.{HoldsIfKnown};
 ghost use Rattle.fz_bounds.specs.Bounds.{IsInside, NumberNeverHolds, narrowed, number_as};
 ghost use Rattle.fz_bounds.specs.Ends.{AreEndsAt, Excludes};
 ghost use Rattle.fz_bounds.specs.declared.tightening.Tightened.TheVariants.{Empty, Unshown};
@@ -11,8 +11,7 @@ ghost use Rattle.fz_bounds.specs.declared.tightening.Tightened.TheVariants.{Empt
 use crate::bounds::Bounds;
 use crate::ends::Ends;
 use crate::refuting::cannot_hold;
-use fz_builtins::fz_data::{Model, same_kind};
-use fz_builtins::fz_meaning::Kind;
+use fz_model::{Kind, Model, same_kind};
 use std::alloc::{AllocError, Global};
 
 /// So many numbers of a variable are tried one by one.
@@ -172,7 +171,7 @@ impl Bounds {
         if self.fails_between(alloc, asked, from, to)? {
             return Ok(true);
         }
-        if to.saturating_sub(from) >= TRIED {
+        if from >= to || to.saturating_sub(from) >= TRIED {
             return Ok(false);
         }
         for number in from..to {

@@ -1,6 +1,6 @@
 -- A row's test at the arguments, each read as its kind asks, is whether it holds of the values
 -- given.
-use Rattle.std.proofs.Common.{◌≡◌, ℕ, zero, suc, ◌+◌, ℤ, Bool, true, false, ◌||◌, List, [], ◌∷◌, Option, None, Some, IfNone, IfSome, slice_get, slice_set, refl, sym, ap, ◌∙◌, arith, FitsSigned, to_z, of_z}
+use Rattle.std.proofs.Common.{◌≡◌, ℕ, zero, suc, ◌+◌, ℤ, Bool, true, false, ◌||◌, List, [], ◌∷◌, Option, None, Some, IfNone, IfSome, Result as Answer, Ok, Err, IfOk, slice_get, slice_set, refl, sym, ap, ◌∙◌, arith, FitsSigned, to_z, of_z}
 use Rattle.std.specs.Int.{w128}
 use Rattle.std.proofs.lemmas.Int.{to_z-of_z}
 use Rattle.std.proofs.Math.Bool.{or-false, and_comm}
@@ -22,7 +22,8 @@ use Rattle.fz_globals.specs.of_meaning.Meaning.{Argument, Partial, row_holds}
 use Rattle.fz_globals.proofs.of_meaning.TableRows.{plain_ints, plain_bools, plain_sets}
 use Rattle.fz_globals.specs.of_kernel.Given.{given, given_from, given_values, int_at, bool_at, set_at, ints_at, bools_at, sets_at, read_leave}
 use Rattle.fz_builtins.specs.Outcomes.{argument_at, row_outcome, sum_outcome, test_from}
-use Rattle.fz_builtins.specs.Said.{HasResult, is_result, row_with, test_with}
+use Rattle.fz_builtins.specs.Said.{HasResult, IsSaid, is_result, row_with, test_with}
+use Rattle.fz_builtins.specs.declared.said.Said.{Said}
 
 pub reads : (K : Partial) (xs : List Argument) (i : ℕ) (s : Shape)
     → read s (given K xs i s) ≡ Some (argument_at K xs i s)
@@ -116,6 +117,13 @@ pub index_is : (test : ℤ → Bool) (o : Option ℤ) → IfSome o (λ n. (v : �
 index_is test None some none v = none v
 index_is test (Some n) some none v = some v
 
+pub ok_index_is : {E : Type 0} (test : ℤ → Bool) (r : Answer (Option ℤ) E)
+    → IfOk r (λ o. IfSome o (λ n. (v : ℤ) → test v ≡ (v =ℤ n)))
+    → IfOk r (λ o. IfNone o ((v : ℤ) → test v ≡ false))
+    → IfOk r (λ o. (v : ℤ) → test v ≡ is_result ◌=ℤ◌ o v)
+ok_index_is test (Ok o) some none = index_is test o some none
+ok_index_is test (Err e) some none = tt
+
 module _ {A : Type 0} (same : A → A → Bool) (either_way : (x y : A) → same x y ≡ same y x) where
   either : (o : Option A) (v : A)
       → option_map_or (λ x. same x v) o false ≡ is_result same o v
@@ -133,3 +141,9 @@ one_sum leaves holds = ap (λ b. sum_outcome b holds) (sym (or-false leaves))
 pub two_sums : (one other holds : Bool)
     → sum_outcome (one || other) holds ≡ sum_outcome (one || (other || false)) holds
 two_sums one other holds = ap (λ b. sum_outcome (one || b) holds) (sym (or-false other))
+
+-- whichever of two arguments is asked for, where it is said for either
+pub said_at : {E : Type 0} (r : Row) (K : Partial) (xs : List Argument) (first : Bool)
+    (o : Answer Said E) → IfOk o (λ s. (f : Bool) → IsSaid r f K xs s) → IfOk o (IsSaid r first K xs)
+said_at r K xs first (Ok s) h = h first
+said_at r K xs first (Err e) h = tt

@@ -141,7 +141,9 @@ pub fn said_of<'s>(
         Builtin::SetDiff => Ok(Set(2, view.set(0).minus(alloc, view.set(1))?)),
         Builtin::SetSymdiff => Ok(Set(2, view.set(0).symdiff(alloc, view.set(1))?)),
         Builtin::SetCard => Ok(Number(1, Some(scalars::set_card(view)))),
+        Builtin::SetConvex => Ok(Whether(Truth(flags::convex(alloc, view)?))),
         Builtin::ArraySetElement => Ok(Given(2, arrays::set_element(view))),
+        Builtin::GecodeArraySetElementUnion => flags::set_element_union(alloc, view),
         Builtin::FznAlldifferentExcept0 => Ok(Whether(Truth(counting::different_but_zeros(
             alloc, view,
         )?))),
@@ -171,6 +173,7 @@ pub fn said_of<'s>(
         Builtin::FznCumulative => Ok(Whether(Truth(scheduling::cumulative(view)))),
         Builtin::FznDisjunctive => Ok(Whether(Truth(scheduling::disjunctive(view)))),
         Builtin::FznDisjunctiveStrict => Ok(Whether(Truth(scheduling::disjunctive_strict(view)))),
+        Builtin::GecodeScheduleUnary => Ok(Whether(Truth(scheduling::schedule_unary(view)))),
         Builtin::FznDiffn => Ok(Whether(Truth(scheduling::diffn(view)))),
         Builtin::FznDiffnNonstrict => Ok(Whether(Truth(scheduling::diffn_nonstrict(view)))),
         Builtin::GecodeNooverlap => Ok(Whether(Truth(scheduling::nooverlap(view)))),
@@ -195,6 +198,7 @@ pub fn said_of<'s>(
         )))),
         Builtin::FznValuePrecedeInt => Ok(Whether(Truth(ordering::value_precede(view)))),
         Builtin::GecodePrecede => Ok(Whether(Truth(ordering::precede(view)))),
+        Builtin::GecodePrecedeSet => Ok(Whether(Truth(ordering::precede_set(view)))),
         Builtin::FznValuePrecedeChainInt => Ok(Whether(Truth(ordering::value_precede_chain(
             alloc, view,
         )?))),
@@ -204,10 +208,16 @@ pub fn said_of<'s>(
         Builtin::FznMemberBool => Ok(Whether(Truth(counting::member_bool(view)))),
         Builtin::GecodeMaximumArgIntOffset => Ok(Number(2, places::argument_of_maximum(view))),
         Builtin::GecodeMinimumArgIntOffset => Ok(Number(2, places::argument_of_minimum(view))),
+        Builtin::GecodeMaximumArgBoolOffset => {
+            Ok(Number(2, places::argument_of_greatest_truth(view)))
+        }
         Builtin::FznKnapsack => Ok(Whether(sums::knapsack(view))),
         Builtin::FznSlidingSum => Ok(Whether(Truth(scheduling::sliding_sum(view)))),
+        Builtin::GecodeAmongSeqInt => Ok(Whether(Truth(scheduling::among_seq(view)))),
+        Builtin::GecodeSetWeights => Ok(Number(3, scheduling::set_weights(alloc, view)?)),
         Builtin::GecodeLinkSetToBooleans => Ok(Whether(Truth(flags::link_set_to_booleans(view)))),
         Builtin::GecodeIntSetChannel => Ok(Whether(Truth(flags::int_set_channel(view)))),
+        Builtin::GecodeInverseSet => Ok(Whether(Truth(flags::inverse_set(view)))),
         Builtin::FznDisjoint => Ok(Whether(Truth(flags::disjoint(view)))),
         Builtin::FznPartitionSet => Ok(Whether(Truth(flags::partition_set(alloc, view)?))),
     }

@@ -1,15 +1,15 @@
 //! The rows of order.
 
 ghost use Rattle.std.specs.Prelude.{◌≡◌, not, pos, int_le, int_lt, ◌&&◌, ◌||◌, IfOk};
-ghost use Rattle.fz_globals.specs.of_meaning.Relations.{◌=ℤ◌, ◌=ᴮ◌, all_neighbours, is_sorted_form, is_before, precedes, rises_by_one};
-ghost use Rattle.fz_builtins.specs.Readings.{int, ints, truths};
+ghost use Rattle.fz_globals.specs.of_meaning.Relations.{◌=ℤ◌, ◌=ᴮ◌, all_neighbours, is_sorted_form, is_before, precedes, precedes_in_sets, rises_by_one};
+ghost use Rattle.fz_builtins.specs.Readings.{int, ints, sets_of, truths};
 
 use fz_globals::fz_kernel::ArgumentView;
 use fz_globals::order::{
     all_equal, is_decreasing, is_increasing, is_sorted_form, is_strictly_increasing,
     truths_decrease, truths_increase,
 };
-use fz_globals::precedence::{precede_in_chain, precedes, rises_by_one};
+use fz_globals::precedence::{precede_in_chain, precedes, precedes_in_sets, rises_by_one};
 use fz_scheduling::lexical::{bools_are_before, ints_are_before};
 use std::alloc::{AllocError, Global};
 
@@ -103,6 +103,14 @@ pub(crate) fn precede(view: &ArgumentView<'_, '_>) -> bool
     ensures { result ≡ precedes (int view.now 1) (int view.now 2) (ints view.now 0) }
 {
     precedes(view.int(1), view.int(2), &view.elements(0))
+}
+
+/// Whether a set with the third value and without the second comes only after one with the second
+/// and without the third.
+pub(crate) fn precede_set(view: &ArgumentView<'_, '_>) -> bool
+    ensures { result ≡ precedes_in_sets (int view.now 1) (int view.now 2) (sets_of view.now 0) }
+{
+    precedes_in_sets(view.int(1), view.int(2), &view.elements(0))
 }
 
 /// Whether of each two neighbours in a list of values the second comes only after the first.

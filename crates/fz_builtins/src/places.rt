@@ -1,11 +1,11 @@
 //! The rows of lists of successors, of tables and of automata.
 
-ghost use Rattle.std.specs.Prelude.{◌≡◌, ℤ, int_le, IfOk};
-ghost use Rattle.fz_globals.specs.of_meaning.Relations.{◌=ℤ◌, ◌=ᴮ◌, as_places, is_circuit, is_subcircuit, are_inverse, is_row_of, is_word, is_index_of_best};
+ghost use Rattle.std.specs.Prelude.{◌≡◌, ℤ, int_le, map, IfOk};
+ghost use Rattle.fz_globals.specs.of_meaning.Relations.{◌=ℤ◌, ◌=ᴮ◌, as_number, as_places, is_circuit, is_subcircuit, are_inverse, is_row_of, is_word, is_index_of_best};
 ghost use Rattle.fz_builtins.specs.Readings.{int, ints, numbers, truths};
 ghost use Rattle.fz_builtins.specs.Said.{is_result};
 
-use fz_globals::best_index::{index_of_maximum, index_of_minimum};
+use fz_globals::best_index::{index_of_greatest_truth, index_of_maximum, index_of_minimum};
 use fz_globals::fz_kernel::ArgumentView;
 use fz_globals::tables::{is_bool_row, is_int_row};
 use fz_globals::tours::{are_inverse, is_circuit, is_subcircuit};
@@ -69,6 +69,14 @@ pub(crate) fn argument_of_maximum(view: &ArgumentView<'_, '_>) -> Option<i128>
         ≡ is_result ◌=ℤ◌ result i }
 {
     index_of_maximum(&view.elements(0), view.int(1))
+}
+
+/// The index of the first greatest Boolean.
+pub(crate) fn argument_of_greatest_truth(view: &ArgumentView<'_, '_>) -> Option<i128>
+    ensures { (i : ℤ) → is_index_of_best (λ x m. int_le x m) (map as_number (truths view.now 0))
+        (int view.now 1) i ≡ is_result ◌=ℤ◌ result i }
+{
+    index_of_greatest_truth(&view.elements(0), view.int(1))
 }
 
 /// The index of the first least element.

@@ -1,15 +1,19 @@
-//! The rows of tasks, boxes and bins.
+//! The rows of tasks, boxes, bins and weights.
 
-ghost use Rattle.std.specs.Prelude.{◌≡◌, pos, length, int_le, ◌&&◌, ◌+ℤ◌, ◌-ℤ◌};
+ghost use Rattle.std.specs.Prelude.{◌≡◌, ℤ, IfOk, pos, length, int_le, ◌&&◌, ◌+ℤ◌, ◌-ℤ◌};
 ghost use Rattle.std.specs.List.{list_all, zip};
-ghost use Rattle.fz_globals.specs.of_meaning.Relations.{is_cumulative, is_disjunctive, is_strictly_disjunctive, boxes, overlap_nowhere, overlap_in_no_area, load_of, lies_between, loads_are, slides_between};
-ghost use Rattle.fz_builtins.specs.Readings.{int, ints};
+ghost use Rattle.fz_globals.specs.of_meaning.Relations.{◌=ℤ◌, all_pairs, are_apart, is_cumulative, is_disjunctive, is_strictly_disjunctive, is_weight_of, marks, boxes, overlap_nowhere, overlap_in_no_area, load_of, lies_between, loads_are, slides_between};
+ghost use Rattle.fz_builtins.specs.Readings.{int, ints, numbers};
+ghost use Rattle.fz_builtins.specs.Said.{is_result};
 
+use fz_base::SetError;
 use fz_globals::fz_kernel::ArgumentView;
 use fz_scheduling::bins::{loads_are_given, loads_are_within};
 use fz_scheduling::boxes::{overlap_in_no_area, overlap_nowhere};
 use fz_scheduling::slides::slides_between;
-use fz_scheduling::tasks::{is_cumulative, is_disjunctive, is_strictly_disjunctive};
+use fz_scheduling::tasks::{are_apart, is_cumulative, is_disjunctive, is_strictly_disjunctive};
+use fz_scheduling::weights::weight_of;
+use std::alloc::Global;
 
 /// Whether the tasks that run at one time never use more than there is.
 pub(crate) fn cumulative(view: &ArgumentView<'_, '_>) -> bool
@@ -32,6 +36,13 @@ pub(crate) fn disjunctive_strict(view: &ArgumentView<'_, '_>) -> bool
     ensures { result ≡ is_strictly_disjunctive (zip (ints view.now 0) (ints view.now 1)) }
 {
     is_strictly_disjunctive(&view.elements(0), &view.elements(1))
+}
+
+/// Whether of each two tasks one ends before or when the other starts.
+pub(crate) fn schedule_unary(view: &ArgumentView<'_, '_>) -> bool
+    ensures { result ≡ all_pairs are_apart (zip (ints view.now 0) (ints view.now 1)) }
+{
+    are_apart(&view.elements(0), &view.elements(1))
 }
 
 /// Whether no two boxes overlap.
@@ -85,5 +96,28 @@ pub(crate) fn sliding_sum(view: &ArgumentView<'_, '_>) -> bool
     ensures { result ≡ slides_between (int view.now 0) (int view.now 1) (int view.now 2)
         (ints view.now 3) }
 {
-    slides_between(view.int(0), view.int(1), view.int(2), &view.elements(3))
+    let (low, high, width) = (view.int(0), view.int(1), view.int(2));
+    slides_between(low, high, width, None, &view.elements(3))
+}
+
+/// Whether of each run of as many neighbours as the third argument says a number within the bounds
+/// is in the set.
+pub(crate) fn among_seq(view: &ArgumentView<'_, '_>) -> bool
+    ensures { result ≡ slides_between (int view.now 3) (int view.now 4) (int view.now 2)
+        (marks (numbers view.now 1) (ints view.now 0)) }
+{
+    let (low, high, width) = (view.int(3), view.int(4), view.int(2));
+    slides_between(low, high, width, Some(view.set(1)), &view.elements(0))
+}
+
+/// The weight of the set, where it has only things, and no two things are equal.
+pub(crate) fn set_weights(
+    alloc: Global,
+    view: &ArgumentView<'_, '_>,
+) -> Result<Option<i128>, SetError>
+    ensures { IfOk result (λ o. (n : ℤ) → is_weight_of (ints view.now 0) (ints view.now 1)
+        (numbers view.now 2) n ≡ is_result ◌=ℤ◌ o n) }
+{
+    let (things, weights) = (&view.elements(0), &view.elements(1));
+    weight_of(alloc, things, weights, view.set(2))
 }

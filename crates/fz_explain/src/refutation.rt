@@ -8,7 +8,7 @@ use crate::notes::{note_variables, told_name};
 use crate::variables::variables_of;
 use crate::verdict::Reading;
 use fz_judge::fz_model::Kind;
-use fz_judge::{Left, refuted};
+use fz_judge::{Found, Left, search};
 use std::alloc::{AllocError, Global};
 
 /// What is said behind the bounds.
@@ -24,7 +24,7 @@ pub(crate) fn note_refutation(
     requires fits { IsPartial reading.now.model.now reading.now.filling.now }
 {
     let model = reading.model;
-    let Some(found) = refuted(alloc, model, reading.filling, &mut None)? else {
+    let Found::Refuted(found) = search(alloc, model, reading.filling, None, &mut None)? else {
         return Ok(());
     };
     let mut valued = variables_of(alloc, model, found.point)?;

@@ -80,17 +80,3 @@ no_index o s =
   where
     is_zero : (n : ℕ) → nat_eq n 0 ≡ true → n ≡ 0
     is_zero n e = grind (arith, nat_tests)
-
--- ---- both together
-
-pub none_flagged : (s : NumberSet) (bs : List Bool) (o : ℤ) → length bs ≡ 0
-    → nat_eq (len s) 0 ≡ is_flagged s bs o
-none_flagged s [] o none = no_index o s ∙ sym (and-true (is_subset s (numbers_between o (last_of o 0))))
-none_flagged s (b ∷ bs) o none = absurd (omega arith)
-
-module _ (s : NumberSet) (bs : List Bool) (o last : ℤ) (r : Bool) (told : r ≡ true ↔ LiesWithin o last s) (fits : Has64Bits s) (is : last ≡ int_min (last_of o (length bs)) greatest) where
-  pub within_flagged : r ≡ true → flags_are o bs s ≡ is_flagged s bs o
-  within_flagged inside = ap (λ b. b && flags_are o bs s) (sym inside ∙ told_indices r s o last (length bs) told fits is)
-
-  pub not_within : r ≡ false → false ≡ is_flagged s bs o
-  not_within outside = ap (λ b. b && flags_are o bs s) (sym outside ∙ told_indices r s o last (length bs) told fits is)

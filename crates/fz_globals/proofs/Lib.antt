@@ -1,5 +1,7 @@
 pub mod Ascending
+pub mod BestTruth
 pub mod Channelled
+pub mod Choosing
 pub mod Compared
 pub mod Each
 pub mod FirstBest
@@ -9,6 +11,7 @@ pub mod Halving
 pub mod InTable
 pub mod Led
 pub mod Neighbours
+pub mod NoGaps
 pub mod OnlyIndex
 pub mod Parted
 pub mod Preceding

@@ -2,7 +2,8 @@
 use Rattle.std.proofs.Common.{◌≡◌, ℕ, ◌+◌, ℤ, pos, ◌+ℤ◌, Bool, true, false, not, ◌&&◌, ◌||◌, List, drop, int_le, Some, slice_get, refl, sym, ap, ◌∙◌}
 use Rattle.std.specs.Int.{int_max}
 use Rattle.std.proofs.lemmas.Bool.Decides.{Decides-int_eq}
-use Rattle.fz_kernel.specs.of_meaning.Relations.{◌=ℤ◌, precedes, rises_by_one}
+use Rattle.fz_base.specs.Sets.{NumberSet}
+use Rattle.fz_kernel.specs.of_meaning.Relations.{◌=ℤ◌, has_only, precedes, precedes_in_sets, rises_by_one}
 use Rattle.fz_globals.proofs.Compared.{is_other}
 use Rattle.fz_kernel.proofs.Left.{next}
 
@@ -22,6 +23,27 @@ module _ (s t : ℤ) (xs : List ℤ) (i : ℕ) (r : Bool) (so_far : r ≡ preced
 
     pub neither_comes : ¬ (x ≡ t) → ¬ (x ≡ s) → r ≡ precedes s t (drop (i + 1) xs)
     neither_comes other_t other_s = one false false (is_other x t other_t) (is_other x s other_s)
+
+-- ---- one set before another
+
+module _ (s t : ℤ) (ss : List NumberSet) (i : ℕ) (r : Bool) (so_far : r ≡ precedes_in_sets s t (drop i ss)) where
+  module _ (x : NumberSet) (at : slice_get ss i ≡ Some x) where
+    one_set : (late early : Bool) → late ≡ has_only t s x → early ≡ has_only s t x
+        → r ≡ (not late && (early || precedes_in_sets s t (drop (i + 1) ss)))
+    one_set late early is_late is_early = so_far ∙ ap (precedes_in_sets s t) (next ss i x at) ∙ (λ k. not (sym is_late k) && (sym is_early k || precedes_in_sets s t (drop (i + 1) ss)))
+
+    pub late_comes : (late : Bool) → late ≡ has_only t s x → late ≡ true → false ≡ r
+    late_comes late is_late e = sym (one_set late (has_only s t x) is_late refl ∙ ap (λ b. not b && (has_only s t x || precedes_in_sets s t (drop (i + 1) ss))) e)
+
+    pub early_comes : (late early : Bool) → late ≡ has_only t s x → early ≡ has_only s t x
+        → late ≡ false → early ≡ true → true ≡ r
+    early_comes late early is_late is_early e f = sym (one_set late early is_late is_early ∙ (λ k. not (e k) && (f k || precedes_in_sets s t (drop (i + 1) ss))))
+
+    pub none_comes : (late early : Bool) → late ≡ has_only t s x → early ≡ has_only s t x
+        → late ≡ false → early ≡ false → r ≡ precedes_in_sets s t (drop (i + 1) ss)
+    none_comes late early is_late is_early e f = one_set late early is_late is_early ∙ (λ k. not (e k) && (f k || precedes_in_sets s t (drop (i + 1) ss)))
+
+pub ruleset sets_in_turn = (late_comes, early_comes, none_comes)
 
 -- ---- values that rise
 

@@ -1,11 +1,10 @@
 // Sets of the indices of Booleans.
-ghost use Rattle.std.specs.Prelude.{◌≡◌, ◌+ℤ◌, ◌-ℤ◌, ◌<◌, pos};
-ghost use Rattle.std.specs.Int.{int_min};
+ghost use Rattle.std.specs.Prelude.{◌≡◌};
 ghost use Rattle.std.specs.FinSet as number_sets;
 ghost use Rattle.fz_kernel.specs.of_meaning.Relations.{flags_are, is_flagged};
 ghost use Rattle.fz_kernel.specs.Views.{bools};
 
-use crate::indices::index_at;
+use crate::indices::{are_indices, index_at};
 use fz_base::IntSet;
 use fz_kernel::Elements;
 
@@ -13,23 +12,7 @@ use fz_kernel::Elements;
 pub fn is_flagged(set: &IntSet, flags: &Elements, first: i64) -> bool
     ensures exact { result ≡ is_flagged set.now (bools flags.now) first }
 {
-    if flags.len() == 0 {
-        return set.len() == 0;
-    }
-    set.within(first, last_index(first, flags.len())) && flags_are(first, flags, set)
-}
-
-// The last index of so many from `first` on, or the greatest number where that is less.
-fn last_index(first: i64, count: usize) -> i64
-    requires { 0 < count }
-    ensures { result ≡ int_min ((first +ℤ pos count) -ℤ pos 1) (pos 9223372036854775807) }
-{
-    let last = i128::from(first) + (count as i128 - 1);
-    if last < i128::from(i64::MAX) {
-        last as i64
-    } else {
-        i64::MAX
-    }
+    are_indices(set, first, flags.len()) && flags_are(first, flags, set)
 }
 
 fn flags_are(first: i64, flags: &Elements, set: &IntSet) -> bool
@@ -43,8 +26,8 @@ fn flags_are(first: i64, flags: &Elements, set: &IntSet) -> bool
     true
 }
 
-// Whether a number is in the set; one of more than 64 bits is not.
-pub(crate) fn has(set: &IntSet, number: i128) -> bool
+/// Whether a number is in the set; one of more than 64 bits is not.
+pub fn has(set: &IntSet, number: i128) -> bool
     ensures { result ≡ number_sets.contains set.now number }
 {
     if number < i128::from(i64::MIN) || number > i128::from(i64::MAX) {

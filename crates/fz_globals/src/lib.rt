@@ -11,6 +11,8 @@
 
 pub mod best_index;
 pub mod channels;
+pub mod chosen;
+pub mod convex;
 pub mod counts;
 pub mod cover;
 mod firsts;
@@ -24,7 +26,8 @@ pub mod tables;
 mod testing;
 pub mod tours;
 
+pub use flags::has;
 pub use fz_kernel;
 pub use fz_kernel::fz_data::fz_meaning;
-pub use indices::place_from;
+pub use indices::{are_indices, index_at, place_from};
 pub use ordered::numbers_in_order;

@@ -2,12 +2,13 @@
 ghost use Rattle.std.specs.Prelude.{◌≡◌, List, Some, ℤ, pos, option_map, IfOk};
 ghost use Rattle.std.specs.Ordering.{int_cmp};
 ghost use Rattle.std.specs.List.Sorted.{IsSorted};
-ghost use Rattle.fz_kernel.specs.of_meaning.Relations.{all_neighbours, precedes, rises_by_one};
-ghost use Rattle.fz_kernel.specs.Views.{ints};
+ghost use Rattle.fz_kernel.specs.of_meaning.Relations.{all_neighbours, has_only, precedes, precedes_in_sets, rises_by_one};
+ghost use Rattle.fz_kernel.specs.Views.{ints, sets};
 ghost use Rattle.fz_globals.specs.Keys.{AreKeys, comes_before};
 
 use crate::firsts::{first_place, keys_in_order};
 use crate::testing::neighbours_pass;
+use fz_base::IntSet;
 use fz_kernel::Elements;
 use std::alloc::{AllocError, Global};
 
@@ -29,6 +30,31 @@ pub fn precedes(first: i64, second: i64, elements: &Elements) -> bool
         }
     }
     true
+}
+
+/// Whether a set with `second` and without `first` comes only after one with `first` and without
+/// `second`.
+#[tactic(auto, using(crate::proofs::Preceding::sets_in_turn))]
+pub fn precedes_in_sets(first: i64, second: i64, parts: &Elements) -> bool
+    ensures exact { result ≡ precedes_in_sets first second (sets parts.now) }
+{
+    for place in 0..parts.len() {
+        let part = parts.set(place);
+        if has_only(part, second, first) {
+            return false;
+        }
+        if has_only(part, first, second) {
+            return true;
+        }
+    }
+    true
+}
+
+/// Whether the set has one number, and not the other.
+pub fn has_only(set: &IntSet, one: i64, other: i64) -> bool
+    ensures exact { result ≡ has_only one other set.now }
+{
+    set.contains(one) && !set.contains(other)
 }
 
 /// Whether each number of the chain but the first comes only after the one before it. Only for a

@@ -152,8 +152,8 @@ fn is_one_tour(first: i64, next: &Elements) -> bool
     }
 }
 
-// The first position, counted from 0, that isn't its own successor.
-fn first_moved(first: i64, next: &Elements) -> Option<usize>
+/// The first position, counted from 0, that isn't its own successor.
+pub fn first_moved(first: i64, next: &Elements) -> Option<usize>
     ensures in_range { IfSome result (λ p. p < length (slots_of next.now)) }
     ensures found { IfSome result (λ p. slice_get
         (moved_from (pos 1) (as_places first (ints next.now))) 0 ≡ Some (pos (p + 1))) }
@@ -167,9 +167,9 @@ fn first_moved(first: i64, next: &Elements) -> Option<usize>
     None
 }
 
-// How many positions aren't their own successors.
-fn count_moved(first: i64, next: &Elements) -> usize
-    ensures { result ≡ length (moved_from (pos 1) (as_places first (ints next.now))) }
+/// How many positions aren't their own successors.
+pub fn count_moved(first: i64, next: &Elements) -> usize
+    ensures exact { result ≡ length (moved_from (pos 1) (as_places first (ints next.now))) }
 {
     let mut count = 0;
     for place in 0..next.len() {

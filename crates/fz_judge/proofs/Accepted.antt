@@ -29,7 +29,8 @@ use Rattle.fz_judge.specs.Verdict.Verdict.{Satisfied, Violated, Undecided}
 use Rattle.fz_judge.specs.Verdict.Fault.{PrintedFault}
 use Rattle.fz_judge.specs.Verdict.AreJudged.{NoneLeft, OneMore}
 use Rattle.fz_judge.specs.Verdict.Answer.{Accepted}
-use Rattle.fz_judge.proofs.Chains.{Prints, assigned}
+use Rattle.fz_search.proofs.of_model.Under.{assigned}
+use Rattle.fz_judge.proofs.Chains.{Prints}
 
 -- ---- nothing fails and nothing is undecided
 

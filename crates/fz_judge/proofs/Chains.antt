@@ -1,13 +1,12 @@
 -- A known-solution that extends a block agrees with each value that the filling gives.
-use Rattle.std.proofs.Common.{◌≡◌, ℕ, suc, zero, ◌+◌, true, false, cond, List, [], ◌∷◌, Option, Some, None, refl, sym, ap, subst, ◌∙◌, option_map, slice_get, IsTrue, ◌⊎◌, inl, inr, IsSomeAnd, arith, take, drop, ◌==◌, add-zero, zero-add, eqb-true}
+use Rattle.std.proofs.Common.{◌≡◌, ℕ, suc, zero, ◌+◌, true, false, cond, List, [], ◌∷◌, Option, Some, None, refl, sym, ap, subst, ◌∙◌, option_map, IsTrue, ◌⊎◌, inl, inr, IsSomeAnd, arith, take, drop, ◌==◌, add-zero, zero-add, eqb-true}
 use Rattle.std.specs.List.{AllByRecursion, enumerate_from}
 use Rattle.std.specs.Option.{option_map_or, option_or}
 use Rattle.fz_base.specs.declared.value.Value.{Value}
-use Rattle.fz_search.specs.of_model.declared.Kind.{Kind}
 use Rattle.fz_search.specs.of_model.Relations.{kind_of}
 use Rattle.fz_search.specs.of_model.Builtins.{ArgValue}
 use Rattle.fz_search.specs.of_model.Builtins.ArgValue.{OneValue, ManyValues}
-use Rattle.fz_search.specs.of_model.Meaning.{Place, Argument, Variable, Model, Point, Partial, Assignment, value, values, value_at, give, whole, option_cons, terms_in, argument_value, argument_values, row_of, row_holds, points, inside, find_name, HoldsUnder, IsAssignment, FitVariables, variables_of}
+use Rattle.fz_search.specs.of_model.Meaning.{Place, Argument, Variable, Model, Point, Partial, Assignment, value, values, value_at, give, whole, option_cons, terms_in, argument_value, argument_values, row_of, row_holds, points, inside, find_name, HoldsUnder, IsAssignment, variables_of}
 use Rattle.fz_search.specs.of_model.Aimed.{aimed}
 use Rattle.fz_search.specs.of_model.Openings.{HasEach}
 use Rattle.fz_search.specs.of_model.States.{HoldsIfKnown, IsKnownSolution}
@@ -20,6 +19,7 @@ use Rattle.fz_search.specs.of_model.Steps.{Gives, IsTarget}
 use Rattle.fz_search.proofs.of_model.Lists.{all_append, all_right, all_drop, all_take, all_enumerated, all_both, at_place}
 use Rattle.fz_search.proofs.of_model.Points.{points_fit}
 use Rattle.fz_search.proofs.of_model.States.{intro}
+use Rattle.fz_search.proofs.of_model.Under.{arguments_under, assigned, some_and, value_under}
 use Rattle.fz_search.proofs.of_model.Steps.{some_of, PointFits, only_value, option_cons_parts, map_some}
 use Rattle.fz_judge.specs.Solutions.{Block, Printed, PrintedValue, Extends, HasPrinted, printed_values}
 use Rattle.fz_judge.specs.Filling.{IsFirstStep, Chain, counted_from, Further, IsFilling, pairs, pairs_at, printed_scalars, first_printed, start_from, start}
@@ -38,31 +38,6 @@ at_first_step P m K from k n v h s =
     (all_right (λ q. P q.1) s.skipped ((k, s.point) ∷ s.rest) (subst (AllByRecursion (λ q. P q.1)) s.order counted)).0
 
 -- ---- one partial assignment under another
-
-module _ (K L : Partial) (under : HasEach K L) where
-  pub value_under : (t : Term) (v : Value) → value K t ≡ Some v → value L t ≡ Some v
-  value_under (Var n) v e = under n v e
-  value_under (Fixed w) v e = e
-
-  pub values_under : (ts : List Term) (vs : List Value) → values K ts ≡ Some vs
-      → values L ts ≡ Some vs
-  values_under [] vs e = e
-  values_under (t ∷ ts) vs e =
-      let (v, ws, is, are, cons) = option_cons_parts (value K t) (values K ts) vs e in
-      (λ i. option_cons (value_under t v is i) (values_under ts ws are i)) ∙ ap Some (sym cons)
-
-  argument_under : (x : Argument) (a : ArgValue) → argument_value K x ≡ Some a
-      → argument_value L x ≡ Some a
-  argument_under (One (Scalar k t)) a e = let (v, is, same) = map_some OneValue (value K t) a e in ap (option_map OneValue) (value_under t v is) ∙ ap Some same
-  argument_under (One (Array name k ts)) a e = let (vs, is, same) = map_some ManyValues (values K ts) a e in ap (option_map ManyValues) (values_under ts vs is) ∙ ap Some same
-  argument_under (ListOf ps) a e = let (vs, is, same) = map_some ManyValues (values K (terms_in (ListOf ps))) a e in ap (option_map ManyValues) (values_under (terms_in (ListOf ps)) vs is) ∙ ap Some same
-
-  pub arguments_under : (xs : List Argument) (as' : List ArgValue) → argument_values K xs ≡ Some as'
-      → argument_values L xs ≡ Some as'
-  arguments_under [] as' e = e
-  arguments_under (x ∷ xs) as' e =
-      let (a, bs, is, are, cons) = option_cons_parts (argument_value K x) (argument_values K xs) as' e in
-      (λ i. option_cons (argument_under x a is i) (arguments_under xs bs are i)) ∙ ap Some (sym cons)
 
 -- what has a value with one value of the variable has one with another
 module _ (K : Partial) (n : ℕ) (v w : Value) where
@@ -120,19 +95,6 @@ under_give : (K L : Partial) (n : ℕ) (v : Value) → HasEach K L → value_at 
 under_give K L n v under at k u e = elim (given_or_before K n k v u e) [ inl h ↦ ap (value_at L) h.0 ∙ at ∙ ap Some (sym h.1) | inr h ↦ under k u h ]
 
 -- ---- a step
-
-pub some_and : {A : Type 0} (P : A → Type 0) (o : Option A) (x : A) → IsSomeAnd o P → o ≡ Some x
-    → P x
-some_and P o x h e = subst (λ p. IsSomeAnd p P) e h
-
--- an assignment gives each variable a value of its kind
-pub assigned : (xs : List Variable) (A : Assignment) (n : ℕ) (k : Kind) → FitVariables xs (whole A)
-    → option_map (λ x. x.kind) (slice_get xs n) ≡ Some k
-    → (w : Value) × (value_at (whole A) n ≡ Some w) × (kind_of w ≡ k)
-assigned [] A n k h e = cc
-assigned (x ∷ xs) [] n k h e = absurd h
-assigned (x ∷ xs) (a ∷ A) zero k h e = let same : x.kind ≡ k = cc in (a, refl, h.0 ∙ same)
-assigned (x ∷ xs) (a ∷ A) (suc n) k h e = assigned xs A n k h.1 e
 
 -- where the point holds with one value of the variable, it holds with the one that a known-solution
 -- has
@@ -251,12 +213,9 @@ first_agrees K [] n v h e = cc
 first_agrees K ((Fixed w, u) ∷ qs) n v h e = first_agrees K qs n v h.1 e
 first_agrees K ((Var k, u) ∷ qs) n v h e =
     (elim (k == n) as (λ b. (k == n) ≡ b → option_or (cond b (Some u) None) (first_printed qs n) ≡ Some v → value_at K n ≡ Some v) [
-      | true ↦ λ same e. let is : u ≡ v = cc in ap (value_at K) (sym (same_number k n same)) ∙ h.0 ∙ ap Some is
+      | true ↦ λ same e. let is : u ≡ v = cc in ap (value_at K) (sym (eqb-true k n same)) ∙ h.0 ∙ ap Some is
       | false ↦ λ _ e. first_agrees K qs n v h.1 e
     ]) refl e
-  where
-    same_number : (a b : ℕ) → (a == b) ≡ true → a ≡ b
-    same_number a b e = eqb-true a b e
 
 start_is : (qs : List (Term × Value)) (n : ℕ) (xs : List Variable) (k : ℕ) (v : Value)
     → value_at (start_from qs n xs) k ≡ Some v → first_printed qs (n + k) ≡ Some v

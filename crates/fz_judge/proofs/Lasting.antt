@@ -1,6 +1,6 @@
 -- A block that is violated under its filling is violated under its second filling too.
 use Rattle.std.proofs.Common.{◌≡◌, ℕ, suc, zero, ℤ, Bool, true, false, cond, not, ◌||◌, List, [], ◌∷◌, length, flat_map, Option, Some, None, refl, sym, ap, subst, ◌∙◌, slice_get}
-use Rattle.std.specs.List.{AllByRecursion, list_any}
+use Rattle.std.specs.List.{list_any}
 use Rattle.std.specs.Option.{option_map_or, option_or}
 use Rattle.fz_base.specs.declared.value.Value.{Value}
 use Rattle.fz_search.specs.of_model.Builtins.{ArgValue}
@@ -22,18 +22,18 @@ use Rattle.fz_judge.specs.declared.completion.Completion.TheVariants.{Off, On}
 use Rattle.fz_judge.specs.Completed.{AreTold, AreVerdicts, IsCompleted, LacksValuesAtMost}
 use Rattle.fz_judge.specs.Completed.IsCompleted.{Found, Refuted, AsFilled, NotBetterThanFound}
 use Rattle.fz_judge.specs.Completed.AreTold.{NoneLeft, OneMore}
-use Rattle.fz_judge.specs.Filling.{Chain, Further, first_printed, printed_scalars, start, start_from}
+use Rattle.fz_judge.specs.Filling.{Chain, Further, printed_scalars, start, start_from}
 use Rattle.fz_judge.specs.Filling.Chain.{Ends, Step}
 use Rattle.fz_judge.specs.Filling.Further.{Stays, Goes}
 use Rattle.fz_judge.specs.Outlooks.{Agree}
 use Rattle.fz_judge.specs.Solutions.{Block}
 use Rattle.fz_judge.specs.Verdict.{Fault, Verdict, Reason, fault_at, objective_fails, point_fails, point_undecided, printed_fails, verdict, verdict_by}
-use Rattle.fz_judge.specs.Verdict.Verdict.{Satisfied, Violated}
-use Rattle.fz_judge.proofs.Accepted.{first_none, or_none, prints_all}
+use Rattle.fz_judge.specs.Verdict.Verdict.{Violated}
+use Rattle.fz_judge.proofs.Accepted.{first_none, prints_all}
 use Rattle.fz_judge.proofs.Agreeing.{row_state_agrees}
-use Rattle.fz_judge.proofs.Chains.{value_under}
+use Rattle.fz_search.proofs.of_model.Under.{array_not_fails, value_under}
 use Rattle.fz_judge.proofs.Keeping.{length_given}
-use Rattle.fz_judge.proofs.Violated.{WasNotBetter, array_not_fails, filling_grows, further_grows, is_violated_by, no_fault, none_first, none_printed, objective_fault, objective_under}
+use Rattle.fz_judge.proofs.Violated.{WasNotBetter, filling_grows, further_grows, is_violated_by, no_fault, none_first, none_printed, objective_fault, objective_under}
 
 -- ---- a point that fails fails under more values
 

@@ -9,7 +9,7 @@ use Rattle.fz_search.specs.of_model.Meaning.{Model, Point, Partial, value, value
 use Rattle.fz_search.specs.of_model.Steps.{Gives, open_terms, terms_of}
 use Rattle.fz_search.proofs.of_model.Steps.{PointFits, only_value, only_open_none, value_at_other, filter-none, is_open}
 use Rattle.fz_search.specs.of_model.Openings.{HasEach}
-use Rattle.fz_judge.proofs.Chains.{value_under}
+use Rattle.fz_search.proofs.of_model.Under.{value_under}
 use Rattle.fz_judge.specs.Outlooks.{Agree, IsLater, IsOpen}
 use Rattle.fz_judge.proofs.Agreeing.{agree_back, gives_agree}
 use Rattle.fz_judge.proofs.Keeping.{length_given}

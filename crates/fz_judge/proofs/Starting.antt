@@ -20,6 +20,7 @@ use Rattle.fz_search.specs.of_model.Meaning.{Place, Variable, Model, Partial, gi
 use Rattle.fz_search.specs.of_model.Meaning.Place.{Scalar, Array}
 use Rattle.fz_search.specs.of_model.Relations.{kind_of, same_kind}
 use Rattle.fz_search.proofs.of_model.Lists.{all_map}
+use Rattle.fz_search.proofs.of_model.NamedKinds.{PlaceIs, TermIs}
 use Rattle.fz_search.proofs.of_model.Partials.{fits_length, give_fits, has_place}
 use Rattle.fz_search.proofs.of_model.ScanSteps.{or_assoc, or_nothing}
 use Rattle.fz_search.proofs.of_model.Scope.{same_kind_is}
@@ -125,42 +126,44 @@ cleared_is_nothing m K room = same_nothing K (variables_of m) room
 pub has_room : (m : Model) (K : Partial) → IsPartial m K → HasRoom m K
 has_room m K fits = fits_length (variables_of m) K fits
 
--- a variable has the kind of the value that is printed for it
-abbrev pub PairFits : Model → (Term × Value) → Type 0
-PairFits m q = TermFits m (kind_of q.1) q.0
-
-first_fits : (m : Model) (K : Partial) (q : Term × Value) → IsPartial m K → PairFits m q
-    → IsPartial m (with_first K q)
-first_fits m K (Fixed w, v) h fits = h
-first_fits m K (Var n, v) h fits =
-    elim (is_none (value_at K n)) as (λ b. IsPartial m (cond b (give K n v) K)) [
-      | true ↦ give_fits (variables_of m) K n v h fits
-      | false ↦ h
-    ]
-
-pub all_fit : (m : Model) (K : Partial) (qs : List (Term × Value)) → IsPartial m K
-    → AllByRecursion (PairFits m) qs → IsPartial m (with_all K qs)
-all_fit m K [] h fits = h
-all_fit m K (q ∷ qs) h fits = all_fit m (with_first K q) qs (first_fits m K q h fits.0) fits.1
-
+-- the value of a literal without fault is of the kind
 literal_kind : (k : Kind) (l : Literal) → literal_fault k l ≡ None
     → kind_of (literal_value l.what) ≡ k
 literal_kind k l e = same_kind_is (kind_of (literal_value l.what)) k ((elim (same_kind (kind_of (literal_value l.what)) k) as (λ b. fault_if (not b) WrongKind l.span ≡ None → b ≡ true) [ true ↦ λ _. refl | false ↦ λ e. cc ]) e)
 
-pairs_fit : (m : Model) (k : Kind) (ts : List Term) (ls : List Literal)
-    → AllByRecursion (TermFits m k) ts → AllByRecursion (λ l. literal_fault k l ≡ None) ls
-    → AllByRecursion (PairFits m) (pairs ts (printed_values ls))
-pairs_fit m k [] ls h e = tt
-pairs_fit m k (t ∷ ts) [] h e = tt
-pairs_fit m k (t ∷ ts) (l ∷ ls) h e = (subst (λ j. TermFits m j t) (sym (literal_kind k l e.0)) h.0, pairs_fit m k ts ls h.1 e.1)
+module _ (Is : Kind → Value → Type 0) (m : Model) where
+  -- a variable has the kind of the value that is printed for it, and a stored value is as said
+  abbrev pub PairFits : (Term × Value) → Type 0
+  PairFits q = TermIs Is m (kind_of q.1) q.0
 
-pub place_pairs_fit : (m : Model) (x : Name) (p : Place) (v : PrintedValue) → PlaceFits m p
-    → value_fault x p v ≡ None → AllByRecursion (PairFits m) (pairs_at p v)
-place_pairs_fit m x (Scalar k t) (OneValue l) h e = (subst (λ j. TermFits m j t) (sym (literal_kind k l e)) h, tt)
-place_pairs_fit m x (Scalar k t) (ArrayOf is ls) h e = cc
-place_pairs_fit m x (Array y k ts) (OneValue l) h e = cc
-place_pairs_fit m x (Array y k ts) (ArrayOf is ls) h e =
-    pairs_fit m k ts ls h (first_none (literal_fault k) ls (or_none (fault_if (not (length ls == length ts)) WrongLength x.span) (first_some (literal_fault k) ls) e).1)
+  first_fits : (K : Partial) (q : Term × Value) → IsPartial m K → PairFits q
+      → IsPartial m (with_first K q)
+  first_fits K (Fixed w, v) h fits = h
+  first_fits K (Var n, v) h fits =
+      elim (is_none (value_at K n)) as (λ b. IsPartial m (cond b (give K n v) K)) [
+        | true ↦ give_fits (variables_of m) K n v h fits
+        | false ↦ h
+      ]
+
+  pub all_fit : (K : Partial) (qs : List (Term × Value)) → IsPartial m K
+      → AllByRecursion PairFits qs → IsPartial m (with_all K qs)
+  all_fit K [] h fits = h
+  all_fit K (q ∷ qs) h fits = all_fit (with_first K q) qs (first_fits K q h fits.0) fits.1
+
+  pairs_fit : (k : Kind) (ts : List Term) (ls : List Literal)
+      → AllByRecursion (TermIs Is m k) ts → AllByRecursion (λ l. literal_fault k l ≡ None) ls
+      → AllByRecursion PairFits (pairs ts (printed_values ls))
+  pairs_fit k [] ls h e = tt
+  pairs_fit k (t ∷ ts) [] h e = tt
+  pairs_fit k (t ∷ ts) (l ∷ ls) h e = (subst (λ j. TermIs Is m j t) (sym (literal_kind k l e.0)) h.0, pairs_fit k ts ls h.1 e.1)
+
+  pub place_pairs_fit : (x : Name) (p : Place) (v : PrintedValue) → PlaceIs Is m p
+      → value_fault x p v ≡ None → AllByRecursion PairFits (pairs_at p v)
+  place_pairs_fit x (Scalar k t) (OneValue l) h e = (subst (λ j. TermIs Is m j t) (sym (literal_kind k l e)) h, tt)
+  place_pairs_fit x (Scalar k t) (ArrayOf is ls) h e = cc
+  place_pairs_fit x (Array y k ts) (OneValue l) h e = cc
+  place_pairs_fit x (Array y k ts) (ArrayOf is ls) h e =
+      pairs_fit k ts ls h (first_none (literal_fault k) ls (or_none (fault_if (not (length ls == length ts)) WrongLength x.span) (first_some (literal_fault k) ls) e).1)
 
 -- ---- numbers
 

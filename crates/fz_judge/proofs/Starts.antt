@@ -1,59 +1,39 @@
 -- The start of a block without fault, and so its filling, gives each variable a value of its kind
 -- or none.
-use Rattle.std.proofs.Common.{◌≡◌, ℕ, suc, zero, ◌+◌, true, false, not, cond, List, [], ◌∷◌, length, Option, Some, None, refl, sym, ap, subst, ◌∙◌, option_map, slice_get, IfSome, arith, ◌==◌, add-zero, eqb-true}
+use Rattle.std.proofs.Common.{◌≡◌, ℕ, suc, zero, ◌+◌, true, false, cond, List, [], ◌∷◌, Option, Some, None, refl, sym, ap, ◌∙◌, option_map, slice_get, IfSome, arith, ◌==◌, add-zero, eqb-true}
+use Rattle.std.specs.Prelude.{⊤}
 use Rattle.std.specs.List.{AllByRecursion}
 use Rattle.std.specs.Option.{option_map_or, option_or}
 use Rattle.fz_base.specs.declared.value.Value.{Value}
 use Rattle.fz_search.specs.of_model.declared.Kind.{Kind}
-use Rattle.fz_search.specs.of_model.Relations.{kind_of, same_kind}
-use Rattle.fz_search.specs.of_model.Located.{Name, Literal, LocatedTree}
-use Rattle.fz_search.specs.of_model.Names.{HasNoFault, literal_value, model_of}
-use Rattle.fz_search.specs.of_model.Meaning.{Place, Variable, Model, Partial, give, variables_of, find_name, first_some, FitVariables, IsPartial}
+use Rattle.fz_search.specs.of_model.Relations.{kind_of}
+use Rattle.fz_search.specs.of_model.Located.{LocatedTree}
+use Rattle.fz_search.specs.of_model.Names.{HasNoFault, model_of}
+use Rattle.fz_search.specs.of_model.Meaning.{Variable, Model, Partial, variables_of, find_name, FitVariables, IsPartial}
 use Rattle.fz_search.specs.of_model.declared.Term.{Term}
 use Rattle.fz_search.specs.of_model.declared.Term.TheVariants.{Var, Fixed}
-use Rattle.fz_search.specs.of_model.Meaning.Place.{Scalar, Array}
 use Rattle.fz_search.specs.of_model.Steps.{kind_at}
-use Rattle.fz_search.proofs.of_model.NamedKinds.{TermFits, PlaceFits, named_fits}
+use Rattle.fz_search.proofs.of_model.NamedKinds.{named_fits}
 use Rattle.fz_search.proofs.of_model.Lists.{all_append}
 use Rattle.fz_search.proofs.of_model.Partials.{give_fits}
-use Rattle.fz_search.proofs.of_model.Scope.{same_kind_is}
-use Rattle.fz_judge.specs.Solutions.{Printed, PrintedValue, Block, printed_values}
-use Rattle.fz_judge.specs.BlockFaults.{BlockFault, fault_if, literal_fault, value_fault, printed_fault, items_fault, block_fault, moved}
-use Rattle.fz_judge.specs.Solutions.PrintedValue.{OneValue, ArrayOf}
-use Rattle.fz_judge.specs.BlockFaults.BlockFaultKind.{UnknownName, WrongKind, WrongLength}
-use Rattle.fz_judge.specs.Filling.{Chain, Further, IsFilling, pairs, pairs_at, printed_scalars, first_printed, start_from, start}
+use Rattle.fz_judge.specs.Solutions.{Printed, Block}
+use Rattle.fz_judge.specs.BlockFaults.{BlockFault, value_fault, printed_fault, items_fault, block_fault, moved}
+use Rattle.fz_judge.specs.BlockFaults.BlockFaultKind.{UnknownName}
+use Rattle.fz_judge.specs.Filling.{Chain, Further, IsFilling, pairs_at, printed_scalars, first_printed, start_from, start}
 use Rattle.fz_judge.specs.Filling.Chain.{Ends, Step}
 use Rattle.fz_judge.specs.Filling.Further.{Stays, Goes}
 use Rattle.fz_judge.specs.declared.completion.Completion.{Completion}
 use Rattle.fz_judge.specs.declared.completion.Completion.TheVariants.{Off, On}
 use Rattle.fz_judge.specs.Verdict.{IsFilled, IsProposed}
-use Rattle.fz_judge.proofs.Accepted.{or_none, first_none}
+use Rattle.fz_judge.proofs.Accepted.{first_none}
+use Rattle.fz_judge.proofs.Starting.{PairFits as PairIs, place_pairs_fit}
 use Rattle.fz_judge.proofs.Violated.{filling_grows}
 
 -- ---- what is printed has the kind
 
--- a variable has the kind of the value that is printed for it
-abbrev pub PairFits : Model → (Term × Value) → Type 0
-PairFits m q = TermFits m (kind_of q.1) q.0
-
-literal_kind : (k : Kind) (l : Literal) → literal_fault k l ≡ None
-    → kind_of (literal_value l.what) ≡ k
-literal_kind k l e = same_kind_is (kind_of (literal_value l.what)) k ((elim (same_kind (kind_of (literal_value l.what)) k) as (λ b. fault_if (not b) WrongKind l.span ≡ None → b ≡ true) [ true ↦ λ _. refl | false ↦ λ e. cc ]) e)
-
-pairs_fit : (m : Model) (k : Kind) (ts : List Term) (ls : List Literal)
-    → AllByRecursion (TermFits m k) ts → AllByRecursion (λ l. literal_fault k l ≡ None) ls
-    → AllByRecursion (PairFits m) (pairs ts (printed_values ls))
-pairs_fit m k [] ls h e = tt
-pairs_fit m k (t ∷ ts) [] h e = tt
-pairs_fit m k (t ∷ ts) (l ∷ ls) h e = (subst (λ j. TermFits m j t) (sym (literal_kind k l e.0)) h.0, pairs_fit m k ts ls h.1 e.1)
-
-pub place_pairs_fit : (m : Model) (x : Name) (p : Place) (v : PrintedValue) → PlaceFits m p
-    → value_fault x p v ≡ None → AllByRecursion (PairFits m) (pairs_at p v)
-place_pairs_fit m x (Scalar k t) (OneValue l) h e = (subst (λ j. TermFits m j t) (sym (literal_kind k l e)) h, tt)
-place_pairs_fit m x (Scalar k t) (ArrayOf is ls) h e = cc
-place_pairs_fit m x (Array y k ts) (OneValue l) h e = cc
-place_pairs_fit m x (Array y k ts) (ArrayOf is ls) h e =
-    pairs_fit m k ts ls h (first_none (literal_fault k) ls (or_none (fault_if (not (length ls == length ts)) WrongLength x.span) (first_some (literal_fault k) ls) e).1)
+-- the variables alone have kinds here: of a stored value nothing is asked
+abbrev PairFits : Model → (Term × Value) → Type 0
+PairFits m q = PairIs (λ _ _. ⊤) m q
 
 module _ (t : LocatedTree) (sound : HasNoFault t) where
   item_fits : (i : Printed) → printed_fault (model_of t) i ≡ None
@@ -63,7 +43,7 @@ module _ (t : LocatedTree) (sound : HasNoFault t) where
       (elim (find_name (model_of t) i.name.text) as (λ o. find_name (model_of t) i.name.text ≡ o → (elim o [ None ↦ Some (record { kind = UnknownName; at = i.name.span }) | Some p ↦ value_fault i.name p i.value ]) ≡ None
       → AllByRecursion (PairFits (model_of t)) (option_map_or (λ p. pairs_at p i.value) o [])) [
         | None ↦ λ _ e. tt
-        | Some p ↦ λ found e. place_pairs_fit (model_of t) i.name p i.value (named_fits t sound i.name.text p found) e
+        | Some p ↦ λ found e. place_pairs_fit (λ _ _. ⊤) (model_of t) i.name p i.value (named_fits t sound i.name.text p found) e
       ]) refl e
 
   items_fit : (items : List Printed) → AllByRecursion (λ i. printed_fault (model_of t) i

@@ -8,9 +8,10 @@ use Rattle.fz_search.specs.of_model.declared.State.{State}
 use Rattle.fz_search.specs.of_model.declared.State.TheVariants.{Holds, Fails, NoValue, Unknown, TooLarge}
 use Rattle.fz_search.specs.of_model.Meaning.{Model, Partial, Point, points, first_some, variables_of}
 use Rattle.fz_search.specs.of_model.States.{PointName, state, shown_point}
+use Rattle.fz_search.specs.of_model.Holding.{is_held}
 use Rattle.fz_judge.specs.Verdict.{Fault, Reason, fault_at, fault_named, first_unset, point_fails, point_undecided, reason_at, verdict_by}
 use Rattle.fz_judge.specs.Verdict.Verdict.{Violated, Satisfied}
-use Rattle.fz_judge.specs.Working.{holds, is_failed, reason_named, with_objective}
+use Rattle.fz_judge.specs.Working.{is_failed, reason_named, with_objective}
 use Rattle.fz_search.proofs.of_model.Lists.{there_is}
 use Rattle.fz_search.proofs.of_model.ScanSteps.{first_append, or_nothing}
 use Rattle.fz_judge.proofs.Lists.{or_some}
@@ -74,14 +75,14 @@ module _ {A B : Type 0} (f : A → Option B) (ps : List A) (i : ℕ) (p : A) (at
 
 -- ---- a point that holds adds nothing
 
-holds_is : (s : State) → holds s ≡ true → s ≡ Holds
+holds_is : (s : State) → is_held s ≡ true → s ≡ Holds
 holds_is Holds e = refl
 holds_is Fails e = cc
 holds_is NoValue e = cc
 holds_is Unknown e = cc
 holds_is TooLarge e = cc
 
-module _ (m : Model) (K : Partial) (i : ℕ) (s : State) (within : i < length (points m)) (is : (p : Point) → slice_get (points m) i ≡ Some p → s ≡ state K p) (held : holds s ≡ true) where
+module _ (m : Model) (K : Partial) (i : ℕ) (s : State) (within : i < length (points m)) (is : (p : Point) → slice_get (points m) i ≡ Some p → s ≡ state K p) (held : is_held s ≡ true) where
   pub held_passes : first_some (point_fails K) (take i (points m)) ≡ None
       → first_some (point_fails K) (take (i + 1) (points m)) ≡ None
   held_passes none =

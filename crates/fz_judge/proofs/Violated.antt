@@ -1,31 +1,29 @@
 -- A block that is violated by anything but its objective is extended by no known-solution; and
 -- where it is violated by its objective, no two known-solutions that extend the block before and
 -- this one improve.
-use Rattle.std.proofs.Common.{◌≡◌, ℕ, suc, zero, ◌+◌, ℤ, T, Bool, true, false, not, cond, ◌||◌, List, [], ◌∷◌, length, Option, Some, None, refl, sym, ap, subst, subst₂, ◌∙◌, slice_get, IsTrue, ◌⊎◌, inl, inr, IsSomeAnd, arith, add-zero, zero-add, int_lt, eq-eqb}
+use Rattle.std.proofs.Common.{◌≡◌, ℕ, suc, zero, ◌+◌, ℤ, T, Bool, true, false, cond, List, [], ◌∷◌, length, Option, Some, None, refl, sym, ap, subst, subst₂, ◌∙◌, slice_get, ◌⊎◌, inl, inr, IsSomeAnd, arith, add-zero, zero-add, int_lt, eq-eqb}
 use Rattle.std.specs.Prelude.{⊤, ◌<ℤ◌}
-use Rattle.std.specs.List.{AllByRecursion, list_any}
+use Rattle.std.specs.List.{AllByRecursion}
 use Rattle.std.specs.Option.{option_map_or, option_or, option_and_then}
 use Rattle.fz_base.specs.declared.value.Value.{Value}
 use Rattle.fz_search.specs.of_model.declared.State.{State}
 use Rattle.fz_search.specs.of_model.declared.State.TheVariants.{Holds, Fails, NoValue, Unknown, TooLarge}
 use Rattle.fz_search.specs.of_model.Relations.{same_value, same_values}
 use Rattle.fz_search.specs.of_model.Names.{literal_value}
-use Rattle.fz_search.specs.of_model.Meaning.{Place, Variable, Aim, Model, Point, Partial, Assignment, value, values, value_at, give, whole, option_cons, argument_values, row_of, row_holds, points, inside, find_name, first_some, variables_of, objective, objective_of, as_int}
+use Rattle.fz_search.specs.of_model.Meaning.{Place, Variable, Aim, Model, Point, Partial, Assignment, value, values, value_at, give, whole, option_cons, points, find_name, first_some, variables_of, objective, objective_of, as_int}
 use Rattle.fz_search.specs.of_model.Aimed.{aimed}
 use Rattle.fz_search.specs.of_model.Openings.{HasEach}
-use Rattle.fz_search.specs.of_model.States.{PointName, shown_point, state, judged_by, both, state_of_row, is_outside, HoldsIfKnown, IsKnownSolution}
+use Rattle.fz_search.specs.of_model.States.{PointName, shown_point, state, HoldsIfKnown, IsKnownSolution}
 use Rattle.fz_search.specs.of_model.declared.Term.{Term}
-use Rattle.fz_search.specs.of_model.declared.Domain.{Domain}
 use Rattle.fz_search.specs.of_model.declared.Term.TheVariants.{Var, Fixed}
 use Rattle.fz_search.specs.of_model.Meaning.Place.{Scalar, Array}
 use Rattle.fz_search.specs.of_model.Meaning.Aim.{Satisfy, Minimize, Maximize}
-use Rattle.fz_search.specs.of_model.Meaning.Point.{DomainPoint, DefinitionPoint, ArrayPoint, ConstraintPoint}
 use Rattle.fz_search.specs.of_model.States.PointName.{DomainOf, DefinitionOf, ConstraintOf}
 use Rattle.fz_search.specs.of_model.Steps.{terms_of}
 use Rattle.fz_search.proofs.of_model.Lists.{all_left, all_right, all_map, all_both}
-use Rattle.fz_search.proofs.of_model.States.{judged_fails, both_some, row_state_fails}
+use Rattle.fz_search.proofs.of_model.Under.{never_fails, some_same, value_under}
 use Rattle.fz_search.proofs.of_model.Steps.{value_at_other, option_cons_parts, only_open_none}
-use Rattle.fz_search.proofs.of_model.Values.{no, no', value_itself, values_itself}
+use Rattle.fz_search.proofs.of_model.Values.{value_itself, values_itself}
 use Rattle.fz_judge.specs.Solutions.{Printed, PrintedValue, Block, Extends, HasPrinted, printed_values, IsBetter, Improves}
 use Rattle.fz_judge.specs.Filling.{Chain, Further, IsFilling, pairs, pairs_at, printed_scalars, if_var, first_printed, start_from, start}
 use Rattle.fz_judge.specs.Filling.Chain.{Ends, Step}
@@ -36,65 +34,9 @@ use Rattle.fz_judge.specs.Verdict.{Fault, Reason, verdict, verdict_by, has_print
 use Rattle.fz_judge.specs.Verdict.Verdict.{Violated}
 use Rattle.fz_judge.specs.Verdict.Fault.{PrintedFault, DomainFault, DefinitionFault, ConstraintFault, NotBetter}
 use Rattle.fz_judge.proofs.Starting.{has_room}
-use Rattle.fz_judge.proofs.Chains.{Prints, value_under, arguments_under, filling_agrees, printed_agree, Agrees, some_and}
+use Rattle.fz_judge.proofs.Chains.{Prints, filling_agrees, printed_agree, Agrees}
 
 -- ---- no point fails
-
-pub some_same : {A : Type 0} (o : Option A) (a b : A) → o ≡ Some a → o ≡ Some b → a ≡ b
-some_same o a b d e = cc
-
--- an element with a value that lies outside
-outside_not : (F L : Partial) → HasEach F L → (d : Domain) (ts : List Term) (vs : List Value)
-    → values L ts ≡ Some vs → AllByRecursion (λ v. IsTrue (inside d v)) vs
-    → list_any (is_outside F d) ts ≡ true → ⊥
-outside_not F L under d [] vs e h any = no any
-outside_not F L under d (t ∷ ts) vs e h any =
-    let (v, ws, is, are, cons) = option_cons_parts (value L t) (values L ts) vs e in
-    let All : AllByRecursion (λ v. IsTrue (inside d v)) (v ∷ ws) = subst (AllByRecursion (λ v. IsTrue (inside d v))) cons h in
-    (elim (value F t) as (λ o. value F t ≡ o → (option_map_or (λ v. not (inside d v)) o false || list_any (is_outside F d) ts) ≡ true → ⊥) [
-      | None ↦ λ _ any. outside_not F L under d ts ws are All.1 any
-      | Some u ↦ λ u_is any.
-          let same : u ≡ v = some_same (value L t) u v (value_under F L under t u u_is) is in
-          let Within : inside d u ≡ true = subst (λ z. inside d z ≡ true) (sym same) All.0 in
-          outside_not F L under d ts ws are All.1 (subst (λ b. (not b || list_any (is_outside F d) ts) ≡ true) Within any)
-    ]) refl any
-
-pub array_not_fails : (b : Bool) (o : Option (List Value))
-    → cond b Fails (judged_by (λ vs. true) o) ≡ Fails → b ≡ true
-array_not_fails true o e = refl
-array_not_fails false None e = cc
-array_not_fails false (Some vs) e = cc
-
-values_some : (P : List Value → Type 0) (o : Option (List Value)) → IsSomeAnd o P
-    → (vs : List Value) × (o ≡ Some vs) × P vs
-values_some P None h = absurd h
-values_some P (Some vs) h = (vs, refl, h)
-
-never_fails : (A : Assignment) (F : Partial) (p : Point) → HasEach F (whole A)
-    → HoldsIfKnown (whole A) p → state F p ≡ Fails → ⊥
-never_fails A F (DomainPoint x k) under h s =
-    let (u, at, out) = judged_fails (inside x.domain) (value_at F k) s in
-    let in' : inside x.domain u ≡ true = some_and (λ v. IsTrue (inside x.domain v)) (value_at (whole A) k) u h (under k u at) in
-    no' (sym in' ∙ out)
-never_fails A F (DefinitionPoint x k e) under h s =
-    let (pair, at, differ) = judged_fails (λ (v, w). same_value v w) (both (value_at F k) (value F e)) s in
-    let (l, r) = both_some (value_at F k) (value F e) pair at in
-    let equal : pair.0 ≡ pair.1 = some_and (λ w. pair.0 ≡ w) (value (whole A) e) pair.1 (some_and (λ v. IsSomeAnd (value (whole A) e) (λ w. v ≡ w)) (value_at (whole A) k) pair.0 h (under k pair.0 l)) (value_under F (whole A) under e pair.1 r) in
-    no' (sym (subst (λ z. same_value pair.0 z ≡ true) equal (value_itself pair.0)) ∙ differ)
-never_fails A F (ArrayPoint name d ts) under h s =
-    let (vs, are, each) = values_some (λ vs. AllByRecursion (λ v. IsTrue (inside d v)) vs) (values (whole A) ts) h in
-    outside_not F (whole A) under d ts vs are each (array_not_fails (list_any (is_outside F d) ts) (values F ts) s)
-never_fails A F (ConstraintPoint k p) under h s =
-    (elim (row_of p) as (λ o. (o ≡ None) ⊎ IsSomeAnd o (λ r. IsSomeAnd (argument_values (whole A) p.arguments) (λ vs. IsTrue (row_holds r vs))) → state_of_row F p.arguments o ≡ Fails → ⊥) [
-      | None ↦ λ _ s. cc
-      | Some r ↦ λ h s. elim h [
-        | inl e ↦ cc
-        | inr h ↦
-            let (vs, are, fail) = row_state_fails F p.arguments r (argument_values F p.arguments) s in
-            let pass : row_holds r vs ≡ true = some_and (λ vs. IsTrue (row_holds r vs)) (argument_values (whole A) p.arguments) vs h (arguments_under F (whole A) under p.arguments vs are) in
-            no' (sym pass ∙ fail)
-      ]
-    ]) h s
 
 pub no_fault : (p : Point) (s : State) → (s ≡ Fails → ⊥) → fault_at p s ≡ None
 no_fault p Holds h = refl

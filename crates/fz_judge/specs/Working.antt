@@ -77,13 +77,6 @@ have_values K [] [] = true
 have_values K (t ∷ ts) (v ∷ vs) = has_value K (t, v) && have_values K ts vs
 have_values K _ _ = false
 
-abbrev pub holds : State → Bool
-holds Holds = true
-holds Fails = false
-holds NoValue = false
-holds Unknown = false
-holds TooLarge = false
-
 abbrev pub is_failed : State → Bool
 is_failed Fails = true
 is_failed Holds = false

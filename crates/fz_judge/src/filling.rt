@@ -9,7 +9,7 @@ ghost use Rattle.fz_stream.specs.of_syntax.Places.{IsSpanWithin};
 ghost use Rattle.fz_judge.specs.BlockFaults.{block_fault, items_fault, moved};
 ghost use Rattle.fz_judge.specs.Filling.{start};
 ghost use Rattle.fz_judge.specs.Verdict.{IsFilled};
-ghost use Rattle.fz_judge.specs.declared.completion.Completion.TheVariants.{Off, On};
+ghost use Rattle.fz_judge.specs.declared.completion.Completion.TheVariants.{Off};
 ghost use Rattle.fz_judge.specs.BlockView.{located_block, located_items};
 ghost use Rattle.fz_judge.specs.Judged.{IsBlockRefusal, TellsKind, kind_told};
 ghost use Rattle.fz_judge.specs.Working.{HasRoom, IsPlacedWithin, moved_error};
@@ -76,18 +76,20 @@ fn started(
     }
 }
 
-/// The filling of a block, with the propagation order of those before it, in the memory of a spare
-/// filling where there is one.
+/// The filling of a block, with or without values that are looked for, with the propagation order
+/// of those before it, in the memory of a spare filling where there is one.
 pub(crate) fn filled(
     alloc: Global,
     model: &Model<'_>,
+    completion: Completion,
     block: &Block<'_>,
     course: &mut Option<Course>,
+    search: &mut Option<Search>,
     spare: Option<Box<Partial>>,
 ) -> Result<Box<Partial>, BlockError>
     requires course { IfSome course.old (IsCourse model.now) }
     requires room { IfSome spare (λ s. HasRoom model.now s.value) }
-    ensures filled { IfOk result (λ f. IsFilled Off model.now (located_block block.now)
+    ensures filled { IfOk result (λ f. IsFilled completion model.now (located_block block.now)
         f.value) }
     ensures kinds { IfOk result (λ f. IsPartial model.now f.value) }
     ensures only { IfErr result (λ e. TellsKind e
@@ -98,33 +100,14 @@ pub(crate) fn filled(
 {
     let mut partial = started(alloc, model, block, spare)?;
     fill_in(alloc, model, &mut partial, course)?;
-    Ok(partial)
-}
-
-/// The same with the second filling, for a block of a judge that looks for values.
-pub(crate) fn filled_further(
-    alloc: Global,
-    model: &Model<'_>,
-    block: &Block<'_>,
-    course: &mut Option<Course>,
-    search: &mut Option<Search>,
-    spare: Option<Box<Partial>>,
-) -> Result<Box<Partial>, BlockError>
-    requires course { IfSome course.old (IsCourse model.now) }
-    requires room { IfSome spare (λ s. HasRoom model.now s.value) }
-    ensures filled { IfOk result (λ f. IsFilled On model.now (located_block block.now)
-        f.value) }
-    ensures kinds { IfOk result (λ f. IsPartial model.now f.value) }
-    ensures only { IfErr result (λ e. TellsKind e
-        (block_fault model.now (located_block block.now))) }
-    ensures refused { IfErr result (λ e. HasPlaces block.now → EndsWithin usize.MAX block.now
-        → IsBlockRefusal model.now (located_block block.now) e) }
-    ensures course { IfSome course.new (IsCourse model.now) }
-{
-    let mut partial = filled(alloc, model, block, course, spare)?;
-    let mut steps = Vec::new(alloc);
-    further(alloc, model, search, &mut partial, &mut steps)?;
-    Ok(partial)
+    match completion {
+        Completion::Off => Ok(partial),
+        Completion::On => {
+            let mut steps = Vec::new(alloc);
+            further(alloc, model, search, &mut partial, &mut steps)?;
+            Ok(partial)
+        }
+    }
 }
 
 /// The filling of a block, with or without values that are looked for, and the steps that gave its

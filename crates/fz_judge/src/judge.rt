@@ -17,12 +17,12 @@ ghost use Rattle.fz_judge.specs.Working.{IsFound, IsRefutedAt, compared, not_sho
 use crate::completion::Completion;
 use crate::course::Course;
 use crate::error::BlockError;
-use crate::filling::{filled, filled_further};
+use crate::filling::filled;
 use crate::points::{fault_named, objective, objective_fails, points_verdict};
 use crate::printed::printed_fails;
 use crate::verdict::{Fault, Reason, Verdict};
 use fz_search::fz_model::{Model, Overview, Partial};
-use fz_search::{Search, propose, refuted};
+use fz_search::{Found, Search, search};
 use fz_stream::Block;
 use std::alloc::{AllocError, Global};
 
@@ -231,10 +231,15 @@ impl<'m, 'a> Judge<'m, 'a> {
         let spare = self.spare.take();
         let course = &mut self.course;
         let search = &mut self.search;
-        match self.completion {
-            Completion::Off => filled(alloc, self.model, block, course, spare),
-            Completion::On => filled_further(alloc, self.model, block, course, search, spare),
-        }
+        filled(
+            alloc,
+            self.model,
+            self.completion,
+            block,
+            course,
+            search,
+            spare,
+        )
     }
 
     /// The verdict on a block that has the verdict `under` and the objective `now` under its
@@ -285,52 +290,38 @@ impl<'m, 'a> Judge<'m, 'a> {
             (Undecided (reason_view reason.entry)) (verdict_view r.0) r.1) }
         ensures same { self.new ≡ self.old }
     {
-        match reason {
-            Reason::NoValue(_) => match self.satisfied(alloc, filling, block)? {
+        let Reason::NoValue(_) = reason else {
+            return Ok((Verdict::Undecided(reason), now));
+        };
+        match search(alloc, self.model, filling, self.found, &mut self.search)? {
+            Found::Values(values) => match self.satisfied(alloc, &values, block)? {
                 Some(found) => Ok((Verdict::Satisfied, found)),
-                None => match self.refuted(alloc, filling)? {
-                    Some(fault) => Ok((Verdict::Violated(fault), now)),
-                    None => Ok((Verdict::Undecided(reason), now)),
-                },
+                None => Ok((Verdict::Undecided(reason), now)),
             },
-            Reason::Unknown(_, _) | Reason::TooLarge(_) | Reason::NotShownBetter(_, _) => {
-                Ok((Verdict::Undecided(reason), now))
+            Found::Refuted(found) => {
+                let fault = fault_named(self.model.point(found.point));
+                Ok((Verdict::Violated(fault), now))
             }
+            Found::Nothing => Ok((Verdict::Undecided(reason), now)),
         }
     }
 
-    /// The fault of a point that can't hold, where no known-solution has the filling's values.
-    fn refuted(&mut self, alloc: Global, filling: &Partial) -> Result<Option<Fault<'a>>, AllocError>
-        requires kinds { IsPartial self.old.model filling.now }
-        ensures refuted { IfOk result (λ o. IfSome o
-            (λ f. IsRefutedAt self.old.model filling.now (fault_view f))) }
-        ensures same { self.new ≡ self.old }
-    {
-        match refuted(alloc, self.model, filling, &mut self.search)? {
-            Some(found) => Ok(Some(fault_named(self.model.point(found.point)))),
-            None => Ok(None),
-        }
-    }
-
-    /// The objective under values that satisfy a block, and are better than what was found for the
-    /// block before, where the search proposes such.
+    /// The objective under values, where they satisfy a block, and are better than what was found
+    /// for the block before.
     fn satisfied(
         &mut self,
         alloc: Global,
-        filling: &Partial,
+        values: &Partial,
         block: &Block<'_>,
     ) -> Result<Option<Option<i64>>, AllocError>
         requires clean { items_fault self.old.model (located_items block.now.items.items) ≡ None }
-        requires kinds { IsPartial self.old.model filling.now }
+        requires kinds { IsPartial self.old.model values.now }
         ensures found { IfOk result (λ o. IfSome o
             (IsFound self.old.model (located_block block.now) self.old.found)) }
         ensures same { self.new ≡ self.old }
     {
-        let Some(found) = propose(alloc, self.model, filling, self.found, &mut self.search)? else {
-            return Ok(None);
-        };
         let overview = &mut self.overview;
-        let (verdict, now) = verdict_over(alloc, self.model, overview, &found, block, self.found)?;
+        let (verdict, now) = verdict_over(alloc, self.model, overview, values, block, self.found)?;
         match verdict {
             Verdict::Satisfied => Ok(Some(now)),
             Verdict::Violated(_) | Verdict::Undecided(_) => Ok(None),

@@ -32,7 +32,7 @@ mod watch;
 pub use completion::Completion;
 pub use error::BlockError;
 pub use filling::{fill, fill_with_steps};
-pub use fz_search::{Left, Refutation, fz_model, refuted};
+pub use fz_search::{Found, Left, Refutation, fz_model, search};
 pub use fz_stream;
 pub use fz_stream::fz_syntax;
 pub use judge::Judge;

@@ -7,12 +7,12 @@ ghost use Rattle.fz_search.specs.of_model.Parts.{goal_view, variable_view};
 ghost use Rattle.fz_search.specs.of_model.Shown.{point_name};
 ghost use Rattle.fz_judge.specs.Verdict.{fault_named, first_unset, not_known_at, objective_fails, point_fails, point_undecided, too_large_at, verdict_by};
 ghost use Rattle.fz_judge.specs.View.{fault_view, reason_view, verdict_view};
-ghost use Rattle.fz_judge.specs.Working.{holds, is_failed, reason_named};
+ghost use Rattle.fz_judge.specs.Working.{is_failed, reason_named};
 
 use crate::verdict::{Fault, Reason, Verdict};
 use fz_base::Value;
 use fz_search::fz_model::{
-    Goal, Model, Overview, Partial, Point, State, Term, Variable, all_hold, state,
+    Goal, Model, Overview, Partial, Point, State, Term, Variable, all_hold, is_held, state,
 };
 use std::alloc::{AllocError, Global};
 
@@ -87,13 +87,6 @@ fn is_failed(state: State) -> bool
     matches!(state, State::Fails)
 }
 
-/// Whether the point holds.
-fn holds(state: State) -> bool
-    ensures { result ≡ holds state }
-{
-    matches!(state, State::Holds)
-}
-
 /// The first point that fails, or else the first that is undecided. Mostly all points hold, which
 /// is seen soonest in another order than theirs.
 pub(crate) fn points_verdict<'a>(
@@ -114,7 +107,7 @@ pub(crate) fn points_verdict<'a>(
     for number in 0..model.points() {
         let found = state(alloc, model, number, partial)?;
         // A point's name is looked up only where the point doesn't hold, which is rare.
-        if holds(found) {
+        if is_held(found) {
             continue;
         }
         let point = model.point(number);

@@ -5,13 +5,13 @@ use Rattle.std.proofs.Common.{◌≡◌, ℕ, suc, zero, ℤ, pos, negsuc, ◌+�
 use Rattle.std.specs.Prelude.{⊤}
 use Rattle.std.proofs.lemmas.Int.{ints}
 use Rattle.std.proofs.Math.IntN.{*ℤ_comm, *ℤ-one, *ℤ-negsuc}
-use Rattle.std.specs.List.{AllByRecursion, list_any, list_all}
+use Rattle.std.specs.List.{AllByRecursion, list_any, list_all, filter, zip}
 use Rattle.std.specs.Option.{option_map_or}
 use Rattle.std.specs.Int.{int_min, int_max}
 use Rattle.std.specs.FinSet as sets
 use Rattle.std.proofs.lemmas.Bool.Decides.{nat_tests}
 use Rattle.std.proofs.lemmas.Grind.{common_steps}
-use Rattle.fz_meaning.specs.Relations.{◌=ℤ◌, ◌=ᴮ◌, ◌=ˢ◌, products, total, as_number, is_among, element_at, where_true, count_in, count_of, index_from, is_index_of_best, values_of}
+use Rattle.fz_meaning.specs.Relations.{◌=ℤ◌, ◌=ᴮ◌, ◌=ˢ◌, products, total, as_number, is_among, element_at, where_true, count_in, count_of, index_from, is_index_of_best, is_weight_of, all_different, set_of, values_of, chosen, indices_from, union_of}
 use Rattle.fz_meaning.specs.Builtins.{Shape, Of, Plain, Test, Row, base_rows, builtins, implied, reified, row_at, rows, rows_with_forms, with_bool, with_truth}
 use Rattle.fz_meaning.specs.Builtins.Shape.{ScalarOf, ArrayOf}
 use Rattle.fz_meaning.specs.Results.{Result, result_of}
@@ -20,7 +20,7 @@ use Rattle.fz_meaning.proofs.Lists.{all_append}
 use Rattle.fz_meaning.proofs.WithTruth.{reified_result}
 use Rattle.fz_meaning.proofs.Values.{no, and_first, and_second, int_itself, same_int, same_bool, same_set_is}
 use Rattle.fz_meaning.specs.declared.builtin.Builtin.{Builtin}
-use Rattle.fz_meaning.specs.declared.builtin.Builtin.TheVariants.{GecodeMaximumArgIntOffset, GecodeMinimumArgIntOffset, FznCountEq, FznAmong, FznNvalue, IntEq, IntLinEq, IntPlus, IntMinus, IntTimes, IntMin, IntMax, IntAbs, IntNegate, IntDiv, IntMod, ArrayIntElement, ArrayIntMaximum, ArrayIntMinimum, BoolEq, BoolNot, BoolAnd, BoolOr, BoolXor, ArrayBoolAnd, ArrayBoolOr, ArrayBoolElement, Bool2Int, BoolLinEq, SetEq, SetUnion, SetIntersect, SetDiff, SetSymdiff, SetCard, ArraySetElement}
+use Rattle.fz_meaning.specs.declared.builtin.Builtin.TheVariants.{GecodeMaximumArgIntOffset, GecodeMinimumArgIntOffset, GecodeMaximumArgBoolOffset, GecodeSetWeights, FznCountEq, FznAmong, FznNvalue, IntEq, IntLinEq, IntPlus, IntMinus, IntTimes, IntMin, IntMax, IntAbs, IntNegate, IntDiv, IntMod, ArrayIntElement, ArrayIntMaximum, ArrayIntMinimum, BoolEq, BoolNot, BoolAnd, BoolOr, BoolXor, ArrayBoolAnd, ArrayBoolOr, ArrayBoolElement, Bool2Int, BoolLinEq, SetEq, SetUnion, SetIntersect, SetDiff, SetSymdiff, SetCard, ArraySetElement, GecodeArraySetElementUnion}
 use Rattle.fz_meaning.specs.declared.kind.Kind.TheVariants.{Int as IntKind}
 use Rattle.fz_base.specs.Sets.{NumberSet, symmetric_difference}
 
@@ -167,6 +167,15 @@ term_both as' bs a x cs ds y same u c d e =
     times_unit a x y (total (products as' bs)) (total (products cs ds)) u
     (sym (sum_at as' bs a x cs ds same) ∙ same_int _ c d ∙ sym (same_int _ c e) ∙ sum_at as' bs a y cs ds same)
 
+-- ---- the weight of a set
+
+abbrev weight : List ℤ → List ℤ → NumberSet → ℤ
+weight a b c = total (map (λ p. p.1) (filter (λ p. sets.contains c p.0) (zip a b)))
+
+weighs : (a b : List ℤ) (c : NumberSet) (n : ℤ) → is_weight_of a b c n ≡ true
+    → (n =ℤ weight a b c) ≡ true
+weighs a b c n e = and_second (all_different a && sets.is_subset c (set_of a)) _ e
+
 -- ---- the table
 
 row_determines : (b : Builtin) → RowDetermines (row_at b)
@@ -202,11 +211,14 @@ row_determines SetDiff = ((λ a b x y. set_both x y (sets.difference a b)), tt)
 row_determines SetSymdiff = ((λ a b x y. set_both x y (symmetric_difference a b)), tt)
 row_determines SetCard = ((λ a x y. int_both x y (pos (sets.len a))), tt)
 row_determines ArraySetElement = ((λ a b x y. element_both ◌=ˢ◌ set_both' (element_at b a) x y), tt)
+row_determines GecodeArraySetElementUnion = ((λ a b x y d e. set_both x y (union_of (chosen (pos 1) b a)) (and_second (sets.is_subset a (indices_from (pos 1) (length b))) _ d) (and_second (sets.is_subset a (indices_from (pos 1) (length b))) _ e)), tt)
 row_determines FznCountEq = ((λ a b x y. int_both x y (count_of a b)), tt)
 row_determines FznAmong = ((λ x y b c. int_both x y (count_in b c)), tt)
 row_determines FznNvalue = ((λ x y b. int_both x y (pos (length (values_of b)))), tt)
 row_determines GecodeMaximumArgIntOffset = ((λ a b x y. index_both int_le int_le_antisymmetric a b x y), tt)
 row_determines GecodeMinimumArgIntOffset = ((λ a b x y. index_both (λ z w. int_le w z) (λ z w d e. int_le_antisymmetric z w e d) a b x y), tt)
+row_determines GecodeMaximumArgBoolOffset = ((λ a b x y. index_both int_le int_le_antisymmetric (map as_number a) b x y), tt)
+row_determines GecodeSetWeights = ((λ a b c x y d e. int_both x y (weight a b c) (weighs a b c x d) (weighs a b c y e)), tt)
 row_determines _ = tt
 
 base_rows_determine : (bs : List Builtin) → AllByRecursion RowDetermines (map row_at bs)

@@ -27,7 +27,7 @@ use Rattle.fz_meaning.specs.Steps.{Gives, GivesNothing, WithinLimits}
 use Rattle.fz_meaning.proofs.Values.{no, same_int, and_first, and_second, and_both}
 use Rattle.fz_meaning.proofs.Writing.{span_at, name_at, literal, whole, num, v, MIN, MAX, int_var, var_in, posts, defines, model_tree, i, is, t, ts, s, names, x, z}
 
-how_many : length (flat_map (λ r. r.names) rows) ≡ 423
+how_many : length (flat_map (λ r. r.names) rows) ≡ 445
 unfolding rows row_at builtins
 how_many = refl
 
@@ -216,6 +216,23 @@ states_by_variable : state_at (Some (Int (pos 2)) ∷ []) 1
     (regular (pos 2 ∷ []) (One (v x)) (pos 1 ∷ pos 2 ∷ pos 2 ∷ pos 1 ∷ [])) ≡ Unknown
 unfolding rows row_at builtins
 states_by_variable = refl
+
+-- ---- tasks that last less than no time, and Booleans of which none is true
+
+task_of_less : state_of (codes "gecode_schedule_unary")
+    (is (pos 0 ∷ pos 1 ∷ []) ∷ is (pos 3 ∷ negsuc 0 ∷ []) ∷ []) ≡ Holds
+unfolding rows row_at builtins
+task_of_less = refl
+
+task_of_none : state_of (codes "gecode_schedule_unary")
+    (is (pos 0 ∷ pos 1 ∷ []) ∷ is (pos 3 ∷ pos 0 ∷ []) ∷ []) ≡ Fails
+unfolding rows row_at builtins
+task_of_none = refl
+
+first_false : state_of (codes "gecode_maximum_arg_bool_offset")
+    (ts (false ∷ false ∷ []) ∷ i (pos 5) ∷ i (pos 5) ∷ []) ≡ Holds
+unfolding rows row_at builtins
+first_false = refl
 
 -- ---- runs of no element, and no position
 

@@ -11,7 +11,7 @@ use Rattle.std.specs.FinSet as sets
 use Rattle.fz_base.specs.Sets.{NumberSet, symmetric_difference}
 use Rattle.fz_base.specs.declared.value.Value.{Value}
 use Rattle.fz_base.specs.declared.value.Value.TheVariants.{Int, Bool as Truth, Set}
-use Rattle.fz_meaning.specs.Relations.{◌=ℤ◌, ◌=ᴮ◌, ◌=ˢ◌, all_neighbours, are_channelled, are_disjoint, are_inverse, as_places, boxes, count_in, count_of, counts_are, counts_lie, is_before, is_circuit, is_closed, is_cumulative, is_disjunctive, is_flagged, is_index_of_best, is_knapsack, is_nonzero, is_partition, is_row_of, is_sorted_form, is_strictly_disjunctive, is_subcircuit, is_word, lies_between, load_of, loads_are, overlap_in_no_area, overlap_nowhere, precedes, rises_by_one, slides_between, values_of, total, products, where_true, is_element, is_among, is_odd, as_number, all_different}
+use Rattle.fz_meaning.specs.Relations.{◌=ℤ◌, ◌=ᴮ◌, ◌=ˢ◌, all_neighbours, all_pairs, are_apart, are_channelled, are_disjoint, are_inverse, as_places, boxes, count_in, count_of, counts_are, counts_lie, is_before, is_circuit, is_closed, is_convex, is_cumulative, is_disjunctive, is_flagged, is_index_of_best, is_knapsack, is_nonzero, is_partition, is_row_of, is_sorted_form, is_strictly_disjunctive, is_subcircuit, is_weight_of, is_word, lies_between, load_of, loads_are, marks, overlap_in_no_area, overlap_nowhere, precedes, rises_by_one, slides_between, values_of, total, products, where_true, is_element, is_among, is_odd, as_number, all_different, are_inverse_sets, chosen, indices_from, precedes_in_sets, union_of}
 use Rattle.fz_meaning.specs.declared.builtin.Builtin.{Builtin}
 use Rattle.fz_meaning.specs.declared.builtin.Builtin.TheVariants as builtin
 use Rattle.fz_meaning.specs.declared.known.Form.{Form}
@@ -226,9 +226,14 @@ row_at builtin.SetDiff = alone ("set_diff" ∷ []) (S ∷ S ∷ S ∷ []) λ a b
 row_at builtin.SetSymdiff =
     alone ("set_symdiff" ∷ []) (S ∷ S ∷ S ∷ []) λ a b c. c =ˢ symmetric_difference a b
 row_at builtin.SetCard = alone ("set_card" ∷ []) (S ∷ I ∷ []) λ a b. b =ℤ pos (sets.len a)
+row_at builtin.SetConvex = row ("set_convex" ∷ []) (S ∷ []) λ a. is_convex a
 row_at builtin.ArraySetElement =
     alone ("array_set_element" ∷ "array_var_set_element" ∷ []) (I ∷ [S] ∷ S ∷ [])
     λ a b c. is_element ◌=ˢ◌ a b c
+row_at builtin.GecodeArraySetElementUnion =
+    alone ("gecode_array_set_element_union" ∷ []) (S ∷ [S] ∷ S ∷ [])
+    λ a b c. sets.is_subset a (indices_from (pos 1) (length b))
+    && (c =ˢ union_of (chosen (pos 1) b a))
 row_at builtin.FznAlldifferentExcept0 =
     row ("fzn_alldifferent_except_0" ∷ "geas_all_different_except_0" ∷ []) ([I] ∷ [])
     λ a. all_different (filter is_nonzero a)
@@ -290,6 +295,9 @@ row_at builtin.FznDisjunctive =
 row_at builtin.FznDisjunctiveStrict =
     equal (0 ∷ 1 ∷ []) ("fzn_disjunctive_strict" ∷ []) ([I] ∷ [I] ∷ [])
     λ a b. is_strictly_disjunctive (zip a b)
+row_at builtin.GecodeScheduleUnary =
+    equal (0 ∷ 1 ∷ []) ("gecode_schedule_unary" ∷ []) ([I] ∷ [I] ∷ [])
+    λ a b. all_pairs are_apart (zip a b)
 row_at builtin.FznDiffn =
     equal (0 ∷ 1 ∷ 2 ∷ 3 ∷ []) ("fzn_diffn" ∷ []) ([I] ∷ [I] ∷ [I] ∷ [I] ∷ [])
     λ a b c d. overlap_nowhere (boxes a b c d)
@@ -348,6 +356,8 @@ row_at builtin.FznValuePrecedeInt =
     row ("fzn_value_precede_int" ∷ []) (I ∷ I ∷ [I] ∷ []) λ a b c. precedes a b c
 row_at builtin.GecodePrecede =
     row ("gecode_precede" ∷ []) ([I] ∷ I ∷ I ∷ []) λ a b c. precedes b c a
+row_at builtin.GecodePrecedeSet =
+    row ("gecode_precede_set" ∷ []) ([S] ∷ I ∷ I ∷ []) λ a b c. precedes_in_sets b c a
 row_at builtin.FznValuePrecedeChainInt =
     row ("fzn_value_precede_chain_int" ∷ []) ([I] ∷ [I] ∷ [])
     λ a b. all_neighbours (λ s t. precedes s t b) a
@@ -366,14 +376,25 @@ row_at builtin.GecodeMaximumArgIntOffset =
 row_at builtin.GecodeMinimumArgIntOffset =
     row ("gecode_minimum_arg_int_offset" ∷ []) ([I] ∷ I ∷ I ∷ [])
     λ a b c. is_index_of_best (λ x m. int_le m x) a b c
+row_at builtin.GecodeMaximumArgBoolOffset =
+    row ("gecode_maximum_arg_bool_offset" ∷ []) ([B] ∷ I ∷ I ∷ [])
+    λ a b c. is_index_of_best (λ x m. int_le x m) (map as_number a) b c
 row_at builtin.FznKnapsack =
     knapsack ("fzn_knapsack" ∷ []) ([I] ∷ [I] ∷ [I] ∷ I ∷ I ∷ []) λ a b c d e. is_knapsack a b c d e
 row_at builtin.FznSlidingSum =
     row ("fzn_sliding_sum" ∷ []) (I ∷ I ∷ I ∷ [I] ∷ []) λ a b c d. slides_between a b c d
+row_at builtin.GecodeAmongSeqInt =
+    row ("gecode_among_seq_int" ∷ []) ([I] ∷ S ∷ I ∷ I ∷ I ∷ [])
+    λ a b c d e. slides_between d e c (marks b a)
+row_at builtin.GecodeSetWeights =
+    equal (0 ∷ 1 ∷ []) ("gecode_set_weights" ∷ []) ([I] ∷ [I] ∷ S ∷ I ∷ [])
+    λ a b c d. is_weight_of a b c d
 row_at builtin.GecodeLinkSetToBooleans =
     row ("gecode_link_set_to_booleans" ∷ []) (S ∷ [B] ∷ I ∷ []) λ a b c. is_flagged a b c
 row_at builtin.GecodeIntSetChannel =
     row ("gecode_int_set_channel" ∷ []) ([I] ∷ I ∷ [S] ∷ I ∷ []) λ a b c d. are_channelled a b c d
+row_at builtin.GecodeInverseSet =
+    row ("gecode_inverse_set" ∷ []) ([S] ∷ [S] ∷ I ∷ I ∷ []) λ a b c d. are_inverse_sets a c b d
 row_at builtin.FznDisjoint =
     row ("fzn_disjoint" ∷ "disjoint" ∷ []) (S ∷ S ∷ []) λ a b. are_disjoint a b
 row_at builtin.FznPartitionSet =
@@ -396,14 +417,15 @@ builtins =
     builtin.BoolLinEq ∷ builtin.BoolLinLe ∷ builtin.BoolLinNe ∷ builtin.BoolLinLt ∷
     builtin.BoolLinGe ∷ builtin.BoolLinGt ∷ builtin.SetIn ∷ builtin.SetEq ∷ builtin.SetNe ∷
     builtin.SetSubset ∷ builtin.SetSuperset ∷ builtin.SetUnion ∷ builtin.SetIntersect ∷
-    builtin.SetDiff ∷ builtin.SetSymdiff ∷ builtin.SetCard ∷ builtin.ArraySetElement ∷
-    builtin.FznAlldifferentExcept0 ∷ builtin.FznAllEqualInt ∷ builtin.FznCountEq ∷
-    builtin.FznCountNeq ∷ builtin.FznCountGeq ∷ builtin.FznCountGt ∷ builtin.FznCountLeq ∷
-    builtin.FznCountLt ∷ builtin.FznAmong ∷ builtin.FznNvalue ∷ builtin.FznAtLeastInt ∷
-    builtin.FznAtMostInt ∷ builtin.FznExactlyInt ∷ builtin.FznGlobalCardinality ∷
-    builtin.FznGlobalCardinalityClosed ∷ builtin.FznGlobalCardinalityLowUp ∷
-    builtin.FznGlobalCardinalityLowUpClosed ∷ builtin.FznDistribute ∷ builtin.FznCumulative ∷
-    builtin.FznDisjunctive ∷ builtin.FznDisjunctiveStrict ∷ builtin.FznDiffn ∷
+    builtin.SetDiff ∷ builtin.SetSymdiff ∷ builtin.SetCard ∷ builtin.SetConvex ∷
+    builtin.ArraySetElement ∷ builtin.GecodeArraySetElementUnion ∷ builtin.FznAlldifferentExcept0 ∷
+    builtin.FznAllEqualInt ∷ builtin.FznCountEq ∷ builtin.FznCountNeq ∷ builtin.FznCountGeq ∷
+    builtin.FznCountGt ∷ builtin.FznCountLeq ∷ builtin.FznCountLt ∷ builtin.FznAmong ∷
+    builtin.FznNvalue ∷ builtin.FznAtLeastInt ∷ builtin.FznAtMostInt ∷ builtin.FznExactlyInt ∷
+    builtin.FznGlobalCardinality ∷ builtin.FznGlobalCardinalityClosed ∷
+    builtin.FznGlobalCardinalityLowUp ∷ builtin.FznGlobalCardinalityLowUpClosed ∷
+    builtin.FznDistribute ∷ builtin.FznCumulative ∷ builtin.FznDisjunctive ∷
+    builtin.FznDisjunctiveStrict ∷ builtin.GecodeScheduleUnary ∷ builtin.FznDiffn ∷
     builtin.FznDiffnNonstrict ∷ builtin.GecodeNooverlap ∷ builtin.GecodeCircuit ∷
     builtin.FzcheckSubcircuit ∷ builtin.InverseOffsets ∷ builtin.FznTableInt ∷
     builtin.FznTableBool ∷ builtin.FznRegular ∷ builtin.FznBinPacking ∷
@@ -411,10 +433,12 @@ builtins =
     builtin.FznLexLessBool ∷ builtin.FznLexLesseqBool ∷ builtin.FznIncreasingInt ∷
     builtin.FznIncreasingBool ∷ builtin.FznDecreasingInt ∷ builtin.FznDecreasingBool ∷
     builtin.FznStrictlyIncreasingInt ∷ builtin.FznValuePrecedeInt ∷ builtin.GecodePrecede ∷
-    builtin.FznValuePrecedeChainInt ∷ builtin.FznSeqPrecedeChainInt ∷ builtin.FznSort ∷
-    builtin.FznMemberInt ∷ builtin.FznMemberBool ∷ builtin.GecodeMaximumArgIntOffset ∷
-    builtin.GecodeMinimumArgIntOffset ∷ builtin.FznKnapsack ∷ builtin.FznSlidingSum ∷
-    builtin.GecodeLinkSetToBooleans ∷ builtin.GecodeIntSetChannel ∷ builtin.FznDisjoint ∷
+    builtin.GecodePrecedeSet ∷ builtin.FznValuePrecedeChainInt ∷ builtin.FznSeqPrecedeChainInt ∷
+    builtin.FznSort ∷ builtin.FznMemberInt ∷ builtin.FznMemberBool ∷
+    builtin.GecodeMaximumArgIntOffset ∷ builtin.GecodeMinimumArgIntOffset ∷
+    builtin.GecodeMaximumArgBoolOffset ∷ builtin.FznKnapsack ∷ builtin.FznSlidingSum ∷
+    builtin.GecodeAmongSeqInt ∷ builtin.GecodeSetWeights ∷ builtin.GecodeLinkSetToBooleans ∷
+    builtin.GecodeIntSetChannel ∷ builtin.GecodeInverseSet ∷ builtin.FznDisjoint ∷
     builtin.FznPartitionSet ∷ []
 
 abbrev pub base_rows : List Row

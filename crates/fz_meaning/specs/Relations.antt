@@ -174,6 +174,10 @@ abbrev pub counts_lie : List ℤ → List ℤ → List ℤ → List ℤ → Bool
 counts_lie xs cover least most = all_both (λ v n. int_le n (count_of xs v)) cover least
     && all_both (λ v n. int_le (count_of xs v) n) cover most
 
+-- 1 for each element that is in the set, and 0 for each other one
+abbrev pub marks : NumberSet → List ℤ → List ℤ
+marks s xs = map (λ x. as_number (sets.contains s x)) xs
+
 -- each element is a value of the cover
 abbrev pub is_closed : List ℤ → List ℤ → Bool
 is_closed xs cover = list_all (λ x. is_among x cover) xs
@@ -333,6 +337,16 @@ abbrev pub precedes : ℤ → ℤ → List ℤ → Bool
 precedes s t [] = true
 precedes s t (x ∷ xs) = not (x =ℤ t) && ((x =ℤ s) || precedes s t xs)
 
+-- the set has the first number, and not the second
+abbrev pub has_only : ℤ → ℤ → NumberSet → Bool
+has_only s t x = sets.contains x s && not (sets.contains x t)
+
+-- a set with t and without s comes only after one with s and without t
+abbrev pub precedes_in_sets : ℤ → ℤ → List NumberSet → Bool
+precedes_in_sets s t [] = true
+precedes_in_sets s t (x ∷ xs) =
+    not (has_only t s x) && (has_only s t x || precedes_in_sets s t xs)
+
 -- each is greater by at most one than the greatest so far
 abbrev pub rises_by_one : ℤ → List ℤ → Bool
 rises_by_one most [] = true
@@ -371,12 +385,34 @@ slides_between low high k xs = is_natural k
 abbrev pub are_disjoint : NumberSet → NumberSet → Bool
 are_disjoint s t = sets.intersection s t =ˢ sets.empty
 
+-- all numbers between any two elements are elements
+abbrev pub is_convex : NumberSet → Bool
+is_convex s =
+    list_all (λ x. list_all (λ y. sets.is_subset (numbers_between x y) s) (sets.items s))
+    (sets.items s)
+
+-- The things differ, those in the set are some of them, and their weights sum to the number.
+abbrev pub is_weight_of : List ℤ → List ℤ → NumberSet → ℤ → Bool
+is_weight_of things weights s n =
+    all_different things && sets.is_subset s (set_of things)
+    && (n =ℤ total (map (λ p. p.1) (filter (λ p. sets.contains s p.0) (zip things weights))))
+
 abbrev pub union_of : List NumberSet → NumberSet
 union_of [] = sets.empty
 union_of (s ∷ ss) = sets.union s (union_of ss)
 
 abbrev pub is_partition : List NumberSet → NumberSet → Bool
 is_partition ss whole = all_pairs are_disjoint ss && (union_of ss =ˢ whole)
+
+-- so many indices, from o on
+abbrev pub indices_from : ℤ → ℕ → NumberSet
+indices_from o n = numbers_between o ((o +ℤ pos n) -ℤ pos 1)
+
+-- the sets whose indices, from i on, are in the set
+abbrev pub chosen : ℤ → List NumberSet → NumberSet → List NumberSet
+chosen i [] s = []
+chosen i (x ∷ xs) s =
+    if sets.contains s i then x ∷ chosen (i +ℤ pos 1) xs s else chosen (i +ℤ pos 1) xs s
 
 -- each Boolean, from an index on, says whether that is in the set
 abbrev pub flags_are : ℤ → List Bool → NumberSet → Bool
@@ -386,7 +422,7 @@ flags_are i (b ∷ bs) s = (b =ᴮ sets.contains s i) && flags_are (i +ℤ pos 1
 -- the set is that of the indices, from o on, whose Booleans are true
 abbrev pub is_flagged : NumberSet → List Bool → ℤ → Bool
 is_flagged s bs o =
-    sets.is_subset s (numbers_between o ((o +ℤ pos (length bs)) -ℤ pos 1)) && flags_are o bs s
+    sets.is_subset s (indices_from o (length bs)) && flags_are o bs s
 
 -- the indices, from one on, of the elements that are the number
 abbrev pub indices_of : ℤ → List ℤ → ℤ → List ℤ
@@ -403,3 +439,15 @@ sets_are j (s ∷ ss) xs o =
 abbrev pub are_channelled : List ℤ → ℤ → List NumberSet → ℤ → Bool
 are_channelled xs xo ss so =
     list_all (lies_between so ((so +ℤ pos (length ss)) -ℤ pos 1)) xs && sets_are so ss xs xo
+
+-- each set, from an index on, has indices of the other list alone, counted from o, and the sets
+-- with these indices have its own index
+abbrev pub refer_back : ℤ → List NumberSet → ℤ → List NumberSet → Bool
+refer_back i [] o ys = true
+refer_back i (s ∷ ss) o ys =
+    sets.is_subset s (indices_from o (length ys))
+    && list_all (λ t. sets.contains t i) (chosen o ys s)
+    && refer_back (i +ℤ pos 1) ss o ys
+
+abbrev pub are_inverse_sets : List NumberSet → ℤ → List NumberSet → ℤ → Bool
+are_inverse_sets xs xo ys yo = refer_back xo xs yo ys && refer_back yo ys xo xs

@@ -24,6 +24,9 @@ b = Places (1 ∷ [])
 abbrev pub c : Result
 c = Places (2 ∷ [])
 
+abbrev pub d : Result
+d = Places (3 ∷ [])
+
 abbrev pub a_or_b : Result
 a_or_b = Places (0 ∷ 1 ∷ [])
 
@@ -37,9 +40,10 @@ results =
     ("bool_or", c) ∷ ("bool_xor", c) ∷ ("array_bool_and", b) ∷ ("array_bool_or", b) ∷
     ("array_bool_element", c) ∷ ("bool2int", a_or_b) ∷ ("bool_lin_eq", c) ∷ ("set_eq", a_or_b) ∷
     ("set_union", c) ∷ ("set_intersect", c) ∷ ("set_diff", c) ∷ ("set_symdiff", c) ∷
-    ("set_card", b) ∷ ("array_set_element", c) ∷ ("fzn_count_eq", c) ∷ ("fzn_among", a) ∷
-    ("fzn_nvalue", a) ∷ ("gecode_maximum_arg_int_offset", c) ∷
-    ("gecode_minimum_arg_int_offset", c) ∷ []
+    ("set_card", b) ∷ ("array_set_element", c) ∷ ("gecode_array_set_element_union", c) ∷
+    ("fzn_count_eq", c) ∷ ("fzn_among", a) ∷ ("fzn_nvalue", a) ∷
+    ("gecode_maximum_arg_int_offset", c) ∷ ("gecode_minimum_arg_int_offset", c) ∷
+    ("gecode_maximum_arg_bool_offset", c) ∷ ("gecode_set_weights", d) ∷ []
 
 abbrev pub first_name : Row → List ℕ
 first_name r = get_or r.names 0 []

@@ -67,7 +67,9 @@ pub enum Builtin {
     SetDiff,
     SetSymdiff,
     SetCard,
+    SetConvex,
     ArraySetElement,
+    GecodeArraySetElementUnion,
     FznAlldifferentExcept0,
     FznAllEqualInt,
     FznCountEq,
@@ -89,6 +91,7 @@ pub enum Builtin {
     FznCumulative,
     FznDisjunctive,
     FznDisjunctiveStrict,
+    GecodeScheduleUnary,
     FznDiffn,
     FznDiffnNonstrict,
     GecodeNooverlap,
@@ -111,6 +114,7 @@ pub enum Builtin {
     FznStrictlyIncreasingInt,
     FznValuePrecedeInt,
     GecodePrecede,
+    GecodePrecedeSet,
     FznValuePrecedeChainInt,
     FznSeqPrecedeChainInt,
     FznSort,
@@ -118,10 +122,14 @@ pub enum Builtin {
     FznMemberBool,
     GecodeMaximumArgIntOffset,
     GecodeMinimumArgIntOffset,
+    GecodeMaximumArgBoolOffset,
     FznKnapsack,
     FznSlidingSum,
+    GecodeAmongSeqInt,
+    GecodeSetWeights,
     GecodeLinkSetToBooleans,
     GecodeIntSetChannel,
+    GecodeInverseSet,
     FznDisjoint,
     FznPartitionSet,
 }
@@ -189,6 +197,7 @@ impl Builtin {
                 (b"int_lin_le", Builtin::IntLinLe),
                 (b"int_negate", Builtin::IntNegate),
                 (b"set_subset", Builtin::SetSubset),
+                (b"set_convex", Builtin::SetConvex),
                 (b"fzn_nvalue", Builtin::FznNvalue),
                 (b"member_int", Builtin::FznMemberInt),
             ],
@@ -283,7 +292,10 @@ impl Builtin {
                 (b"fzn_lex_lesseq_int", Builtin::FznLexLesseqInt),
                 (b"fzn_increasing_int", Builtin::FznIncreasingInt),
                 (b"fzn_decreasing_int", Builtin::FznDecreasingInt),
+                (b"gecode_precede_set", Builtin::GecodePrecedeSet),
                 (b"gecode_member_bool", Builtin::FznMemberBool),
+                (b"gecode_set_weights", Builtin::GecodeSetWeights),
+                (b"gecode_inverse_set", Builtin::GecodeInverseSet),
             ],
             19 => &[
                 (b"geas_cumulative_var", Builtin::FznCumulative),
@@ -298,11 +310,13 @@ impl Builtin {
             20 => &[
                 (b"gecode_array_bool_lt", Builtin::FznLexLessBool),
                 (b"gecode_array_bool_lq", Builtin::FznLexLesseqBool),
+                (b"gecode_among_seq_int", Builtin::GecodeAmongSeqInt),
             ],
             21 => &[
                 (b"array_var_int_element", Builtin::ArrayIntElement),
                 (b"fzn_all_different_int", Builtin::FznAllDifferentInt),
                 (b"array_var_set_element", Builtin::ArraySetElement),
+                (b"gecode_schedule_unary", Builtin::GecodeScheduleUnary),
                 (b"fzn_value_precede_int", Builtin::FznValuePrecedeInt),
             ],
             22 => &[
@@ -368,6 +382,16 @@ impl Builtin {
                 (
                     b"gecode_minimum_arg_int_offset",
                     Builtin::GecodeMinimumArgIntOffset,
+                ),
+            ],
+            30 => &[
+                (
+                    b"gecode_array_set_element_union",
+                    Builtin::GecodeArraySetElementUnion,
+                ),
+                (
+                    b"gecode_maximum_arg_bool_offset",
+                    Builtin::GecodeMaximumArgBoolOffset,
                 ),
             ],
             32 => &[

@@ -80,6 +80,8 @@ const B: Filled = Filled::At(1);
 
 const C: Filled = Filled::At(2);
 
+const D: Filled = Filled::At(3);
+
 const A_OR_B: Filled = Filled::Either(0, 1);
 
 const UNIT_TERM: Filled = Filled::UnitTerm;
@@ -174,7 +176,9 @@ impl Builtin {
             Builtin::SetDiff => BaseRow(&[SET, SET, SET, BOOL], C, FREE, ALONE),
             Builtin::SetSymdiff => BaseRow(&[SET, SET, SET, BOOL], C, FREE, ALONE),
             Builtin::SetCard => BaseRow(&[SET, INT, BOOL], B, FREE, ALONE),
+            Builtin::SetConvex => BaseRow(&[SET, BOOL], NONE, FREE, FORMS),
             Builtin::ArraySetElement => BaseRow(&[INT, SETS, SET, BOOL], C, FREE, ALONE),
+            Builtin::GecodeArraySetElementUnion => BaseRow(&[SET, SETS, SET, BOOL], C, FREE, ALONE),
             Builtin::FznAlldifferentExcept0 => BaseRow(&[INTS, BOOL], NONE, FREE, FORMS),
             Builtin::FznAllEqualInt => BaseRow(&[INTS, BOOL], NONE, FREE, FORMS),
             Builtin::FznCountEq => BaseRow(&[INTS, INT, INT, BOOL], C, FREE, FORMS),
@@ -221,6 +225,7 @@ impl Builtin {
             ),
             Builtin::FznDisjunctive => BaseRow(&[INTS, INTS, BOOL], NONE, FIRST_TWO, FORMS),
             Builtin::FznDisjunctiveStrict => BaseRow(&[INTS, INTS, BOOL], NONE, FIRST_TWO, FORMS),
+            Builtin::GecodeScheduleUnary => BaseRow(&[INTS, INTS, BOOL], NONE, FIRST_TWO, FORMS),
             Builtin::FznDiffn => BaseRow(&[INTS, INTS, INTS, INTS, BOOL], NONE, ALL_FOUR, FORMS),
             Builtin::FznDiffnNonstrict => BaseRow(
                 &[INTS, INTS, INTS, INTS, BOOL],
@@ -268,6 +273,7 @@ impl Builtin {
             Builtin::FznStrictlyIncreasingInt => BaseRow(&[INTS, BOOL], NONE, FREE, FORMS),
             Builtin::FznValuePrecedeInt => BaseRow(&[INT, INT, INTS, BOOL], NONE, FREE, FORMS),
             Builtin::GecodePrecede => BaseRow(&[INTS, INT, INT, BOOL], NONE, FREE, FORMS),
+            Builtin::GecodePrecedeSet => BaseRow(&[SETS, INT, INT, BOOL], NONE, FREE, FORMS),
             Builtin::FznValuePrecedeChainInt => BaseRow(&[INTS, INTS, BOOL], NONE, FREE, FORMS),
             Builtin::FznSeqPrecedeChainInt => BaseRow(&[INTS, BOOL], NONE, FREE, FORMS),
             Builtin::FznSort => BaseRow(&[INTS, INTS, BOOL], NONE, FREE, FORMS),
@@ -275,10 +281,19 @@ impl Builtin {
             Builtin::FznMemberBool => BaseRow(&[BOOLS, BOOL, BOOL], NONE, FREE, FORMS),
             Builtin::GecodeMaximumArgIntOffset => BaseRow(&[INTS, INT, INT, BOOL], C, FREE, FORMS),
             Builtin::GecodeMinimumArgIntOffset => BaseRow(&[INTS, INT, INT, BOOL], C, FREE, FORMS),
+            Builtin::GecodeMaximumArgBoolOffset => {
+                BaseRow(&[BOOLS, INT, INT, BOOL], C, FREE, FORMS)
+            }
             Builtin::FznKnapsack => {
                 BaseRow(&[INTS, INTS, INTS, INT, INT, BOOL], NONE, PACKED, FORMS)
             }
             Builtin::FznSlidingSum => BaseRow(&[INT, INT, INT, INTS, BOOL], NONE, FREE, FORMS),
+            Builtin::GecodeAmongSeqInt => {
+                BaseRow(&[INTS, SET, INT, INT, INT, BOOL], NONE, FREE, FORMS)
+            }
+            Builtin::GecodeSetWeights => {
+                BaseRow(&[INTS, INTS, SET, INT, BOOL], D, FIRST_TWO, FORMS)
+            }
             Builtin::GecodeLinkSetToBooleans => BaseRow(
                 &[SET, BOOLS, INT, BOOL],
                 NONE,
@@ -291,6 +306,7 @@ impl Builtin {
                 FREE,
                 FORMS,
             ),
+            Builtin::GecodeInverseSet => BaseRow(&[SETS, SETS, INT, INT, BOOL], NONE, FREE, FORMS),
             Builtin::FznDisjoint => BaseRow(&[SET, SET, BOOL], NONE, FREE, FORMS),
             Builtin::FznPartitionSet => BaseRow(&[SETS, SET, BOOL], NONE, FREE, FORMS),
         }

@@ -1,5 +1,4 @@
 pub mod Inside
-pub mod FormOutcomes
 pub mod ConstraintStates
 pub mod Together
 pub mod Valued
@@ -20,6 +19,7 @@ pub mod Units
 pub mod Placed
 pub mod Chosen
 pub mod Aiming
+pub mod Under
 pub use Rattle.fz_builtins.proofs.of_meaning.Values
 pub use Rattle.fz_builtins.proofs.of_meaning.Lists
 pub use Rattle.fz_builtins.proofs.of_meaning.Partials
@@ -34,3 +34,4 @@ pub use Rattle.fz_builtins.proofs.of_meaning.Places
 pub use Rattle.fz_builtins.proofs.of_meaning.NamedKinds
 pub use Rattle.fz_builtins.proofs.of_meaning.Writing
 pub use Rattle.fz_builtins.proofs.of_data.Tabled
+pub use Rattle.fz_builtins.proofs as of_builtins

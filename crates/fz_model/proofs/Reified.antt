@@ -17,7 +17,7 @@ use Rattle.fz_builtins.proofs.of_meaning.TableRows.{reified_holds}
 use Rattle.fz_builtins.proofs.of_meaning.WithTruth.{reified_result}
 use Rattle.fz_builtins.specs.of_kernel.Given.{given, given_from, given_values}
 use Rattle.fz_builtins.specs.Outcomes.{row_outcome, sum_outcome}
-use Rattle.fz_model.proofs.FormOutcomes.{all_read}
+use Rattle.fz_builtins.proofs.FormOutcomes.{all_read}
 use Rattle.fz_builtins.proofs.Rows.{outcome_is}
 use Rattle.fz_builtins.specs.declared.outcome.Outcome.TheVariants.{Truth as TruthOutcome, TooLarge}
 use Rattle.fz_model.specs.Left.{IsLeftAt, IsPlaceOf, holds_with, is_too_large}

@@ -22,3 +22,4 @@ pub use Rattle.fz_builtins.specs.of_data.Kinds
 pub use Rattle.fz_builtins.specs.of_data.Texts
 pub use Rattle.fz_builtins.specs.of_meaning.Relations
 pub use Rattle.fz_builtins.specs.of_meaning.States
+pub use Rattle.fz_builtins.specs as of_builtins

@@ -1,21 +1,19 @@
 //! Constraints.
 
-ghost use Rattle.std.specs.Prelude.{◌≡◌, IfOk, Some, true, length, map, option_map};
+ghost use Rattle.std.specs.Prelude.{◌≡◌, IfOk, Some, true, map, option_map};
 ghost use Rattle.std.specs.List.{list_any};
 ghost use Rattle.fz_builtins.specs.of_meaning.Meaning.{have_shapes, row_of};
 ghost use Rattle.fz_builtins.specs.of_meaning.States.{state_of_row};
-ghost use Rattle.fz_builtins.specs.of_meaning.Builtins.{row_at};
-ghost use Rattle.fz_builtins.specs.of_meaning.Known.{HasTruth, known_row};
+ghost use Rattle.fz_builtins.specs.of_meaning.Known.{known_row};
 ghost use Rattle.fz_builtins.specs.of_data.Parts.{constraint_view};
 ghost use Rattle.fz_builtins.specs.of_kernel.Given.{are_read, read_leave};
 ghost use Rattle.fz_builtins.specs.of_kernel.Views.{arguments_of, assigned};
 ghost use Rattle.fz_builtins.specs.Outcomes.{row_outcome};
-ghost use Rattle.fz_builtins.specs.Readings.{truth};
 
 use fz_builtins::fz_data::{ConstraintParts, Partial};
 use fz_builtins::fz_kernel::{ArgumentView, Readiness};
 use fz_builtins::fz_meaning::{Form, Known, State};
-use fz_builtins::{Outcome, of_builtin, products_leave};
+use fz_builtins::{Outcome, control, of_builtin, products_leave};
 use std::alloc::{AllocError, Global};
 
 /// The state of a constraint: unknown without a row, whatever its values are; then without a value;
@@ -88,15 +86,7 @@ fn of_known(alloc: Global, known: Known, view: &ArgumentView<'_, '_>) -> Result<
     let outcome = of_builtin(alloc, known.builtin, view)?;
     match known.form {
         Form::Base => Ok(outcome),
-        Form::Reified => Ok(outcome.compared(last_truth(known, view))),
-        Form::Implied => Ok(outcome.implied_by(last_truth(known, view))),
+        Form::Reified => Ok(outcome.compared(control(known, view))),
+        Form::Implied => Ok(outcome.implied_by(control(known, view))),
     }
-}
-
-// The control variable: the Boolean after the arguments of the base row.
-fn last_truth(known: Known, view: &ArgumentView<'_, '_>) -> bool
-    requires { HasTruth known.form }
-    ensures { result ≡ truth view.now (length (row_at known.builtin).shapes) }
-{
-    view.truth(known.shapes().len() - 1)
 }

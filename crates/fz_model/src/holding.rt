@@ -18,7 +18,8 @@ use fz_builtins::fz_kernel::ArgumentView;
 use fz_builtins::fz_meaning::State;
 use std::alloc::{AllocError, Global};
 
-fn is_held(state: State) -> bool
+/// Whether a point of this state holds.
+pub fn is_held(state: State) -> bool
     ensures { result ≡ is_held state }
 {
     matches!(state, State::Holds)

@@ -31,6 +31,7 @@ mod unit;
 mod value;
 mod whole;
 
+pub use fz_builtins;
 pub use fz_builtins::fz_data::{
     Argument, Array, ConstraintParts, Constraints, Found, Goal, LoadError, Model, Partial, Point,
     PointParts, Posted, Scalar, ScalarList, Scalars, Segment, Slot, Store, Variable, What, item_at,
@@ -40,7 +41,7 @@ pub use fz_builtins::fz_meaning::{
     Builtin, Domain, Filled, Form, Kind, Known, ModelError, Shape, State, Term, located_is_bare,
     numbers_agree, steps_are_forced, unknown_is_not_known,
 };
-pub use holding::all_hold;
+pub use holding::{all_hold, is_held};
 pub use only::{Opening, Spot, opening_of};
 pub use overview::Overview;
 pub use points::state;

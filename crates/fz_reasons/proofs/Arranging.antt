@@ -10,11 +10,12 @@ use Rattle.fz_builtins.specs.of_meaning.declared.builtin.Builtin.{Builtin}
 use Rattle.fz_builtins.specs.of_meaning.declared.builtin.Builtin.TheVariants as builtin
 use Rattle.fz_builtins.specs.of_meaning.Builtins.{row_at}
 use Rattle.fz_builtins.specs.of_meaning.Meaning.{Argument, Partial}
-use Rattle.fz_builtins.specs.of_meaning.Relations.{◌=ℤ◌, ◌=ˢ◌, as_places, element_at, is_natural, is_knapsack, lies_between, load_of, loads_are, slides_between}
+use Rattle.fz_builtins.specs.of_meaning.Relations.{◌=ℤ◌, ◌=ˢ◌, as_places, element_at, is_natural, is_knapsack, lies_between, load_of, loads_are, marks, slides_between}
 use Rattle.fz_builtins.specs.of_kernel.Given.{int_at, ints_at, set_at, sets_at}
 use Rattle.fz_builtins.specs.Outcomes.{row_outcome, sum_outcome}
 use Rattle.fz_builtins.specs.declared.outcome.Outcome.TheVariants.{Truth}
 use Rattle.fz_reasons.specs.Arranged.{HasLoad, HasNoIndex, HasProfit, HasRing, HasRun, HasWeight, SaysArranged}
+use Rattle.fz_reasons.specs.Loads.{IsOtherRun}
 use Rattle.fz_reasons.specs.Places.{IsNoIndex}
 use Rattle.fz_reasons.specs.declared.arrangement.Arrangement.{Arrangement}
 use Rattle.fz_reasons.specs.declared.arrangement.Arrangement.TheVariants as kinds
@@ -111,15 +112,20 @@ profit_is_other builtin.FznKnapsack K xs t says =
     ∙ ap Truth (profit_fails (ints_at K xs 0) (ints_at K xs 1) (ints_at K xs 2) (int_at K xs 3) (int_at K xs 4) (other_total t _ _ says.0.is says.0.wanted says.0.other))
 profit_is_other _ K xs t says = absurd says
 
+other_run : (low high k : ℤ) (xs : List ℤ) (r : Run) → IsOtherRun low high k xs r
+    → slides_between low high k xs ≡ false
+other_run low high k xs r says =
+    ap (λ n. slides_between low high n xs) says.count
+    ∙ ap (λ b. is_natural (pos r.count) && b) (run_fails low high r.count says.some xs r.place r.sum says.within says.is says.outside)
+    ∙ and-false (is_natural (pos r.count))
+
 sum_is_other : (b : Builtin) (K : Partial) (xs : List Argument) (r : Run) → HasRun b K xs r
     → row_outcome (row_at b) K xs ≡ Truth false
 unfolding row_outcome row_at
 sum_is_other builtin.FznSlidingSum K xs r says =
-    let low = int_at K xs 0 in
-    let high = int_at K xs 1 in
-    ap Truth (ap (λ k. slides_between low high k (ints_at K xs 3)) says.count
-    ∙ ap (λ b. is_natural (pos r.count) && b) (run_fails low high r.count says.some (ints_at K xs 3) r.place r.sum says.within says.is says.outside)
-    ∙ and-false (is_natural (pos r.count)))
+    ap Truth (other_run (int_at K xs 0) (int_at K xs 1) (int_at K xs 2) (ints_at K xs 3) r says)
+sum_is_other builtin.GecodeAmongSeqInt K xs r says =
+    ap Truth (other_run (int_at K xs 3) (int_at K xs 4) (int_at K xs 2) (marks (set_at K xs 1) (ints_at K xs 0)) r says)
 sum_is_other _ K xs r says = absurd says
 
 pub arranged_fails : (b : Builtin) (K : Partial) (xs : List Argument) (r : Arrangement)

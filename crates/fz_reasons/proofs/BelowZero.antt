@@ -6,8 +6,8 @@ use Rattle.fz_builtins.specs.of_meaning.declared.builtin.Builtin.{Builtin}
 use Rattle.fz_builtins.specs.of_meaning.declared.builtin.Builtin.TheVariants as builtin
 use Rattle.fz_builtins.specs.of_meaning.Builtins.{row_at}
 use Rattle.fz_builtins.specs.of_meaning.Meaning.{Argument, Partial}
-use Rattle.fz_builtins.specs.of_meaning.Relations.{all_pairs, are_apart, is_cumulative, is_empty_span, is_knapsack, is_natural, last_naturally, lies_between, total, windows}
-use Rattle.fz_builtins.specs.of_kernel.Given.{int_at, ints_at}
+use Rattle.fz_builtins.specs.of_meaning.Relations.{all_pairs, are_apart, is_cumulative, is_empty_span, is_knapsack, is_natural, last_naturally, lies_between, marks, total, windows}
+use Rattle.fz_builtins.specs.of_kernel.Given.{int_at, ints_at, set_at}
 use Rattle.fz_builtins.specs.Outcomes.{row_outcome, sum_outcome}
 use Rattle.fz_builtins.specs.declared.outcome.Outcome.TheVariants.{Truth}
 use Rattle.fz_reasons.specs.Reasons.{IsNegative, naturals, tasks}
@@ -98,6 +98,16 @@ width_fails : (q : Quantity) (K : Partial) (xs : List Argument) (i : ℕ) (v : �
 width_fails of.Width K xs i v at below = alone_fails (int_at K xs 2) i v at below
 width_fails q K xs i v at below = absurd (none-some v at)
 
+counted_width : (q : Quantity) (K : Partial) (xs : List Argument)
+    → naturals builtin.GecodeAmongSeqInt q K xs ≡ naturals builtin.FznSlidingSum q K xs
+counted_width of.Duration K xs = refl
+counted_width of.Use K xs = refl
+counted_width of.Limit K xs = refl
+counted_width of.Number K xs = refl
+counted_width of.Weight K xs = refl
+counted_width of.Profit K xs = refl
+counted_width of.Width K xs = refl
+
 pub negative_fails : (b : Builtin) (K : Partial) (xs : List Argument) (n : Negative) → IsNegative b K xs n
     → row_outcome (row_at b) K xs ≡ Truth false
 unfolding row_outcome row_at
@@ -114,4 +124,7 @@ negative_fails builtin.FznKnapsack K xs n h =
 negative_fails builtin.FznSlidingSum K xs n h =
     ap Truth (first_fails _ (list_all (λ w. lies_between (int_at K xs 0) (int_at K xs 1) (total w)) (windows (unsigned_abs (int_at K xs 2)) (ints_at K xs 3)))
     (width_fails n.quantity K xs n.place n.value h.there h.below))
+negative_fails builtin.GecodeAmongSeqInt K xs n h =
+    ap Truth (first_fails _ (list_all (λ w. lies_between (int_at K xs 3) (int_at K xs 4) (total w)) (windows (unsigned_abs (int_at K xs 2)) (marks (set_at K xs 1) (ints_at K xs 0))))
+    (width_fails n.quantity K xs n.place n.value (ap (λ l. slice_get l n.place) (sym (counted_width n.quantity K xs)) ∙ h.there) h.below))
 negative_fails b K xs n h = absurd (none-some n.value h.there)

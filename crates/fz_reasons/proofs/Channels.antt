@@ -12,8 +12,8 @@ use Rattle.fz_base.specs.Sets.{NumberSet}
 use Rattle.fz_builtins.specs.of_meaning.Relations.{◌=ℤ◌, ◌=ᴮ◌, ◌=ˢ◌, are_channelled, element_at, indices_of, lies_between, sets_are}
 use Rattle.fz_builtins.proofs.of_kernel.Passed.{element_is}
 use Rattle.fz_builtins.proofs.of_meaning.Values.{int_itself, same_int}
-use Rattle.fz_globals.specs.Held.{are_held, is_held, size_of_all}
-use Rattle.fz_globals.proofs.Channelled.{channelled_is}
+use Rattle.fz_builtins.specs.of_globals.Held.{are_held, is_held, size_of_all}
+use Rattle.fz_builtins.proofs.of_globals.Channelled.{channelled_is}
 use Rattle.fz_reasons.specs.Elements.{IsInNoSet, IsNoIndexOf}
 use Rattle.fz_reasons.proofs.Lists.{and_false}
 use Rattle.fz_reasons.proofs.Misplaced.{not_same}

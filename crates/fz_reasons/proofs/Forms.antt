@@ -8,7 +8,7 @@ use Rattle.fz_builtins.specs.of_meaning.Known.{form_at}
 use Rattle.fz_builtins.specs.of_meaning.Meaning.{Argument, Partial}
 use Rattle.fz_builtins.specs.Outcomes.{compared, implied_by, row_outcome}
 use Rattle.fz_builtins.specs.declared.outcome.Outcome.TheVariants.{Truth}
-use Rattle.fz_model.proofs.FormOutcomes.{implied_outcome, reified_outcome}
+use Rattle.fz_builtins.proofs.FormOutcomes.{implied_outcome, reified_outcome}
 use Rattle.fz_reasons.specs.Forms.{FormsFail, IsAsked, IsForbidden, control}
 use Rattle.fz_reasons.specs.declared.reason.Why.TheVariants as whys
 use Rattle.fz_reasons.proofs.Fails.{fails}

@@ -1,3 +1,4 @@
+pub mod Gaps
 pub mod Lists
 pub mod Numbers
 pub mod Turning
@@ -8,7 +9,9 @@ pub mod Channels
 pub mod Scheduled
 pub mod Durations
 pub mod Ordered
+pub mod Indexed
 pub mod Flags
+pub mod Referring
 pub mod SetRows
 pub mod Failing
 pub mod Touring

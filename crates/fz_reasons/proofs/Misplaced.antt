@@ -22,6 +22,12 @@ not_same s t q other = by (contains s q) (contains t q) refl refl other
     by true false e f o = ap (λ x. x && is_subset t s) (not_within s t q e f)
     by false true e f o = ap (λ x. is_subset s t && x) (not_within t s q f e) ∙ and_false (is_subset s t)
 
+pub turned : (a b : Bool) → (a =ᴮ b) ≡ false → (b =ᴮ a) ≡ false
+turned true true e = e
+turned true false e = e
+turned false true e = e
+turned false false e = e
+
 module _ (a b c : NumberSet) (q : ℤ) where
   pub no_union : (contains c q =ᴮ (contains a q || contains b q)) ≡ false → (c =ˢ union a b) ≡ false
   no_union e = not_same c (union a b) q (ap (λ x. contains c q =ᴮ x) (contains-union int_cmp_total a b q) ∙ e)

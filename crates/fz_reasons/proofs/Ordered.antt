@@ -12,14 +12,15 @@ use Rattle.fz_builtins.specs.of_meaning.Builtins.{row_at}
 use Rattle.fz_builtins.specs.of_meaning.Meaning.{Argument, Partial}
 use Rattle.fz_builtins.specs.Outcomes.{row_outcome}
 use Rattle.fz_builtins.specs.declared.outcome.Outcome.TheVariants as outcomes
-use Rattle.fz_builtins.specs.of_meaning.Relations.{◌=ℤ◌, as_number, as_places, element_at, is_before, is_same_list, leads_back, lies_between, precedes, rises_by_one}
+use Rattle.fz_builtins.specs.of_meaning.Relations.{◌=ℤ◌, as_number, as_places, element_at, is_before, is_same_list, leads_back, lies_between, precedes, precedes_in_sets, refer_back, rises_by_one}
 use Rattle.fz_builtins.specs.of_kernel.Given.{bools_at, int_at, ints_at, set_at, sets_at}
 use Rattle.fz_reasons.specs.Elements.{IsEarly, IsOneWay, agree, comes_before, differ}
 use Rattle.fz_reasons.specs.Reasons.{ComesEarly, Differs, Ends, IsNearRow, LeadsOneWay, Stops}
-use Rattle.fz_globals.proofs.Ascending.{form_is}
+use Rattle.fz_builtins.proofs.of_globals.Ascending.{form_is}
 use Rattle.fz_reasons.proofs.Channels.{in_no_set, no_index_of}
 use Rattle.fz_reasons.proofs.Lists.{and_false, neighbours_fail}
 use Rattle.fz_reasons.proofs.Numbers.{comes_too_early}
+use Rattle.fz_reasons.proofs.Referring.{not_back, set_too_early}
 use Rattle.fz_reasons.proofs.Truths.{truths_before}
 use Rattle.fz_reasons.proofs.Turning.{decides, leads_off, stops}
 use Rattle.fz_reasons.specs.declared.reason.Difference.{Difference}
@@ -119,6 +120,8 @@ early_fails builtin.FznValuePrecedeInt K xs e h =
     ap outcomes.Truth ((λ i. precedes (sym h.1 i) (sym h.2 i) (ints_at K xs 2)) ∙ early (ints_at K xs 2) e h.0)
 early_fails builtin.GecodePrecede K xs e h =
     ap outcomes.Truth ((λ i. precedes (sym h.1 i) (sym h.2 i) (ints_at K xs 0)) ∙ early (ints_at K xs 0) e h.0)
+early_fails builtin.GecodePrecedeSet K xs e h =
+    ap outcomes.Truth ((λ i. precedes_in_sets (sym h.1 i) (sym h.2 i) (sets_at K xs 0)) ∙ set_too_early (sets_at K xs 0) e h.0)
 early_fails builtin.FznValuePrecedeChainInt K xs e h =
     let elements = ints_at K xs 1 in
     ap outcomes.Truth (neighbours_fail (λ s t. precedes s t elements) (ints_at K xs 0) h.link e.before e.value h.before h.value (early elements e h.early))
@@ -162,6 +165,13 @@ one_way_fails builtin.GecodeIntSetChannel true K xs w h =
     ap outcomes.Truth (in_no_set (ints_at K xs 0) (int_at K xs 1) (sets_at K xs 2) (int_at K xs 3) w h)
 one_way_fails builtin.GecodeIntSetChannel false K xs w h =
     ap outcomes.Truth (no_index_of (ints_at K xs 0) (int_at K xs 1) (sets_at K xs 2) (int_at K xs 3) w h)
+one_way_fails builtin.GecodeInverseSet true K xs w h =
+    ap (λ s. outcomes.Truth (s && refer_back (int_at K xs 3) (sets_at K xs 1) (int_at K xs 2) (sets_at K xs 0)))
+    (not_back (sets_at K xs 0) (int_at K xs 2) (sets_at K xs 1) (int_at K xs 3) w h)
+one_way_fails builtin.GecodeInverseSet false K xs w h =
+    let front = refer_back (int_at K xs 2) (sets_at K xs 0) (int_at K xs 3) (sets_at K xs 1) in
+    ap (λ s. outcomes.Truth (front && s)) (not_back (sets_at K xs 1) (int_at K xs 3) (sets_at K xs 0) (int_at K xs 2) w h)
+    ∙ ap outcomes.Truth (and_false front)
 one_way_fails b first K xs w h = absurd h
 
 pub no_step_fails : (b : Builtin) (K : Partial) (xs : List Argument) (n : NoStep) → Stops b K xs n

@@ -39,6 +39,9 @@ overlap_fails builtin.FznDisjunctiveStrict K xs o h =
     (pair_fails are_apart tasks o.one o.other (span o.first) (span o.second) h.order
     (stretched (ints_at K xs 0) (ints_at K xs 1) o.one o.first h.first) (stretched (ints_at K xs 0) (ints_at K xs 1) o.other o.second h.second) h.unlike)
     ∙ ap outcomes.Truth (and_false (last_naturally tasks))
+overlap_fails builtin.GecodeScheduleUnary K xs o h =
+    ap outcomes.Truth (pair_fails are_apart (zip (ints_at K xs 0) (ints_at K xs 1)) o.one o.other (span o.first) (span o.second) h.order
+    (stretched (ints_at K xs 0) (ints_at K xs 1) o.one o.first h.first) (stretched (ints_at K xs 0) (ints_at K xs 1) o.other o.second h.second) h.unlike)
 overlap_fails b K xs o h = absurd h
 
 module _ (x y width height : List ℤ) (t : Boxes) (h : AreBoxes x y width height t) where

@@ -18,7 +18,9 @@ use Rattle.fz_builtins.proofs.of_meaning.Values.{and_first, and_second, no}
 use Rattle.fz_reasons.specs.Reasons.{IsMisplaced, in_sets, is_misplaced}
 use Rattle.fz_reasons.specs.Elements.{IsShared}
 use Rattle.fz_reasons.proofs.Flags.{not_flagged}
+use Rattle.fz_reasons.proofs.Gaps.{has_gap}
 use Rattle.fz_reasons.proofs.Lists.{and_false, pair_fails}
+use Rattle.fz_reasons.proofs.Referring.{in_union, no_chosen_union}
 use Rattle.fz_reasons.proofs.Misplaced.{no_difference, no_intersection, no_symmetric_difference, no_union, not_disjoint, not_same, not_within}
 use Rattle.fz_reasons.specs.declared.reason.Clash.{Clash}
 use Rattle.fz_reasons.specs.declared.reason.Member.{Member}
@@ -40,12 +42,6 @@ no_element : (o : Option NumberSet) (c : NumberSet) (q : ℤ)
     → option_map_or (λ s. s =ˢ c) o false ≡ false
 no_element None c q e = refl
 no_element (Some s) c q e = not_same s c q e
-
-in_union : (ss : List NumberSet) (q : ℤ)
-    → sets.contains (union_of ss) q ≡ list_any (λ s. sets.contains s q) ss
-in_union [] q = sets.contains-empty int_cmp q
-in_union (s ∷ ss) q =
-    sets.contains-union int_cmp_total s (union_of ss) q ∙ ap (λ t. sets.contains s q || t) (in_union ss q)
 
 no_whole : (ss : List NumberSet) (w : NumberSet) (q : ℤ)
     → (list_any (λ s. sets.contains s q) ss =ᴮ sets.contains w q) ≡ false → is_partition ss w ≡ false
@@ -78,7 +74,9 @@ by_place builtin.SetIntersect K xs q e = ap outcomes.Truth (no_intersection (set
 by_place builtin.SetDiff K xs q e = ap outcomes.Truth (no_difference (set_at K xs 0) (set_at K xs 1) (set_at K xs 2) q (is_false _ e))
 by_place builtin.SetSymdiff K xs q e = ap outcomes.Truth (no_symmetric_difference (set_at K xs 0) (set_at K xs 1) (set_at K xs 2) q (is_false _ e))
 by_place builtin.FznDisjoint K xs q e = ap outcomes.Truth (not_disjoint (set_at K xs 0) (set_at K xs 1) q (and_first _ _ e) (and_second (sets.contains (set_at K xs 0) q) _ e))
+by_place builtin.SetConvex K xs q e = ap outcomes.Truth (has_gap (set_at K xs 0) q e)
 by_place builtin.ArraySetElement K xs q e = ap outcomes.Truth (no_element (element_at (sets_at K xs 1) (int_at K xs 0)) (set_at K xs 2) q (is_false _ e))
+by_place builtin.GecodeArraySetElementUnion K xs q e = ap outcomes.Truth (no_chosen_union (set_at K xs 0) (sets_at K xs 1) (set_at K xs 2) q e)
 by_place builtin.FznPartitionSet K xs q e = ap outcomes.Truth (no_whole (sets_at K xs 0) (set_at K xs 1) q (is_false _ e))
 by_place builtin.GecodeLinkSetToBooleans K xs q e = ap outcomes.Truth (not_flagged (set_at K xs 0) (bools_at K xs 1) (int_at K xs 2) q (is_false _ e))
 by_place b K xs q e = no e

@@ -1,11 +1,11 @@
 -- Lists of successors that make no tour.
-use Rattle.std.proofs.Common.{◌≡◌, ℕ, suc, zero, ◌+◌, ◌-◌, ◌<◌, ◌≤◌, ℤ, pos, negsuc, ◌+ℤ◌, ◌-ℤ◌, Bool, true, false, not, ◌&&◌, List, [], ◌∷◌, length, Option, Some, None, nat_eq, option_map, option_and_then, refl, sym, ap, ◌∙◌, arith}
+use Rattle.std.proofs.Common.{◌≡◌, ℕ, suc, zero, ◌+◌, ◌-◌, ◌<◌, ◌≤◌, ℤ, pos, negsuc, ◌+ℤ◌, ◌-ℤ◌, true, false, not, ◌&&◌, List, [], ◌∷◌, length, Option, Some, None, nat_eq, option_map, option_and_then, refl, sym, ap, ◌∙◌, arith}
 use Rattle.std.specs.Option.{option_map_or}
 use Rattle.fz_base.proofs.Covers.{and-false}
 use Rattle.fz_builtins.specs.of_meaning.Relations.{◌=ℤ◌, all_different, are_places, as_places, element_at, end_of_tour, is_circuit, is_one_tour, is_subcircuit, moved_from, tour}
 use Rattle.fz_builtins.proofs.of_meaning.Values.{same_int}
-use Rattle.fz_globals.proofs.Led.{different_places}
-use Rattle.fz_globals.proofs.Walked.{back_early, tour_from}
+use Rattle.fz_builtins.proofs.of_globals.Led.{different_places}
+use Rattle.fz_builtins.proofs.of_globals.Walked.{back_early, tour_from}
 use Rattle.fz_reasons.specs.Tours.{IsShortRing, LeavesOut}
 use Rattle.fz_reasons.specs.declared.arrangement.Ring.{Ring}
 
@@ -76,14 +76,6 @@ one_taken f n k p more = let one : n - k ≡ suc (n - (k + 1)) = omega arith in 
 
 pub all_taken : (f : List ℤ) (n k : ℕ) (p : ℤ) → n ≤ k → end_of_tour f (n - k) p ≡ Some p
 all_taken f n k p end = let none : n - k ≡ 0 = omega arith in ap (λ m. end_of_tour f m p) none
-
-pub not_true : (b : Bool) → not b ≡ true → b ≡ false
-not_true true e = sym e
-not_true false e = refl
-
-pub not_false : (b : Bool) → not b ≡ false → b ≡ true
-not_false true e = refl
-not_false false e = sym e
 
 pub went_on : (f : List ℤ) (n k : ℕ) (p q : ℤ) (whole : Option ℤ) → whole ≡ end_of_tour f (n - k) p
     → k < n → Some q ≡ element_at f p → whole ≡ end_of_tour f (n - (k + 1)) q

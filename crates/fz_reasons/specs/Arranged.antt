@@ -7,8 +7,8 @@ use Rattle.fz_builtins.specs.of_meaning.declared.builtin.Builtin.{Builtin}
 use Rattle.fz_builtins.specs.of_meaning.declared.builtin.Builtin.TheVariants as builtin
 use Rattle.fz_builtins.specs.of_meaning.Builtins.{row_at}
 use Rattle.fz_builtins.specs.of_meaning.Meaning.{Argument, Partial}
-use Rattle.fz_builtins.specs.of_meaning.Relations.{as_places}
-use Rattle.fz_builtins.specs.of_kernel.Given.{int_at, ints_at, read_leave, sets_at}
+use Rattle.fz_builtins.specs.of_meaning.Relations.{as_places, marks}
+use Rattle.fz_builtins.specs.of_kernel.Given.{int_at, ints_at, read_leave, set_at, sets_at}
 use Rattle.fz_reasons.specs.Loads.{HasOtherLoad, IsOtherRun, IsOtherTotal}
 use Rattle.fz_reasons.specs.Places.{IsNoIndex}
 use Rattle.fz_reasons.specs.Tours.{IsShortRing, LeavesOut}
@@ -61,6 +61,9 @@ HasProfit b K xs t = ⊥
 abbrev pub HasRun : Builtin → Partial → List Argument → Run → Type 0
 HasRun builtin.FznSlidingSum K xs r =
     IsOtherRun (int_at K xs 0) (int_at K xs 1) (int_at K xs 2) (ints_at K xs 3) r
+HasRun builtin.GecodeAmongSeqInt K xs r =
+    IsOtherRun (int_at K xs 3) (int_at K xs 4) (int_at K xs 2)
+    (marks (set_at K xs 1) (ints_at K xs 0)) r
 HasRun b K xs r = ⊥
 
 unfoldable pub SaysArranged : Builtin → Partial → List Argument → Arrangement → Type 0

@@ -5,7 +5,7 @@ use Rattle.std.specs.List.Sorted.{IsSorted, IsPermutation}
 use Rattle.std.specs.Ordering.{int_cmp}
 use Rattle.std.specs.FinSet as sets
 use Rattle.std.specs.Option.{option_map_or}
-use Rattle.fz_builtins.specs.of_meaning.Relations.{◌=ℤ◌, Span, are_apart, count_of, element_at, is_among, load_of, run, step, used_at}
+use Rattle.fz_builtins.specs.of_meaning.Relations.{◌=ℤ◌, Span, are_apart, count_of, element_at, has_only, is_among, load_of, run, step, used_at}
 use Rattle.fz_base.specs.Sets.{NumberSet}
 use Rattle.fz_reasons.specs.Relating.{relates}
 use Rattle.fz_reasons.specs.declared.reason.Relation.{Relation}
@@ -149,6 +149,12 @@ pub record IsEarly (xs : List ℤ) (e : Early) : Type 0 where
   pub there : slice_get xs e.place ≡ Some e.value
   pub none : (k : ℕ) → k < e.place → slice_get xs k ≡ Some e.before → ⊥
 
+-- the set at the index has the value alone, and none before it has the other alone
+pub record IsEarlySet (ss : List NumberSet) (e : Early) : Type 0 where
+  pub there : option_map_or (has_only e.value e.before) (slice_get ss e.place) false ≡ true
+  pub none : (k : ℕ) → k < e.place
+      → option_map_or (has_only e.before e.value) (slice_get ss k) false ≡ false
+
 -- a value of a chain comes where the one before it in the chain doesn't come before it
 pub record IsEarlyInChain (chain xs : List ℤ) (e : Early) : Type 0 where
   pub link : ℕ
@@ -178,6 +184,14 @@ pub record IsNoIndexOf (ss : List NumberSet) (so : ℤ) (xs : List ℤ) (xo : �
   pub there : option_map_or (λ s. sets.contains s w.value) (slice_get ss w.place) false ≡ true
   pub back : element_at xs ((w.value -ℤ xo) +ℤ pos 1) ≡ w.back
   pub other : option_map_or (λ y. ((y -ℤ so) +ℤ pos 1) =ℤ pos (suc w.place)) w.back false ≡ false
+
+-- an element of a set isn't the index of a set that has the set's own index
+pub record IsNotBack (ss : List NumberSet) (so : ℤ) (ts : List NumberSet) (to' : ℤ) (w : OneWay)
+    : Type 0 where
+  pub there : option_map_or (λ s. sets.contains s w.value) (slice_get ss w.place) false ≡ true
+  pub back : w.back ≡ None
+  pub none : option_map_or (λ t. sets.contains t (so +ℤ pos w.place))
+      (element_at ts ((w.value -ℤ to') +ℤ pos 1)) false ≡ false
 
 pub record HasNoStep (xs : List ℤ) (states symbols : ℤ) (d : List ℤ) (first : ℤ) (n : NoStep)
     : Type 0 where

@@ -12,14 +12,14 @@ use Rattle.fz_builtins.specs.of_meaning.declared.kind.Kind.TheVariants.{Int as I
 use Rattle.fz_builtins.specs.of_meaning.Builtins.{row_at}
 use Rattle.fz_builtins.specs.of_meaning.Meaning.{Argument, Partial}
 use Rattle.fz_builtins.specs.of_meaning.declared.term.Term.{Term}
-use Rattle.fz_builtins.specs.of_meaning.Relations.{◌=ℤ◌, ◌=ᴮ◌, ◌=ˢ◌, Span, as_number, element_at, is_among, is_natural, is_nonzero, is_odd, is_row_of, lies_between, run}
+use Rattle.fz_builtins.specs.of_meaning.Relations.{◌=ℤ◌, ◌=ᴮ◌, ◌=ˢ◌, Span, as_number, chosen, element_at, is_among, is_natural, is_nonzero, is_odd, is_row_of, lies_between, run}
 use Rattle.fz_builtins.specs.of_kernel.Given.{bool_at, bools_at, bools_of, int_at, ints_at, ints_of, set_at, sets_at, slots_at}
 use Rattle.fz_builtins.specs.Outcomes.{row_outcome}
 use Rattle.fz_builtins.specs.declared.outcome.Outcome.TheVariants as outcomes
 use Rattle.fz_builtins.specs.Said.{HasResult, is_result, row_with}
 use Rattle.fz_reasons.specs.Arranged.{AddsUp, SaysArranged}
 use Rattle.fz_reasons.specs.Compared.{comparison, leave, operands}
-use Rattle.fz_reasons.specs.Elements.{AreBoxes, AreUnlike, BothLast, HasNoStep, IsBin, IsClash, IsCount, IsDifference, IsDifferentRow, IsEarly, IsEarlyInChain, IsInNoSet, IsLoad, IsNoIndexOf, IsOneWay, IsOutside, IsOverlap, IsShared, IsUnsorted, agree, comes_before}
+use Rattle.fz_reasons.specs.Elements.{AreBoxes, AreUnlike, BothLast, HasNoStep, IsBin, IsClash, IsCount, IsDifference, IsDifferentRow, IsEarly, IsEarlyInChain, IsEarlySet, IsInNoSet, IsLoad, IsNoIndexOf, IsNotBack, IsOneWay, IsOutside, IsOverlap, IsShared, IsUnsorted, agree, comes_before}
 use Rattle.fz_reasons.specs.Relating.{relates}
 use Rattle.fz_reasons.specs.declared.reason.ElementKind.{ElementKind}
 use Rattle.fz_reasons.specs.declared.reason.ElementKind.TheVariants as kinds
@@ -183,6 +183,7 @@ naturals builtin.FznKnapsack of.Number K xs = ints_at K xs 2
 naturals builtin.FznKnapsack of.Weight K xs = int_at K xs 3 ∷ []
 naturals builtin.FznKnapsack of.Profit K xs = int_at K xs 4 ∷ []
 naturals builtin.FznSlidingSum of.Width K xs = int_at K xs 2 ∷ []
+naturals builtin.GecodeAmongSeqInt of.Width K xs = int_at K xs 2 ∷ []
 naturals b q K xs = []
 
 pub record IsNegative (b : Builtin) (K : Partial) (xs : List Argument) (n : Negative) : Type 0 where
@@ -194,6 +195,7 @@ abbrev pub Overlaps : Builtin → Partial → List Argument → Overlap → Type
 Overlaps builtin.FznDisjunctive K xs o =
     IsOverlap (ints_at K xs 0) (ints_at K xs 1) o × BothLast o
 Overlaps builtin.FznDisjunctiveStrict K xs o = IsOverlap (ints_at K xs 0) (ints_at K xs 1) o
+Overlaps builtin.GecodeScheduleUnary K xs o = IsOverlap (ints_at K xs 0) (ints_at K xs 1) o
 Overlaps b K xs o = ⊥
 
 -- two boxes that overlap
@@ -241,6 +243,8 @@ ComesEarly builtin.FznValuePrecedeInt K xs e =
     IsEarly (ints_at K xs 2) e × (e.before ≡ int_at K xs 0) × (e.value ≡ int_at K xs 1)
 ComesEarly builtin.GecodePrecede K xs e =
     IsEarly (ints_at K xs 0) e × (e.before ≡ int_at K xs 1) × (e.value ≡ int_at K xs 2)
+ComesEarly builtin.GecodePrecedeSet K xs e =
+    IsEarlySet (sets_at K xs 0) e × (e.before ≡ int_at K xs 1) × (e.value ≡ int_at K xs 2)
 ComesEarly builtin.FznValuePrecedeChainInt K xs e =
     IsEarlyInChain (ints_at K xs 0) (ints_at K xs 1) e
 ComesEarly builtin.FznSeqPrecedeChainInt K xs e =
@@ -259,6 +263,10 @@ LeadsOneWay builtin.GecodeIntSetChannel true K xs w =
     IsInNoSet (ints_at K xs 0) (int_at K xs 1) (sets_at K xs 2) (int_at K xs 3) w
 LeadsOneWay builtin.GecodeIntSetChannel false K xs w =
     IsNoIndexOf (sets_at K xs 2) (int_at K xs 3) (ints_at K xs 0) (int_at K xs 1) w
+LeadsOneWay builtin.GecodeInverseSet true K xs w =
+    IsNotBack (sets_at K xs 0) (int_at K xs 2) (sets_at K xs 1) (int_at K xs 3) w
+LeadsOneWay builtin.GecodeInverseSet false K xs w =
+    IsNotBack (sets_at K xs 1) (int_at K xs 3) (sets_at K xs 0) (int_at K xs 2) w
 LeadsOneWay b first K xs w = ⊥
 
 abbrev pub Stops : Builtin → Partial → List Argument → NoStep → Type 0
@@ -296,19 +304,32 @@ is_misplaced builtin.SetIntersect x y z = not (z =ᴮ (x && y))
 is_misplaced builtin.SetDiff x y z = not (z =ᴮ (x && not y))
 is_misplaced builtin.SetSymdiff x y z = not (z =ᴮ not (x =ᴮ y))
 is_misplaced builtin.FznDisjoint x y z = x && y
+is_misplaced builtin.SetConvex x y z = x && not y && z
 is_misplaced builtin.ArraySetElement x y z = not (x =ᴮ y)
+is_misplaced builtin.GecodeArraySetElementUnion x y z = not (x =ᴮ y) || z
 is_misplaced builtin.FznPartitionSet x y z = not (x =ᴮ y)
 is_misplaced builtin.GecodeLinkSetToBooleans x y z = not (x =ᴮ y)
 is_misplaced b x y z = false
 
--- in which of the sets that the row compares a number is: in the element at the index, and in the
--- set; in one of the sets, and in the whole; in the set, and among the indices of what is true; or
--- in its arguments
+-- in which of the sets that the row compares a number is: above an element of the set, in the set,
+-- and below an element; in the element at the index, and in the set; in one of the chosen sets, in
+-- the set, and in the first but no index; in one of the sets, and in the whole; in the set, and
+-- among the indices of what is true; or in its arguments
 abbrev pub in_sets : Builtin → Partial → List Argument → ℤ → Bool × Bool × Bool
+in_sets builtin.SetConvex K xs q = (
+  list_any (λ x. int_lt x q) (sets.items (set_at K xs 0)),
+  sets.contains (set_at K xs 0) q,
+  list_any (λ x. int_lt q x) (sets.items (set_at K xs 0)),
+)
 in_sets builtin.ArraySetElement K xs q = (
   option_map_or (λ s. sets.contains s q) (element_at (sets_at K xs 1) (int_at K xs 0)) false,
   sets.contains (set_at K xs 2) q,
   false,
+)
+in_sets builtin.GecodeArraySetElementUnion K xs q = (
+  list_any (λ s. sets.contains s q) (chosen (pos 1) (sets_at K xs 1) (set_at K xs 0)),
+  sets.contains (set_at K xs 2) q,
+  sets.contains (set_at K xs 0) q && not (lies_between (pos 1) (pos (length (sets_at K xs 1))) q),
 )
 in_sets builtin.FznPartitionSet K xs q =
     (list_any (λ s. sets.contains s q) (sets_at K xs 0), sets.contains (set_at K xs 1) q, false)

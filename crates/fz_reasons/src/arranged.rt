@@ -30,7 +30,13 @@ pub(crate) fn by_arrangement(builtin: Builtin, view: &ArgumentView<'_, '_>) -> O
         Builtin::FznKnapsack => knapsack(view),
         Builtin::FznSlidingSum => {
             let (low, high, count) = (view.int(0), view.int(1), view.int(2));
-            Some(Arrangement::Run(other_run(low, high, count, &view.elements(3))?))
+            let xs = &view.elements(3);
+            Some(Arrangement::Run(other_run(low, high, count, None, xs)?))
+        }
+        Builtin::GecodeAmongSeqInt => {
+            let (low, high, count) = (view.int(3), view.int(4), view.int(2));
+            let (counted, xs) = (Some(view.set(1)), &view.elements(0));
+            Some(Arrangement::Run(other_run(low, high, count, counted, xs)?))
         }
         Builtin::ArraySetElement => Some(Arrangement::NoIndex(no_set_index(view)?)),
         _ => None,

@@ -51,9 +51,28 @@ pub(crate) fn arrangement_text(
         Arrangement::Profit(Total { total, wanted }) => {
             format!(in alloc; "the profit is {total}, not {wanted}")
         }
-        Arrangement::Run(Run { place, count, sum }) => {
+        Arrangement::Run(run) => run_text(alloc, builtin, view, run),
+    }
+}
+
+/// What a run of elements adds up to, or how many of them are in the set.
+fn run_text(
+    alloc: Global,
+    builtin: Builtin,
+    view: &ArgumentView<'_, '_>,
+    run: Run,
+) -> Result<String, AllocError> {
+    let Run { place, count, sum } = run;
+    let (one, last) = (from_one(place), place.saturating_add(count));
+    match builtin {
+        Builtin::GecodeAmongSeqInt => {
+            let (low, high) = (view.int(3), view.int(4));
+            format!(in alloc;
+                "of elements {one} to {last} {sum} are in the set, not from {low} to {high}"
+            )
+        }
+        _ => {
             let (low, high) = (view.int(0), view.int(1));
-            let (one, last) = (from_one(place), place.saturating_add(count));
             format!(in alloc; "elements {one} to {last} add up to {sum}, not from {low} to {high}")
         }
     }

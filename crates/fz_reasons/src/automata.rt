@@ -15,7 +15,7 @@ use crate::reason::{ElementKind, NearRow, NoStep, Reason};
 use fz_builtins::fz_globals::tables::{is_bool_row, is_int_row};
 use fz_builtins::fz_kernel::{ArgumentView, Elements};
 use fz_builtins::fz_meaning::Builtin;
-use fz_scheduling::words::next_state;
+use fz_builtins::fz_scheduling::words::next_state;
 use std::alloc::{AllocError, Global};
 
 /// The symbol that has no step or the state in which the automaton ends; or the row of the table

@@ -3,13 +3,13 @@
 use crate::arrangement_words::arrangement_text;
 use crate::readings::element_kind;
 use crate::reason::{
-    Difference, ElementKind, Load, Member, Negative, Neighbours, OneWay, Overlap, Quantity, Reason,
-    Sides, Stretch,
+    Difference, Early, ElementKind, Load, Member, Negative, Neighbours, OneWay, Overlap, Quantity,
+    Reason, Sides, Stretch,
 };
 use crate::words::{comes_text, sign, value_text};
 use fz_builtins::fz_kernel::ArgumentView;
 use fz_builtins::fz_meaning::Builtin;
-use fz_scheduling::runs_at;
+use fz_builtins::fz_scheduling::runs_at;
 use std::alloc::{AllocError, Global};
 
 /// The most tasks that are listed.
@@ -55,10 +55,7 @@ pub(crate) fn of_elements(
             }
         }
         Reason::Difference(found) => difference_text(alloc, builtin, found),
-        Reason::Early(found) => {
-            let (place, value, before) = (from_one(found.place), found.value, found.before);
-            format!(in alloc; "element {place} is {value}, and none before it is {before}")
-        }
+        Reason::Early(found) => early_text(alloc, builtin, found),
         _ => of_tasks(alloc, builtin, view, reason),
     }
 }
@@ -114,6 +111,18 @@ fn difference_text(
             format!(in alloc; "the first list ends before element {place}, the second goes on")
         }
         (None, None) => String::from_str(alloc, "the lists are the same"),
+    }
+}
+
+fn early_text(alloc: Global, builtin: Builtin, found: Early) -> Result<String, AllocError> {
+    let (place, value, before) = (from_one(found.place), found.value, found.before);
+    match builtin {
+        Builtin::GecodePrecedeSet => {
+            format!(in alloc;
+                "set {place} has {value} without {before}, none before it {before} without {value}"
+            )
+        }
+        _ => format!(in alloc; "element {place} is {value}, and none before it is {before}"),
     }
 }
 
@@ -259,12 +268,12 @@ fn one_way_text(
             }
         }
         _ => {
-            let (place, list) = (
-                from_one(found.place),
-                if found.of_first { "first" } else { "second" },
-            );
+            let place = from_one(found.place);
+            let list = if found.of_first { "first" } else { "second" };
+            let is_set = builtin == Builtin::GecodeInverseSet;
+            let verb = if is_set { "has" } else { "is" };
             format!(in alloc;
-                "element {place} of the {list} list is {value}, which doesn't lead back"
+                "element {place} of the {list} list {verb} {value}, which doesn't lead back"
             )
         }
     }
@@ -279,6 +288,7 @@ fn member_text(alloc: Global, builtin: Builtin, member: Member) -> Result<String
         third,
     } = member;
     let (first, second, third) = (is_in(first), is_in(second), is_in(third));
+    let one = if member.first { "in one" } else { "in none" };
     match builtin {
         Builtin::SetUnion | Builtin::SetIntersect | Builtin::SetDiff | Builtin::SetSymdiff => {
             format!(in alloc;
@@ -288,13 +298,19 @@ fn member_text(alloc: Global, builtin: Builtin, member: Member) -> Result<String
         Builtin::ArraySetElement => {
             format!(in alloc; "{number} is {first} the element and {second} the set")
         }
+        Builtin::SetConvex => {
+            format!(in alloc;
+                "{number} isn't in the set, which has a lesser number and a greater one"
+            )
+        }
+        Builtin::GecodeArraySetElementUnion if member.third => {
+            format!(in alloc; "{number} is in the first, and no index")
+        }
+        Builtin::GecodeArraySetElementUnion => {
+            format!(in alloc; "{number} is {one} of the chosen sets and {second} the third")
+        }
         Builtin::FznPartitionSet => {
-            let sets = if member.first {
-                "in one of the sets"
-            } else {
-                "in none of the sets"
-            };
-            format!(in alloc; "{number} is {sets} and {second} the whole")
+            format!(in alloc; "{number} is {one} of the sets and {second} the whole")
         }
         Builtin::GecodeLinkSetToBooleans => {
             let truth = if member.second { "is" } else { "isn't" };

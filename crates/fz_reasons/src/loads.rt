@@ -1,17 +1,19 @@
 //! The loads of bins, the totals of knapsacks, and the sums of runs of neighbours.
 
-ghost use Rattle.std.specs.Prelude.{◌≡◌, ◌+◌, ◌<◌, ◌≤◌, pos, IfSome, drop, length, take};
+ghost use Rattle.std.specs.Prelude.{◌≡◌, ◌+◌, ◌<◌, ◌≤◌, pos, IfSome, drop, length, option_map, take};
 ghost use Rattle.fz_builtins.specs.of_meaning.Relations.{total};
 ghost use Rattle.fz_builtins.specs.of_kernel.Views.{ints};
-ghost use Rattle.fz_scheduling.specs.Places.{number_at};
+ghost use Rattle.fz_builtins.specs.of_scheduling.Places.{terms};
 ghost use Rattle.fz_reasons.specs.Loads.{HasOtherLoad, IsOtherRun, IsOtherTotal};
 
 use crate::arrangement::{BinLoad, Run, Total};
 use crate::places::lies_between;
 use crate::readings::number_count;
+use fz_base::IntSet;
 use fz_builtins::fz_kernel::Elements;
 use fz_builtins::fz_kernel::arrays::sum_of_products;
-use fz_scheduling::bins::load_of;
+use fz_builtins::fz_scheduling::bins::load_of;
+use fz_builtins::fz_scheduling::slides::term_at;
 
 /// The first bin, from `first` on, that has another load than the one that is given for it.
 pub(crate) fn other_load(
@@ -39,17 +41,6 @@ pub(crate) fn other_load(
     None
 }
 
-// The number at an index; 0 past the end.
-fn number_or_zero(elements: &Elements, place: usize) -> i64
-    ensures { result ≡ number_at (ints elements.now) place }
-{
-    if place < elements.len() {
-        elements.int(place)
-    } else {
-        0
-    }
-}
-
 /// The sum of products, where it is another number; none where it leaves 128 bits.
 pub(crate) fn other_total(weights: &Elements, numbers: &Elements, wanted: i64) -> Option<Total>
     ensures { IfSome result (IsOtherTotal (ints weights.now) (ints numbers.now) wanted) }
@@ -62,13 +53,21 @@ pub(crate) fn other_total(weights: &Elements, numbers: &Elements, wanted: i64) -
     }
 }
 
-/// The first run of `count` neighbours, more than none, whose sum isn't from `low` to `high`.
-pub(crate) fn other_run(low: i64, high: i64, count: i64, xs: &Elements) -> Option<Run>
-    ensures { IfSome result (IsOtherRun low high count (ints xs.now)) }
+/// The first run of `count` neighbours, more than none, whose sum isn't from `low` to `high`. Where
+/// there is a set to count in, an element counts 1 if it is in the set, and else 0.
+pub(crate) fn other_run(
+    low: i64,
+    high: i64,
+    count: i64,
+    counted: Option<&IntSet>,
+    xs: &Elements,
+) -> Option<Run>
+    ensures { IfSome result (IsOtherRun low high count
+        (terms (option_map (λ s. s.now) counted.entry) (ints xs.now))) }
 {
     let width = width_of(count)?;
     for place in 0..number_count(xs).saturating_sub(width - 1) {
-        let sum = sum_of(xs, place, width);
+        let sum = sum_of(counted, xs, place, width);
         if !lies_between(i128::from(low), i128::from(high), sum) {
             return Some(Run {
                 place,
@@ -92,13 +91,16 @@ fn width_of(count: i64) -> Option<usize>
 }
 
 // The sum of a run. No array is long enough for it to leave 128 bits.
-fn sum_of(xs: &Elements, start: usize, width: usize) -> i128
+fn sum_of(counted: Option<&IntSet>, xs: &Elements, start: usize, width: usize) -> i128
     requires { start + width ≤ length (ints xs.now) }
-    ensures { total (take width (drop start (ints xs.now))) ≡ result }
+    ensures sum { total (take width (drop start
+        (terms (option_map (λ s. s.now) counted.entry) (ints xs.now)))) ≡ result }
+    ensures within { start + width
+        ≤ length (terms (option_map (λ s. s.now) counted.entry) (ints xs.now)) }
 {
     let mut sum: i128 = 0;
     for place in 0..width {
-        sum += i128::from(number_or_zero(xs, start + place));
+        sum += i128::from(term_at(counted, xs, start + place));
     }
     sum
 }

@@ -1,17 +1,18 @@
 //! A number that is in one set and not in another.
 
-ghost use Rattle.std.specs.Prelude.{◌≡◌, ◌+ℤ◌, ◌-ℤ◌, pos, IfOk, IfSome, false};
+ghost use Rattle.std.specs.Prelude.{◌≡◌, int_lt, ◌+ℤ◌, ◌-ℤ◌, pos, IfOk, IfSome, false};
 ghost use Rattle.std.specs.FinSet as number_sets;
 ghost use Rattle.std.specs.List.{list_any};
 ghost use Rattle.std.specs.Option.{option_map_or};
-ghost use Rattle.fz_builtins.specs.of_meaning.Relations.{element_at};
+ghost use Rattle.fz_builtins.specs.of_meaning.Relations.{chosen, element_at};
 ghost use Rattle.fz_builtins.specs.of_kernel.Views.{arguments_of, assigned, sets};
 ghost use Rattle.fz_builtins.specs.Readings.{int, sets_of, truths};
 ghost use Rattle.fz_reasons.specs.Reasons.{IsMisplaced, Says, in_sets, is_misplaced};
 
+use crate::places::lies_between;
 use crate::reason::{Member, Reason};
 use fz_base::IntSet;
-use fz_builtins::fz_globals::place_from;
+use fz_builtins::fz_globals::{has, index_at, place_from};
 use fz_builtins::fz_kernel::arrays::set_element;
 use fz_builtins::fz_kernel::sets::same_set;
 use fz_builtins::fz_kernel::{ArgumentView, Elements};
@@ -42,7 +43,9 @@ pub(crate) fn by_sets(
         | Builtin::SetDiff
         | Builtin::SetSymdiff
         | Builtin::FznDisjoint
+        | Builtin::SetConvex
         | Builtin::ArraySetElement
+        | Builtin::GecodeArraySetElementUnion
         | Builtin::FznPartitionSet
         | Builtin::GecodeLinkSetToBooleans => {
             Ok(by_member(alloc, builtin, view)?.map(Reason::Member))
@@ -121,9 +124,26 @@ fn in_sets(builtin: Builtin, view: &ArgumentView<'_, '_>, number: i64) -> (bool,
     ensures { in_sets builtin (assigned view.now) (arguments_of view.now) number ≡ result }
 {
     match builtin {
+        Builtin::SetConvex => {
+            let set = view.set(0);
+            (
+                has_less(set, number),
+                set.contains(number),
+                has_more(set, number),
+            )
+        }
         Builtin::ArraySetElement => {
             let first = is_in_element(view, number);
             (first, view.set(2).contains(number), false)
+        }
+        Builtin::GecodeArraySetElementUnion => {
+            let (indices, parts) = (view.set(0), view.elements(1));
+            let is_index = lies_between(1, parts.len() as i128, i128::from(number));
+            (
+                is_in_chosen(indices, &parts, number),
+                view.set(2).contains(number),
+                indices.contains(number) && !is_index,
+            )
         }
         Builtin::FznPartitionSet => {
             let first = is_in_one(&view.elements(0), number);
@@ -144,6 +164,20 @@ fn in_sets(builtin: Builtin, view: &ArgumentView<'_, '_>, number: i64) -> (bool,
     }
 }
 
+/// Whether an element of the set is less than a number.
+fn has_less(set: &IntSet, number: i64) -> bool
+    ensures { result ≡ list_any (λ x. int_lt x number) (number_sets.items set.now) }
+{
+    !set.within(number, i64::MAX)
+}
+
+/// Whether an element of the set is more than a number.
+fn has_more(set: &IntSet, number: i64) -> bool
+    ensures { result ≡ list_any (λ x. int_lt number x) (number_sets.items set.now) }
+{
+    !set.within(i64::MIN, number)
+}
+
 /// Whether a number is in the element at the index.
 fn is_in_element(view: &ArgumentView<'_, '_>, number: i64) -> bool
     ensures { result ≡ option_map_or (λ s. number_sets.contains s number)
@@ -161,6 +195,20 @@ fn is_in_one(parts: &Elements, number: i64) -> bool
 {
     for place in 0..parts.len() {
         if parts.set(place).contains(number) {
+            return true;
+        }
+    }
+    false
+}
+
+/// Whether a number is in one of the sets whose indices, from 1 on, are in `indices`.
+fn is_in_chosen(indices: &IntSet, parts: &Elements, number: i64) -> bool
+    ensures { result ≡ list_any (λ s. number_sets.contains s number)
+        (chosen (pos 1) (sets parts.now) indices.now) }
+{
+    for place in 0..parts.len() {
+        let part = parts.set(place);
+        if has(indices, index_at(1, place)) && part.contains(number) {
             return true;
         }
     }
@@ -188,6 +236,7 @@ fn is_misplaced(builtin: Builtin, first: bool, second: bool, third: bool) -> boo
         | Builtin::ArraySetElement
         | Builtin::FznPartitionSet
         | Builtin::GecodeLinkSetToBooleans => first != second,
+        Builtin::GecodeArraySetElementUnion => first != second || third,
         Builtin::SetSubset => first && !second,
         Builtin::SetSuperset => second && !first,
         Builtin::SetUnion => third != (first || second),
@@ -195,6 +244,7 @@ fn is_misplaced(builtin: Builtin, first: bool, second: bool, third: bool) -> boo
         Builtin::SetDiff => third != (first && !second),
         Builtin::SetSymdiff => third != (first != second),
         Builtin::FznDisjoint => first && second,
+        Builtin::SetConvex => first && !second && third,
         _ => false,
     }
 }

@@ -21,7 +21,8 @@ pub(crate) fn by_negative(builtin: Builtin, view: &ArgumentView<'_, '_>) -> Opti
         Builtin::FznDisjunctiveStrict => disjunctive(view),
         Builtin::FznCumulative => cumulative(view),
         Builtin::FznKnapsack => knapsack(view),
-        Builtin::FznSlidingSum => sliding_sum(view),
+        Builtin::FznSlidingSum => width(view),
+        Builtin::GecodeAmongSeqInt => width(view),
         _ => None,
     }
 }
@@ -116,9 +117,11 @@ fn knapsack(view: &ArgumentView<'_, '_>) -> Option<Negative>
 }
 
 /// A number of neighbours below 0.
-fn sliding_sum(view: &ArgumentView<'_, '_>) -> Option<Negative>
-    ensures { IfSome result
+fn width(view: &ArgumentView<'_, '_>) -> Option<Negative>
+    ensures summed { IfSome result
         (IsNegative builtin.FznSlidingSum (assigned view.now) (arguments_of view.now)) }
+    ensures counted { IfSome result
+        (IsNegative builtin.GecodeAmongSeqInt (assigned view.now) (arguments_of view.now)) }
 {
     let value = view.int(2);
     if is_natural(value) {

@@ -1,13 +1,14 @@
 //! Lists that come in another order than a row asks.
 
 ghost use Rattle.std.specs.Prelude.{◌≡◌, ◌-ℤ◌, pos, true, int_lt, IfOk, IfSome, slice_get};
-ghost use Rattle.fz_builtins.specs.of_kernel.Views.{arguments_of, assigned, ints};
-ghost use Rattle.fz_reasons.specs.Elements.{IsDifference, IsEarly, IsEarlyInChain, IsUnsorted, agree, comes_before, differ};
+ghost use Rattle.fz_builtins.specs.of_kernel.Views.{arguments_of, assigned, ints, sets};
+ghost use Rattle.fz_reasons.specs.Elements.{IsDifference, IsEarly, IsEarlyInChain, IsEarlySet, IsUnsorted, agree, comes_before, differ};
 ghost use Rattle.fz_reasons.specs.Reasons.{ComesEarly, Says, numbers_at};
 
 use crate::readings::{element_kind, numbers_in};
 use crate::reason::{Difference, Early, ElementKind, Reason};
 use fz_builtins::fz_globals::numbers_in_order;
+use fz_builtins::fz_globals::precedence::has_only;
 use fz_builtins::fz_kernel::arrays::numbers_of;
 use fz_builtins::fz_kernel::{ArgumentView, Elements};
 use fz_builtins::fz_meaning::Builtin;
@@ -53,6 +54,7 @@ fn by_early(builtin: Builtin, view: &ArgumentView<'_, '_>) -> Option<Early>
     match builtin {
         Builtin::FznValuePrecedeInt => early(view.int(0), view.int(1), &view.elements(2)),
         Builtin::GecodePrecede => early(view.int(1), view.int(2), &view.elements(0)),
+        Builtin::GecodePrecedeSet => early_set(view.int(1), view.int(2), &view.elements(0)),
         Builtin::FznValuePrecedeChainInt => early_in_chain(&view.elements(0), &view.elements(1)),
         Builtin::FznSeqPrecedeChainInt => early_in_sequence(&view.elements(0)),
         _ => None,
@@ -153,6 +155,28 @@ fn early(before: i64, value: i64, elements: &Elements) -> Option<Early>
             });
         }
         if elements.int(place) == before {
+            return None;
+        }
+    }
+    None
+}
+
+/// The first set with the value and without the other one, where no set before it has the other one
+/// alone.
+fn early_set(before: i64, value: i64, parts: &Elements) -> Option<Early>
+    ensures early { IfSome result (IsEarlySet (sets parts.now)) }
+    ensures before { IfSome result (λ e. e.before ≡ before) }
+    ensures value { IfSome result (λ e. e.value ≡ value) }
+{
+    for place in 0..parts.len() {
+        if has_only(parts.set(place), value, before) {
+            return Some(Early {
+                place,
+                value,
+                before,
+            });
+        }
+        if has_only(parts.set(place), before, value) {
             return None;
         }
     }

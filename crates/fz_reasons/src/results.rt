@@ -1,12 +1,9 @@
 //! The rows that have a result, which the other arguments determine.
 
-ghost use Rattle.std.specs.Prelude.{◌≡◌, ℤ, Bool, IfOk, IfSome, false};
-ghost use Rattle.fz_base.specs.declared.value.Value.TheVariants.{Int, Bool as Truth};
-ghost use Rattle.fz_builtins.specs.of_meaning.Builtins.{row_at};
+ghost use Rattle.std.specs.Prelude.{◌≡◌, IfOk, IfSome};
 ghost use Rattle.fz_builtins.specs.of_meaning.Relations.{◌=ℤ◌, ◌=ᴮ◌};
-ghost use Rattle.fz_builtins.specs.of_meaning.declared.kind.Kind.TheVariants.{Int as IntKind, Bool as BoolKind};
 ghost use Rattle.fz_builtins.specs.of_kernel.Views.{arguments_of, assigned};
-ghost use Rattle.fz_builtins.specs.Said.{HasResult, is_result, row_with};
+ghost use Rattle.fz_builtins.specs.Said.{is_result};
 ghost use Rattle.fz_reasons.specs.Reasons.{Says};
 
 use crate::reason::{OtherNumber, OtherTruth, Reason};
@@ -27,34 +24,31 @@ pub(crate) fn by_result(
         (Says builtin (assigned view.now) (arguments_of view.now))) }
 {
     match said_of(alloc, builtin, false, view) {
-        Ok(Said::Number(argument, wanted)) => { Ok(by_number(builtin, view, argument, wanted)) }
-        Ok(Said::Boolean(argument, wanted)) => { Ok(by_truth(builtin, view, argument, wanted)) }
+        Ok(Said::Number(argument, wanted)) => {
+            let value = view.int(argument);
+            if is_number(wanted, value) {
+                return Ok(None);
+            }
+            Ok(Some(Reason::Number(OtherNumber {
+                argument,
+                value,
+                wanted,
+            })))
+        }
+        Ok(Said::Boolean(argument, wanted)) => {
+            let value = view.truth(argument);
+            if is_truth(wanted, value) {
+                return Ok(None);
+            }
+            Ok(Some(Reason::Truth(OtherTruth {
+                argument,
+                value,
+                wanted,
+            })))
+        }
         Ok(Said::Whether(_) | Said::Set(_, _) | Said::Given(_, _)) => Ok(None),
         Err(SetError::Memory) => Err(AllocError),
     }
-}
-
-#[tactic(auto, unfolding(crate::specs::Reasons::Says))]
-fn by_number(
-    builtin: Builtin,
-    view: &ArgumentView<'_, '_>,
-    argument: usize,
-    wanted: Option<i128>,
-) -> Option<Reason>
-    requires result { HasResult (row_at builtin) false argument IntKind }
-    requires holds_with { (v : ℤ) → row_with (row_at builtin) (assigned view.now)
-        (arguments_of view.now) argument (Int v) ≡ is_result ◌=ℤ◌ wanted v }
-    ensures { IfSome result (Says builtin (assigned view.now) (arguments_of view.now)) }
-{
-    let value = view.int(argument);
-    if is_number(wanted, value) {
-        return None;
-    }
-    Some(Reason::Number(OtherNumber {
-        argument,
-        value,
-        wanted,
-    }))
 }
 
 fn is_number(wanted: Option<i128>, value: i64) -> bool
@@ -64,29 +58,6 @@ fn is_number(wanted: Option<i128>, value: i64) -> bool
         Some(wanted) => i128::from(value) == wanted,
         None => false,
     }
-}
-
-#[tactic(auto, unfolding(crate::specs::Reasons::Says))]
-fn by_truth(
-    builtin: Builtin,
-    view: &ArgumentView<'_, '_>,
-    argument: usize,
-    wanted: Option<bool>,
-) -> Option<Reason>
-    requires result { HasResult (row_at builtin) false argument BoolKind }
-    requires holds_with { (v : Bool) → row_with (row_at builtin) (assigned view.now)
-        (arguments_of view.now) argument (Truth v) ≡ is_result ◌=ᴮ◌ wanted v }
-    ensures { IfSome result (Says builtin (assigned view.now) (arguments_of view.now)) }
-{
-    let value = view.truth(argument);
-    if is_truth(wanted, value) {
-        return None;
-    }
-    Some(Reason::Truth(OtherTruth {
-        argument,
-        value,
-        wanted,
-    }))
 }
 
 fn is_truth(wanted: Option<bool>, value: bool) -> bool

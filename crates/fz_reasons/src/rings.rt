@@ -1,11 +1,12 @@
 //! Lists of successors. Positions count from 1, and the indices in a list from `first`.
 
-ghost use Rattle.std.specs.Prelude.{◌≡◌, ◌+◌, ◌+ℤ◌, ◌-ℤ◌, not, pos, length, slice_get, IfSome, Some};
-ghost use Rattle.fz_builtins.specs.of_meaning.Relations.{◌=ℤ◌, as_places, element_at, end_of_tour, moved_from};
+ghost use Rattle.std.specs.Prelude.{◌≡◌, ◌+◌, ◌+ℤ◌, ◌-ℤ◌, pos, IfSome};
+ghost use Rattle.fz_builtins.specs.of_meaning.Relations.{as_places, element_at, end_of_tour};
 ghost use Rattle.fz_builtins.specs.of_kernel.Views.{ints};
 ghost use Rattle.fz_reasons.specs.Tours.{ComesBack, IsShortRing, LeavesOut};
 
 use crate::arrangement::Ring;
+use fz_builtins::fz_globals::tours::{count_moved, first_moved};
 use fz_builtins::fz_kernel::Elements;
 use fz_builtins::fz_kernel::arrays::int_element_at;
 
@@ -78,40 +79,7 @@ pub(crate) fn short_ring(first: i64, next: &Elements) -> Option<Ring>
 pub(crate) fn ring_of_moved(first: i64, next: &Elements) -> Option<Ring>
     ensures { IfSome result (LeavesOut (as_places first (ints next.now))) }
 {
-    let start = first_moved(first, next)?;
+    let start = position_at(first_moved(first, next)?);
     let ring = ring_from(first, next, start, count_moved(first, next))?;
     Some(ring)
-}
-
-// The first position that isn't its own successor.
-fn first_moved(first: i64, next: &Elements) -> Option<i128>
-    ensures { IfSome result (λ p. slice_get
-        (moved_from (pos 1) (as_places first (ints next.now))) 0 ≡ Some p) }
-{
-    for place in 0..next.len() {
-        if is_moved(first, next.int(place), place) {
-            return Some(position_at(place));
-        }
-    }
-    None
-}
-
-// How many positions aren't their own successors.
-fn count_moved(first: i64, next: &Elements) -> usize
-    ensures { result ≡ length (moved_from (pos 1) (as_places first (ints next.now))) }
-{
-    let mut count = 0;
-    for place in 0..next.len() {
-        if is_moved(first, next.int(place), place) {
-            count += 1;
-        }
-    }
-    count
-}
-
-// Whether the index isn't that of the place, which is counted from 0.
-fn is_moved(first: i64, index: i64, place: usize) -> bool
-    ensures { result ≡ not (((index -ℤ first) +ℤ pos 1) =ℤ pos (place + 1)) }
-{
-    position_of(first, index) != position_at(place)
 }

@@ -1,12 +1,11 @@
 //! Why a row fails.
 
-ghost use Rattle.std.specs.Prelude.{◌≡◌, IfOk, IfSome, length, true};
+ghost use Rattle.std.specs.Prelude.{◌≡◌, IfOk, IfSome, true};
 ghost use Rattle.fz_builtins.specs.of_meaning.Builtins.{row_at};
-ghost use Rattle.fz_builtins.specs.of_meaning.Known.{HasTruth, known_row};
+ghost use Rattle.fz_builtins.specs.of_meaning.Known.{known_row};
 ghost use Rattle.fz_builtins.specs.of_kernel.Given.{are_read};
 ghost use Rattle.fz_builtins.specs.of_kernel.Views.{arguments_of, assigned};
 ghost use Rattle.fz_builtins.specs.Outcomes.{row_outcome};
-ghost use Rattle.fz_builtins.specs.Readings.{truth};
 ghost use Rattle.fz_builtins.specs.declared.outcome.Outcome.TheVariants.{Truth};
 ghost use Rattle.fz_reasons.specs.Forms.{FormsFail, SaysWhy};
 ghost use Rattle.fz_reasons.specs.Reasons.{RowsFail, Says};
@@ -26,7 +25,7 @@ use crate::tasks::by_tasks;
 use crate::tours::by_tour;
 use fz_builtins::fz_kernel::{ArgumentView, Readiness};
 use fz_builtins::fz_meaning::{Builtin, Form, Known};
-use fz_builtins::{Outcome, of_builtin};
+use fz_builtins::{Outcome, control, of_builtin};
 use std::alloc::{AllocError, Global};
 
 /// Why the row of a builtin fails at the values that the argument view gives; none where it holds,
@@ -140,26 +139,18 @@ fn why_ready(
 {
     match known.form {
         Form::Base => Ok(reason_of(alloc, known.builtin, view)?.map(Why::Fails)),
-        Form::Reified if !last_truth(known, view) => {
+        Form::Reified if !control(known, view) => {
             if holds(alloc, known.builtin, view)? {
                 Ok(Some(Why::Holds))
             } else {
                 Ok(None)
             }
         }
-        Form::Implied if !last_truth(known, view) => Ok(None),
+        Form::Implied if !control(known, view) => Ok(None),
         Form::Reified | Form::Implied => {
             Ok(reason_of(alloc, known.builtin, view)?.map(Why::Fails))
         }
     }
-}
-
-/// The Boolean after the arguments of the base row.
-fn last_truth(known: Known, view: &ArgumentView<'_, '_>) -> bool
-    requires { HasTruth known.form }
-    ensures { result ≡ truth view.now (length (row_at known.builtin).shapes) }
-{
-    view.truth(known.shapes().len() - 1)
 }
 
 /// A row fails at all values of which one of its reasons is so.

@@ -11,8 +11,8 @@ use crate::reason::{Boxes, Load, Overlap, Reason, Relation, Sides, Stretch};
 use fz_builtins::fz_kernel::numbers::sum;
 use fz_builtins::fz_kernel::{ArgumentView, Elements};
 use fz_builtins::fz_meaning::Builtin;
-use fz_scheduling::bins::load_of;
-use fz_scheduling::tasks::used_at;
+use fz_builtins::fz_scheduling::bins::load_of;
+use fz_builtins::fz_scheduling::tasks::used_at;
 
 /// Two tasks or boxes that overlap, a time at which more is used than there is, or a bin in which
 /// lies more than there is room for.
@@ -24,7 +24,7 @@ pub(crate) fn by_tasks(builtin: Builtin, view: &ArgumentView<'_, '_>) -> Option<
         Builtin::FznDisjunctive => {
             Some(Reason::Overlap(overlap(&view.elements(0), &view.elements(1), true)?))
         }
-        Builtin::FznDisjunctiveStrict => {
+        Builtin::FznDisjunctiveStrict | Builtin::GecodeScheduleUnary => {
             Some(Reason::Overlap(overlap(&view.elements(0), &view.elements(1), false)?))
         }
         Builtin::FznDiffn => Some(Reason::Boxes(boxes(view, 1, 2, false)?)),

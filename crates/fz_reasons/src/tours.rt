@@ -1,14 +1,19 @@
-//! Lists that aren't inverse, of numbers or of a number and a set.
+//! Lists that aren't inverse, of numbers, of sets, or of numbers and sets.
 
 ghost use Rattle.std.specs.Prelude.{◌≡◌, ◌<◌, ◌+ℤ◌, ◌-ℤ◌, suc, pos, length, true, false, IfOk, IfSome};
+ghost use Rattle.std.specs.FinSet.{contains};
 ghost use Rattle.std.specs.Option.{option_map_or};
+ghost use Rattle.fz_builtins.specs.of_meaning.declared.builtin.Builtin.TheVariants.{GecodeInverseSet};
 ghost use Rattle.fz_builtins.specs.of_meaning.Relations.{◌=ℤ◌};
 ghost use Rattle.fz_builtins.specs.of_kernel.Views.{arguments_of, assigned, ints, sets, slots_of};
-ghost use Rattle.fz_reasons.specs.Elements.{IsInNoSet, IsNoIndexOf, IsOneWay};
-ghost use Rattle.fz_reasons.specs.Reasons.{Says};
+ghost use Rattle.fz_builtins.specs.of_globals.Held.{is_held};
+ghost use Rattle.fz_reasons.specs.Elements.{IsInNoSet, IsNoIndexOf, IsNotBack, IsOneWay};
+ghost use Rattle.fz_reasons.specs.Reasons.{LeadsOneWay, Says};
 
 use crate::reason::{OneWay, Reason};
+use fz_base::IntSet;
 use fz_builtins::fz_globals::channels::is_held;
+use fz_builtins::fz_globals::index_at;
 use fz_builtins::fz_kernel::arrays::int_element_at;
 use fz_builtins::fz_kernel::{ArgumentView, Elements};
 use fz_builtins::fz_meaning::Builtin;
@@ -43,6 +48,7 @@ pub(crate) fn by_tour(
                 )),
             }
         }
+        Builtin::GecodeInverseSet => Ok(no_inverse(alloc, view)?.map(Reason::OneWay)),
         _ => Ok(None),
     }
 }
@@ -152,4 +158,67 @@ fn not_back(
         value,
         back,
     })
+}
+
+/// An element of a set that doesn't lead back, of the first array or else of the second.
+fn no_inverse(alloc: Global, view: &ArgumentView<'_, '_>) -> Result<Option<OneWay>, AllocError>
+    ensures { IfOk result (λ o. IfSome o (λ w. LeadsOneWay GecodeInverseSet w.of_first
+        (assigned view.now) (arguments_of view.now) w)) }
+{
+    let (a, b) = (view.elements(0), view.elements(1));
+    let (first_a, first_b) = (view.int(2), view.int(3));
+    match refers_nowhere(alloc, true, &a, first_a, &b, first_b)? {
+        Some(found) => Ok(Some(found)),
+        None => refers_nowhere(alloc, false, &b, first_b, &a, first_a),
+    }
+}
+
+/// The first set with an element that isn't the index of a set that has the set's own index, and
+/// the least such element.
+fn refers_nowhere(
+    alloc: Global,
+    of_first: bool,
+    parts: &Elements,
+    first: i64,
+    others: &Elements,
+    first_other: i64,
+) -> Result<Option<OneWay>, AllocError>
+    ensures none { IfOk result (λ o. IfSome o
+        (IsNotBack (sets parts.now) first (sets others.now) first_other)) }
+    ensures list { IfOk result (λ o. IfSome o (λ w. w.of_first ≡ of_first)) }
+{
+    for place in 0..parts.len() {
+        let index = index_at(first, place);
+        if let Some(value) = not_led_back(alloc, parts.set(place), index, others, first_other)? {
+            return Ok(Some(OneWay {
+                of_first,
+                place,
+                value,
+                back: None,
+            }));
+        }
+    }
+    Ok(None)
+}
+
+/// The least element of a set that isn't the index of a set that has the index.
+fn not_led_back(
+    alloc: Global,
+    part: &IntSet,
+    index: i128,
+    others: &Elements,
+    first_other: i64,
+) -> Result<Option<i64>, AllocError>
+    ensures there { IfOk result (λ o. IfSome o (λ v. contains part.now v ≡ true)) }
+    ensures none { IfOk result (λ o. IfSome o
+        (λ v. is_held index v (sets others.now) first_other ≡ false)) }
+{
+    for range in &part.ranges(alloc)? {
+        for value in range.lo..=range.hi {
+            if part.contains(value) && !is_held(index, value, others, first_other) {
+                return Ok(Some(value));
+            }
+        }
+    }
+    Ok(None)
 }

@@ -1,16 +1,17 @@
 //! The reason why a constraint fails, or why it gave a value, in words. Indices count from 1.
 
 ghost use Rattle.std.specs.Prelude.{◌<◌, length};
-ghost use Rattle.fz_model.specs.Meaning.{points};
+ghost use Rattle.fz_builtins.specs.of_meaning.Meaning.{points};
 
 use crate::element_words::{from_one, of_elements};
 use crate::reason::{Operands, OtherNumber, OtherTruth, Reason, Relation, Sides, Why};
 use crate::rows::{holds, reason_of, why};
 use crate::sides::{comparison, sides_of};
 use fz_base::SetError;
+use fz_builtins::fz_data::{Model, Partial, PointParts};
 use fz_builtins::fz_kernel::{ArgumentView, Elements};
+use fz_builtins::fz_meaning::{Builtin, Form, Known};
 use fz_builtins::{Said, said_of};
-use fz_model::{Builtin, Form, Known, Model, Partial, PointParts};
 use std::alloc::{AllocError, Global};
 
 /// The most products that are listed.

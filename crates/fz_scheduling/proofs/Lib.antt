@@ -2,5 +2,7 @@ pub mod Before
 pub mod Chosen
 pub mod Followed
 pub mod Laden
+pub mod Terms
+pub mod Weighed
 pub mod Windowed
 pub mod Zipped

@@ -17,6 +17,7 @@ mod reading;
 pub mod slides;
 mod spans;
 pub mod tasks;
+pub mod weights;
 pub mod words;
 
 pub use fz_kernel;

@@ -1,7 +1,7 @@
 //! Tasks: each has a start, a duration, and a use of the resource that they share.
 ghost use Rattle.std.specs.Prelude.{◌≡◌, ◌&&◌, length};
 ghost use Rattle.std.specs.List.{list_all, zip};
-ghost use Rattle.fz_kernel.specs.of_meaning.Relations.{is_cumulative, is_disjunctive, is_natural, is_strictly_disjunctive, used_at};
+ghost use Rattle.fz_kernel.specs.of_meaning.Relations.{all_pairs, are_apart, is_cumulative, is_disjunctive, is_natural, is_strictly_disjunctive, used_at};
 ghost use Rattle.fz_kernel.specs.Views.{ints};
 ghost use Rattle.fz_scheduling.specs.Places.{keeps_within, number_at, span_at};
 
@@ -21,7 +21,14 @@ pub fn is_disjunctive(starts: &Elements, durations: &Elements) -> bool
 pub fn is_strictly_disjunctive(starts: &Elements, durations: &Elements) -> bool
     ensures exact { result ≡ is_strictly_disjunctive (zip (ints starts.now) (ints durations.now)) }
 {
-    last_naturally(starts, durations) && all_keep_apart(false, starts, durations)
+    last_naturally(starts, durations) && are_apart(starts, durations)
+}
+
+/// The same, where a duration may be negative: a task ends before it starts then.
+pub fn are_apart(starts: &Elements, durations: &Elements) -> bool
+    ensures exact { result ≡ all_pairs are_apart (zip (ints starts.now) (ints durations.now)) }
+{
+    all_keep_apart(false, starts, durations)
 }
 
 /// Whether at no start of a task that lasts and uses something more than `most` is used. Durations

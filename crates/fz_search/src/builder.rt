@@ -5,8 +5,8 @@ use crate::points::Points;
 use crate::relations::{Shape, Terms, shape_of};
 use crate::row::{Claim, Product, Relation, Row, Rule};
 use fz_bounds::fz_model::{
-    Argument, Builtin, ConstraintParts, Form, Kind, Known, Model, PointParts, Scalar, Scalars,
-    Slot, Term, part, scalar_at,
+    Argument, ConstraintParts, Form, Kind, Model, PointParts, Scalar, Scalars, Slot, Term, part,
+    scalar_at,
 };
 use std::alloc::{AllocError, Global};
 
@@ -24,22 +24,6 @@ pub(crate) fn points_of(alloc: Global, model: &Model<'_>) -> Result<Points, Allo
         cost: _,
     } = builder;
     Ok(points)
-}
-
-/// How a constraint is visited that is no linear row.
-fn other_rule(known: Option<Known>) -> Rule {
-    let Some(known) = known else {
-        return Rule::Plain;
-    };
-    if !matches!(known.form, Form::Base) {
-        return Rule::Plain;
-    }
-    match known.builtin {
-        Builtin::ArrayIntElement | Builtin::ArrayBoolElement => Rule::Element,
-        Builtin::FznGlobalCardinality | Builtin::FznGlobalCardinalityClosed => Rule::Tally,
-        Builtin::GecodeBinPackingLoad | Builtin::FznDistribute => Rule::Tally,
-        _ => Rule::Plain,
-    }
 }
 
 /// Whether the coefficients of a sum are fixed.
@@ -143,7 +127,7 @@ impl Builder {
             Some(row) => Ok(Rule::Linear(row)),
             None => {
                 self.add_arguments(parts)?;
-                Ok(other_rule(parts.posted.known))
+                Ok(Rule::Plain)
             }
         }
     }

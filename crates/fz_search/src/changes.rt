@@ -25,13 +25,17 @@ impl<'k, 'm, 'a> Work<'k, 'm, 'a> {
 
     /// Confirms the value that was given for a trial.
     pub(crate) fn keep(&mut self, variable: usize) -> Result<(), Stop> {
-        let number = match self.proposal.values().get(variable) {
-            Some(value) => number_of(value),
-            None => None,
-        };
-        if let Some(number) = number {
-            self.note(variable, Ends::at(number))?;
-            self.set_ends(variable, Ends::at(number));
+        let before = self.ends_of(variable);
+        if let Some(value) = self.proposal.values().get(variable) {
+            match number_of(value) {
+                Some(number) => {
+                    let kind = self.kind_of(variable);
+                    self.bounds.narrow(variable, kind, number, number);
+                    self.note(variable, Ends::at(number))?;
+                    self.move_sums(variable, before);
+                }
+                None => self.bounds.fix(self.alloc, variable, value)?,
+            }
         }
         for place in self.known.places_of(variable) {
             if let Some(open) = self.open.get_mut(place.point) {
@@ -59,38 +63,49 @@ impl<'k, 'm, 'a> Work<'k, 'm, 'a> {
     /// Takes from a variable what lies outside some bounds, and then the numbers at the ends that
     /// its domain hasn't. Where one number is left it gets that.
     pub(crate) fn tighten(&mut self, variable: usize, low: i64, high: i64) -> Result<(), Stop> {
-        self.narrow(variable, Ends { low, high })?;
-        let Some(Domain::Among(numbers)) = self.domain_of(variable) else {
-            return Ok(());
-        };
-        let visited = self.point;
-        self.point = self.known.domain_of(variable);
-        self.narrow(variable, self.ends_of(variable).around(numbers))?;
-        self.point = visited;
-        Ok(())
-    }
-
-    fn narrow(&mut self, variable: usize, asked: Ends) -> Result<(), Stop> {
+        let asked = Ends { low, high };
         let now = self.ends_of(variable);
         let then = now.within(asked);
         if then.low > then.high {
             self.note(variable, asked)?;
             return Err(Stop::Contradiction);
         }
+        let kind = self.kind_of(variable);
+        self.bounds.narrow(variable, kind, then.low, then.high);
+        self.narrowed(variable, now)?;
+        self.leave_gaps(variable)
+    }
+
+    /// Takes from a variable the numbers at the ends of its bounds that its domain hasn't.
+    pub(crate) fn leave_gaps(&mut self, variable: usize) -> Result<(), Stop> {
+        if !matches!(self.domain_of(variable), Some(Domain::Among(_))) {
+            return Ok(());
+        }
+        let visited = self.point;
+        self.point = self.known.domain_of(variable);
+        self.shave(variable)?;
+        self.point = visited;
+        Ok(())
+    }
+
+    /// Does what follows where the bounds of a variable were these, and may be narrower now.
+    pub(crate) fn narrowed(&mut self, variable: usize, before: Ends) -> Result<(), Stop> {
+        let then = self.ends_of(variable);
         if then.low == then.high && !self.proposal.has(variable) {
             let value = value_of(self.kind_of(variable), then.low);
+            self.move_sums(variable, before);
             return self.give(variable, value);
         }
-        if then.low == now.low && then.high == now.high {
+        if then.low == before.low && then.high == before.high {
             return Ok(());
         }
         self.note(variable, then)?;
-        self.set_ends(variable, then);
+        self.move_sums(variable, before);
         self.wake_all(variable)
     }
 
     /// Writes down what the point that is visited leaves to a variable.
-    fn note(&mut self, variable: usize, ends: Ends) -> Result<(), AllocError> {
+    pub(crate) fn note(&mut self, variable: usize, ends: Ends) -> Result<(), AllocError> {
         self.steps.push(Step {
             point: self.point,
             variable,
@@ -99,13 +114,9 @@ impl<'k, 'm, 'a> Work<'k, 'm, 'a> {
         Ok(())
     }
 
-    /// Narrows the bounds of a variable, and those of the sums in which it is.
-    fn set_ends(&mut self, variable: usize, then: Ends) {
-        let Some(ends) = self.ends.get_mut(variable) else {
-            return;
-        };
-        let before = *ends;
-        *ends = then;
+    /// Moves the bounds of the sums in which a variable is, where its own were these.
+    fn move_sums(&mut self, variable: usize, before: Ends) {
+        let then = self.ends_of(variable);
         for place in self.known.places_of(variable) {
             if let Some(sums) = self.sums.get_mut(place.point) {
                 let rest = sums.without(place.coefficient, before);

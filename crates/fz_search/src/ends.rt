@@ -1,10 +1,7 @@
 //! Bounds of variables. A Boolean is 0 or 1 there.
 
-use fz_base::{IntSet, Value};
+use fz_base::Value;
 use fz_bounds::fz_model::{Domain, Kind};
-
-/// So many numbers are looked at from an end on.
-const MOST_STEPS: i64 = 1000;
 
 /// The numbers from one to another; none where the first is above the second.
 #[derive(Clone, Copy)]
@@ -43,6 +40,20 @@ impl Ends {
         if self.has(number) { Some(number) } else { None }
     }
 
+    /// The same without so many numbers from an end on.
+    pub fn less(self, from: End, count: i64) -> Ends {
+        match from {
+            End::Low => Ends {
+                low: self.low.saturating_add(count),
+                high: self.high,
+            },
+            End::High => Ends {
+                low: self.low,
+                high: self.high.saturating_sub(count),
+            },
+        }
+    }
+
     /// How far apart the ends are.
     pub fn width(self) -> i128 {
         i128::from(self.high).saturating_sub(i128::from(self.low))
@@ -67,31 +78,6 @@ impl Ends {
             low: self.low.max(other.low),
             high: self.high.min(other.high),
         }
-    }
-
-    /// The same from the first of some numbers to the last. Only so many are looked for.
-    pub(crate) fn around(self, numbers: &IntSet) -> Ends {
-        Ends {
-            low: self.first_of(numbers, End::Low),
-            high: self.first_of(numbers, End::High),
-        }
-    }
-
-    /// The first of some numbers from an end on, or the end where it is far from that.
-    fn first_of(self, numbers: &IntSet, from: End) -> i64 {
-        let end = match from {
-            End::Low => self.low,
-            End::High => self.high,
-        };
-        for steps in 0..MOST_STEPS {
-            match self.counted(from, steps) {
-                Some(number) => if numbers.contains(number) {
-                    return number;
-                },
-                None => return end,
-            }
-        }
-        end
     }
 }
 

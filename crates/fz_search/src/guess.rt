@@ -71,7 +71,8 @@ impl<'k, 'm, 'a> Work<'k, 'm, 'a> {
         Ok(true)
     }
 
-    fn fails(&mut self, point: usize) -> Result<bool, Stop> {
+    /// Whether a point fails under the values so far.
+    pub(crate) fn fails(&mut self, point: usize) -> Result<bool, Stop> {
         self.spend(self.known.cost_of(point))?;
         match self.proposal.state(self.alloc, point)? {
             State::Fails => Ok(true),

@@ -1,9 +1,8 @@
-//! The search of `--complete`: it proposes values for the variables that a solver left out and
-//! nothing forces (`propose`). It reads the points of a model: which variables are in each, the
-//! linear row that it is, if it is one, and bounds of variables. What is promised is only that the
-//! values are of their variables' kinds; whether a block is satisfied with them is judged
-//! afterwards. Where it tells that there are no such values (`refuted`), that is proved. An internal
-//! crate of `fz_check`.
+//! The search of `--complete`: it looks for values of the variables that a solver left out and
+//! nothing forces (`search`). It reads the points of a model: which variables are in each, the
+//! linear row that it is, if it is one, and bounds of variables. Of the values only that they are of
+//! their variables' kinds is promised; whether a block is satisfied with them is judged afterwards.
+//! Where it tells that there are no such values, that is proved. An internal crate of `fz_check`.
 //!
 //! Its worked cases are in `tests/cases` (`completed.txt`).
 #![tactic(auto)]
@@ -12,10 +11,9 @@ mod agenda;
 mod arguments;
 mod builder;
 mod changes;
-mod computed;
 mod conflict;
-mod element;
 mod ends;
+mod found;
 mod grounds;
 mod guess;
 mod index;
@@ -26,15 +24,15 @@ mod proposal;
 mod refuting;
 mod relations;
 mod row;
-mod search;
+mod searching;
+mod shaving;
 mod stop;
 mod subsets;
 mod tables;
-mod tally;
 mod work;
 
+pub use found::{Found, Left, Refutation};
 pub use fz_bounds::fz_model;
 pub use index::Search;
-pub use refuting::{Left, Refutation, refuted};
 pub use row::Place;
-pub use search::{known_of, propose};
+pub use searching::{known_of, search};

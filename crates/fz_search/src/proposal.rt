@@ -6,9 +6,7 @@ ghost use Rattle.fz_bounds.specs.of_model.Steps.{kind_at};
 ghost use Rattle.fz_bounds.specs.of_model.Relations.{kind_of};
 
 use fz_base::Value;
-use fz_bounds::fz_model::{
-    ConstraintParts, Model, Partial, PointParts, State, forced, kind_of, same_kind, state,
-};
+use fz_bounds::fz_model::{Model, Partial, State, forced_any, kind_of, same_kind, state};
 use std::alloc::{AllocError, Global};
 
 /// Whether a value is of the kind of the variable of a number.
@@ -121,25 +119,14 @@ impl<'m, 'a> Proposal<'m, 'a> {
         take_away(self.model, &mut self.partial, number);
     }
 
-    /// The constraint that a point is, where it is one.
-    pub(crate) fn constraint(&self, point: usize) -> Option<ConstraintParts<'m, 'a>> {
-        if point >= self.model.points() {
-            return None;
-        }
-        match self.model.point_parts(point) {
-            PointParts::Constraint(parts) => Some(parts),
-            PointParts::Domain(..) | PointParts::Definition(..) | PointParts::Elements(..) => None,
-        }
-    }
-
-    /// The step that a point forces.
+    /// The step that a point gives, by whichever result it has.
     pub(crate) fn forced(
         &self,
         alloc: Global,
         point: usize,
     ) -> Result<Option<(usize, Value)>, AllocError> {
         if point < self.model.points() {
-            forced(alloc, self.model, point, &self.partial)
+            forced_any(alloc, self.model, point, &self.partial)
         } else {
             Ok(None)
         }

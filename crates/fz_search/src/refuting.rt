@@ -1,41 +1,20 @@
-//! Blocks that no solution extends.
+//! What contradictions show, proved.
 
 ghost use Rattle.std.specs.Prelude.{◌<◌, IfOk, IfSome, length};
-ghost use Rattle.fz_bounds.specs.of_model.Meaning.{Assignment, IsPartial, points, whole};
-ghost use Rattle.fz_bounds.specs.of_model.Openings.{HasEach};
-ghost use Rattle.fz_bounds.specs.of_model.States.{IsKnownSolution};
-ghost use Rattle.fz_search.specs.Refuted.{HaveNoSolution, KeepSolutions};
+ghost use Rattle.fz_bounds.specs.of_model.Meaning.{points};
+ghost use Rattle.fz_search.specs.Found.{IsFoundFor};
+ghost use Rattle.fz_search.specs.Refuted.{HaveNoSolution, HoldAll, KeepSolutions};
 
-use crate::conflict::{Conflict, met};
+use crate::conflict::Conflict;
+use crate::found::{Found, Left, Refutation};
 use crate::grounds::Step;
 use crate::index::Search;
-use crate::search::known_of;
-use crate::work::Budget;
 use fz_bounds::fz_model::{Model, Partial};
 use fz_bounds::{Bounds, Tightened, cannot_hold};
 use std::alloc::{AllocError, Global};
 
-/// At most so many guesses are refuted.
-const MOST_GUESSES: usize = 100;
-
 /// At most so many variables are told of a point.
 const MOST_LEFT: usize = 12;
-
-/// A variable without a value, and the bounds that other points leave it.
-#[derive(Clone, Copy, Debug)]
-pub struct Left {
-    pub variable: usize,
-    pub low: i64,
-    pub high: i64,
-}
-
-/// Why no solution has some values: the number of a point that can't hold within the bounds that
-/// other points leave, and these bounds, of the first variables in it that have no value.
-#[derive(Debug, Drop)]
-pub struct Refutation {
-    pub point: usize,
-    pub left: Vec<Left>,
-}
 
 /// The bounds of the first variables of a point that have no value.
 fn left_at(
@@ -115,6 +94,7 @@ fn refute(
     point: usize,
 ) -> Result<Option<usize>, AllocError>
     ensures in_range { IfOk result (λ o. IfSome o (λ k. k < length (points model.now))) }
+    ensures kept { IfOk result (λ _. KeepSolutions model.now bounds.old bounds.new) }
     ensures none { IfOk result (λ o. IfSome o (λ _. HaveNoSolution model.now bounds.old)) }
 {
     let found = retake(alloc, model, bounds, steps)?;
@@ -150,6 +130,9 @@ fn lose(
         return Ok(false);
     };
     let number = guess.ends.low;
+    if number != guess.ends.high {
+        return Ok(false);
+    }
     let mut supposed = bounds.copy(alloc, model)?;
     supposed.narrow(guess.variable, ends.kind, number, number);
     let refutation = refute(alloc, model, &mut supposed, &conflict.steps, conflict.point)?;
@@ -159,40 +142,28 @@ fn lose(
     }
 }
 
-/// Whether bounds of the variables show that no known-solution has the filling's values, and at
-/// which point. Bounds are narrowed as a search does that; where this comes to a contradiction, the
-/// steps that it rests on are proved, one after another. Where the first guess of a search comes to
-/// one in this way, its variable can't have that number, and bounds are narrowed anew. The search's
-/// budget bounds it. It refuses only where memory runs out.
-pub fn refuted(
+/// What a contradiction shows: that no known-solution has the filling's values, or nothing; or that
+/// its guess can't be, which is then taken from the bounds.
+pub(crate) fn learned(
     alloc: Global,
+    known: &Search,
     model: &Model<'_>,
     filling: &Partial,
-    known: &mut Option<Search>,
-) -> Result<Option<Refutation>, AllocError>
-    requires fits { IsPartial model.now filling.now }
-    ensures in_range { IfOk result (λ o. IfSome o (λ r. r.point < length (points model.now))) }
-    ensures none { IfOk result (λ o. IfSome o (λ _. (A : Assignment)
-        → IsKnownSolution model.now A → HasEach filling.now (whole A) → ⊥)) }
+    bounds: &mut Bounds,
+    conflict: &Conflict,
+) -> Result<Option<Found>, AllocError>
+    requires inside { HoldAll model.now filling.now bounds.old }
+    ensures found { IfOk result (λ o. IfSome o (IsFoundFor model.now filling.now)) }
+    ensures inside { IfOk result (λ _. HoldAll model.now filling.now bounds.new) }
 {
-    let known = known_of(alloc, model, known)?;
-    let mut bounds = Bounds::new(alloc, model, filling)?;
-    let mut budget = Budget::new(known, model);
-    for _ in 0..MOST_GUESSES {
-        let Some(conflict) = met(alloc, known, model, filling, &bounds, &mut budget)? else {
-            return Ok(None);
-        };
-        let Some(guess) = conflict.guess else {
-            let found = refute(alloc, model, &mut bounds, &conflict.steps, conflict.point)?;
-            let Some(point) = found else {
-                return Ok(None);
-            };
-            let left = left_at(alloc, known, filling, &bounds, point)?;
-            return Ok(Some(Refutation { point, left }));
-        };
-        if !lose(alloc, model, &mut bounds, &conflict, guess)? {
-            return Ok(None);
-        }
+    if let Some(guess) = conflict.guess {
+        let lost = lose(alloc, model, bounds, conflict, guess)?;
+        return Ok(if lost { None } else { Some(Found::Nothing) });
     }
-    Ok(None)
+    let found = refute(alloc, model, bounds, &conflict.steps, conflict.point)?;
+    let Some(point) = found else {
+        return Ok(Some(Found::Nothing));
+    };
+    let left = left_at(alloc, known, filling, bounds, point)?;
+    Ok(Some(Found::Refuted(Refutation { point, left })))
 }

@@ -133,10 +133,6 @@ fn is_equal(sums: Sums, number: i128) -> Option<bool> {
 pub enum Rule {
     /// as a linear row
     Linear(Row),
-    /// as an element of an array, by its index
-    Element,
-    /// as counts or loads, by what is counted or packed
-    Tally,
-    /// where all of its variables but one have values
+    /// variable by variable, from both ends of its bounds
     Plain,
 }

@@ -4,7 +4,7 @@ use crate::ends::{ALL, Ends};
 use crate::index::Search;
 use crate::row::Sums;
 use fz_bounds::Bounds;
-use fz_bounds::fz_model::{Model, Partial};
+use fz_bounds::fz_model::Partial;
 use std::alloc::{AllocError, Global};
 
 /// How far the products of a sum can move: the index of the one that moves furthest, and how far
@@ -15,23 +15,15 @@ pub(crate) struct Reach {
     pub(crate) others: i128,
 }
 
-/// The bounds of each variable.
-pub(crate) fn all_ends(
-    alloc: Global,
-    model: &Model<'_>,
-    bounds: &Bounds,
-) -> Result<Vec<Ends>, AllocError> {
-    let mut all = Vec::new(alloc);
-    for number in 0..model.variables().len() {
-        all.push(match bounds.ends(number) {
-            Some(ends) => Ends {
-                low: ends.low,
-                high: ends.high,
-            },
-            None => ALL,
-        })?;
+/// The bounds of a variable.
+pub(crate) fn ends_in(bounds: &Bounds, variable: usize) -> Ends {
+    match bounds.ends(variable) {
+        Some(ends) => Ends {
+            low: ends.low,
+            high: ends.high,
+        },
+        None => ALL,
     }
-    Ok(all)
 }
 
 /// How many variables of each point have no value.
@@ -59,15 +51,13 @@ pub(crate) fn all_sums(
     alloc: Global,
     known: &Search,
     points: usize,
-    ends: &[Ends],
+    bounds: &Bounds,
 ) -> Result<Vec<Sums>, AllocError> {
     let mut all = Vec::new(alloc);
     for point in 0..points {
         let mut sums = Sums { least: 0, most: 0 };
         for product in known.products_of(point) {
-            if let Some(ends) = ends.get(product.variable) {
-                sums = sums.with(product.coefficient, *ends);
-            }
+            sums = sums.with(product.coefficient, ends_in(bounds, product.variable));
         }
         all.push(sums)?;
     }

@@ -7,9 +7,9 @@ use crate::index::Search;
 use crate::proposal::Proposal;
 use crate::row::{Rule, Sums};
 use crate::stop::Stop;
-use crate::tables::{Reach, all_ends, all_open, all_sums, no_reaches};
+use crate::tables::{Reach, all_open, all_sums, ends_in, no_reaches};
 use fz_bounds::Bounds;
-use fz_bounds::fz_model::{Domain, Kind, Model, Partial, Scalar};
+use fz_bounds::fz_model::{Domain, Kind, Model, Partial};
 use std::alloc::{AllocError, Global};
 
 /// At most this many visits are made for each point of the model. A value that is tried counts as
@@ -20,6 +20,9 @@ const VISITS: usize = 100;
 /// aren't visited too often. A visit is a step, and so is each scalar that is looked at when a
 /// point is gone over or a value is tried.
 const STEPS: usize = 100;
+
+/// A point of more scalars than this is long.
+const LONG: usize = 4;
 
 /// How much a search may do yet.
 #[derive(Clone, Copy)]
@@ -51,8 +54,7 @@ pub(crate) struct Work<'k, 'm, 'a> {
     pub(crate) alloc: Global,
     pub(crate) known: &'k Search,
     pub(crate) proposal: Proposal<'m, 'a>,
-    /// the bounds of each variable
-    pub(crate) ends: Vec<Ends>,
+    pub(crate) bounds: Bounds,
     /// how many variables of each point have no value
     pub(crate) open: Vec<usize>,
     /// the bounds of the sum of each point
@@ -77,15 +79,14 @@ impl<'k, 'm, 'a> Work<'k, 'm, 'a> {
         budget: Budget,
     ) -> Result<Work<'k, 'm, 'a>, AllocError> {
         let proposal = Proposal::new(alloc, model, filling)?;
-        let ends = all_ends(alloc, model, bounds)?;
         let points = model.points();
         Ok(Work {
             alloc,
             known,
             open: all_open(alloc, known, points, proposal.values())?,
-            sums: all_sums(alloc, known, points, &ends)?,
+            sums: all_sums(alloc, known, points, bounds)?,
             reaches: no_reaches(alloc, points)?,
-            ends,
+            bounds: bounds.copy(alloc, model)?,
             agenda: Agenda::new(alloc, points)?,
             point: 0,
             steps: Vec::new(alloc),
@@ -118,39 +119,8 @@ impl<'k, 'm, 'a> Work<'k, 'm, 'a> {
         Some(&variable.domain)
     }
 
-    /// Whether a number is in the domain of a variable, where that has gaps.
-    pub(crate) fn has_in_domain(&self, variable: usize, number: i64) -> bool {
-        match self.domain_of(variable) {
-            Some(Domain::Among(numbers)) => numbers.contains(number),
-            Some(Domain::All | Domain::Within(..)) | None => true,
-        }
-    }
-
     pub(crate) fn ends_of(&self, variable: usize) -> Ends {
-        match self.ends.get(variable) {
-            Some(ends) => *ends,
-            None => Ends::at(0),
-        }
-    }
-
-    /// The bounds of a scalar.
-    pub(crate) fn ends_in(&self, scalar: Scalar<'_>) -> Ends {
-        match scalar {
-            Scalar::Variable(number) => self.ends_of(number),
-            Scalar::Number(number) => Ends::at(number),
-            Scalar::Truth(truth) => Ends::at(i64::from(truth)),
-            Scalar::Set(_) => Ends::at(0),
-        }
-    }
-
-    /// The number that a scalar is, where its bounds leave one.
-    pub(crate) fn number_in(&self, scalar: Scalar<'_>) -> Option<i64> {
-        let ends = self.ends_in(scalar);
-        if ends.low == ends.high {
-            Some(ends.low)
-        } else {
-            None
-        }
+        ends_in(&self.bounds, variable)
     }
 
     /// The bounds of the sum of a point.
@@ -205,13 +175,15 @@ impl<'k, 'm, 'a> Work<'k, 'm, 'a> {
         None
     }
 
-    /// Puts a point on the agenda, where a visit may change something.
-    pub(crate) fn wake(&mut self, point: usize) -> Result<(), Stop> {
+    /// Puts a point on the agenda, where a visit may change something. Long points are gone over
+    /// only where one of their variables gets a value.
+    pub(crate) fn wake(&mut self, point: usize, valued: bool) -> Result<(), Stop> {
+        let open = self.open_in(point);
         let tells = match self.known.rule_of(point) {
-            Rule::Linear(_) | Rule::Element | Rule::Tally => self.open_in(point) > 0,
-            Rule::Plain => self.open_in(point) == 1,
+            Rule::Linear(_) => true,
+            Rule::Plain => open <= 1 || self.known.cost_of(point) <= LONG,
         };
-        if tells {
+        if tells || valued {
             self.agenda.add(point)?;
         }
         Ok(())
@@ -219,9 +191,10 @@ impl<'k, 'm, 'a> Work<'k, 'm, 'a> {
 
     pub(crate) fn wake_all(&mut self, variable: usize) -> Result<(), Stop> {
         let places = self.known.places_of(variable);
+        let valued = self.proposal.has(variable);
         self.spend(places.len())?;
         for place in places {
-            self.wake(place.point)?;
+            self.wake(place.point, valued)?;
         }
         Ok(())
     }

@@ -1,10 +1,10 @@
-use Rattle.std.proofs.Common.{int_le, not, pos, unsigned_abs, ◌&&◌, ◌+ℤ◌, ◌-ℤ◌, ◌*ℤ◌, ◌||◌}
+use Rattle.std.proofs.Common.{int_le, length, not, pos, unsigned_abs, ◌&&◌, ◌+ℤ◌, ◌-ℤ◌, ◌*ℤ◌, ◌||◌}
 use Rattle.std.specs.Int.{int_max, int_min}
 use Rattle.std.specs.List.{list_all, list_any}
-use Rattle.fz_builtins.specs.of_meaning.declared.builtin.Builtin.TheVariants as builtin
-use Rattle.fz_builtins.specs.of_meaning.Builtins.{row_at}
-use Rattle.fz_builtins.specs.of_meaning.Relations.{as_number, count_of, is_among, products, total, where_true, ◌=ᴮ◌, ◌=ℤ◌}
-use Rattle.fz_builtins.specs.of_kernel.Given.{bool_at, bools_at, int_at, ints_at}
+use Rattle.fz_model.specs.declared.Builtin.TheVariants as builtin
+use Rattle.fz_model.specs.Builtins.{row_at}
+use Rattle.fz_model.specs.Relations.{as_number, count_in, count_of, counts_are, counts_lie, is_among, is_closed, lies_between, loads_are, products, total, where_true, ◌=ᴮ◌, ◌=ℤ◌}
+use Rattle.fz_model.specs.of_builtins.of_kernel.Given.{bool_at, bools_at, int_at, ints_at, set_at}
 use Rattle.fz_bounds.specs.Within.{given}
 use Rattle.fz_bounds.proofs.At.{at_row}
 use Rattle.fz_bounds.proofs.builtins.foretold.Goals as goal
@@ -228,13 +228,11 @@ returns-in-BoolLinGt c = at_row c.args.at.now c.args.builtin builtin.BoolLinGt c
 pub returns-in-ArrayIntElement : goal.returns-in-ArrayIntElement
 unfolding row_at
 returns-in-ArrayIntElement c = at_row c.args.at.now c.args.builtin builtin.ArrayIntElement c.int_element.result c.in-ArrayIntElement.is (λ K h.
-    let xs = given c.args.at.now in
     c.int_element.ensures K (record { low = h.low.0; high = h.high.0 }) (record { low = h.low.1.0; high = h.high.1.0 }) (record { low = h.low.1.1.0; high = h.high.1.1.0 }))
 
 pub returns-in-ArrayBoolElement : goal.returns-in-ArrayBoolElement
 unfolding row_at
 returns-in-ArrayBoolElement c = at_row c.args.at.now c.args.builtin builtin.ArrayBoolElement c.bool_element.result c.in-ArrayBoolElement.is (λ K h.
-    let xs = given c.args.at.now in
     c.bool_element.ensures K (record { low = h.low.0; high = h.high.0 }) (record { low = h.low.1.0; high = h.high.1.0 }) (record { low = h.low.1.1.0; high = h.high.1.1.0 }))
 
 pub returns-in-IntMin : goal.returns-in-IntMin
@@ -259,13 +257,13 @@ pub returns-in-ArrayIntMaximum : goal.returns-in-ArrayIntMaximum
 unfolding row_at
 returns-in-ArrayIntMaximum c = at_row c.args.at.now c.args.builtin builtin.ArrayIntMaximum c.and-in-ArrayIntMaximum.result c.in-ArrayIntMaximum.is (λ K h.
     let xs = given c.args.at.now in
-    c.and-in-ArrayIntMaximum.ensures (is_among (int_at K xs 0) (ints_at K xs 1)) (list_all (λ x. int_le x (int_at K xs 0)) (ints_at K xs 1)) (c.is_among.ensures K (record { low = h.low.0; high = h.high.0 }) (record { low = h.low.1.0; high = h.high.1.0 })) (c.all_at_most.ensures K (record { low = h.low.0; high = h.high.0 }) (record { low = h.low.1.0; high = h.high.1.0 })))
+    c.and-in-ArrayIntMaximum.ensures (is_among (int_at K xs 0) (ints_at K xs 1)) (list_all (λ x. int_le x (int_at K xs 0)) (ints_at K xs 1)) (c.is_among.ensures K (record { low = h.low.1.0; high = h.high.1.0 }) (int_at K xs 0) (c.number-in-ArrayIntMaximum.ensures K (record { low = h.low.0; high = h.high.0 }))) (c.all_at_most.ensures K (record { low = h.low.0; high = h.high.0 }) (record { low = h.low.1.0; high = h.high.1.0 })))
 
 pub returns-in-ArrayIntMinimum : goal.returns-in-ArrayIntMinimum
 unfolding row_at
 returns-in-ArrayIntMinimum c = at_row c.args.at.now c.args.builtin builtin.ArrayIntMinimum c.and-in-ArrayIntMinimum.result c.in-ArrayIntMinimum.is (λ K h.
     let xs = given c.args.at.now in
-    c.and-in-ArrayIntMinimum.ensures (is_among (int_at K xs 0) (ints_at K xs 1)) (list_all (λ x. int_le (int_at K xs 0) x) (ints_at K xs 1)) (c.is_among-in-ArrayIntMinimum.ensures K (record { low = h.low.0; high = h.high.0 }) (record { low = h.low.1.0; high = h.high.1.0 })) (c.all_at_least.ensures K (record { low = h.low.0; high = h.high.0 }) (record { low = h.low.1.0; high = h.high.1.0 })))
+    c.and-in-ArrayIntMinimum.ensures (is_among (int_at K xs 0) (ints_at K xs 1)) (list_all (λ x. int_le (int_at K xs 0) x) (ints_at K xs 1)) (c.is_among-in-ArrayIntMinimum.ensures K (record { low = h.low.1.0; high = h.high.1.0 }) (int_at K xs 0) (c.number-in-ArrayIntMinimum.ensures K (record { low = h.low.0; high = h.high.0 }))) (c.all_at_least.ensures K (record { low = h.low.0; high = h.high.0 }) (record { low = h.low.1.0; high = h.high.1.0 })))
 
 pub returns-in-FznAllDifferentInt : goal.returns-in-FznAllDifferentInt
 unfolding row_at
@@ -276,55 +274,55 @@ pub returns-in-FznCountEq : goal.returns-in-FznCountEq
 unfolding row_at
 returns-in-FznCountEq c = at_row c.args.at.now c.args.builtin builtin.FznCountEq c.equal-in-FznCountEq.result c.in-FznCountEq.is (λ K h.
     let xs = given c.args.at.now in
-    c.equal-in-FznCountEq.ensures (int_at K xs 2) (count_of (ints_at K xs 0) (int_at K xs 1)) (c.number-in-FznCountEq.ensures K (record { low = h.low.1.1.0; high = h.high.1.1.0 })) (c.count_of.ensures K (record { low = h.low.0; high = h.high.0 }) (record { low = h.low.1.0; high = h.high.1.0 })))
+    c.equal-in-FznCountEq.ensures (int_at K xs 2) (count_of (ints_at K xs 0) (int_at K xs 1)) (c.number-in-FznCountEq.ensures K (record { low = h.low.1.1.0; high = h.high.1.1.0 })) (c.count_of.ensures K (record { low = h.low.0; high = h.high.0 }) (int_at K xs 1) (c.number-in-FznCountEq-2.ensures K (record { low = h.low.1.0; high = h.high.1.0 }))))
 
 pub returns-in-FznCountNeq : goal.returns-in-FznCountNeq
 unfolding row_at
 returns-in-FznCountNeq c = at_row c.args.at.now c.args.builtin builtin.FznCountNeq c.negated-in-FznCountNeq.result c.in-FznCountNeq.is (λ K h.
     let xs = given c.args.at.now in
-    c.negated-in-FznCountNeq.ensures ((int_at K xs 2) =ℤ (count_of (ints_at K xs 0) (int_at K xs 1))) (c.equal-in-FznCountNeq.ensures (int_at K xs 2) (count_of (ints_at K xs 0) (int_at K xs 1)) (c.number-in-FznCountNeq.ensures K (record { low = h.low.1.1.0; high = h.high.1.1.0 })) (c.count_of-in-FznCountNeq.ensures K (record { low = h.low.0; high = h.high.0 }) (record { low = h.low.1.0; high = h.high.1.0 }))))
+    c.negated-in-FznCountNeq.ensures ((int_at K xs 2) =ℤ (count_of (ints_at K xs 0) (int_at K xs 1))) (c.equal-in-FznCountNeq.ensures (int_at K xs 2) (count_of (ints_at K xs 0) (int_at K xs 1)) (c.number-in-FznCountNeq.ensures K (record { low = h.low.1.1.0; high = h.high.1.1.0 })) (c.count_of-in-FznCountNeq.ensures K (record { low = h.low.0; high = h.high.0 }) (int_at K xs 1) (c.number-in-FznCountNeq-2.ensures K (record { low = h.low.1.0; high = h.high.1.0 })))))
 
 pub returns-in-FznCountGeq : goal.returns-in-FznCountGeq
 unfolding row_at
 returns-in-FznCountGeq c = at_row c.args.at.now c.args.builtin builtin.FznCountGeq c.at_most-in-FznCountGeq.result c.in-FznCountGeq.is (λ K h.
     let xs = given c.args.at.now in
-    c.at_most-in-FznCountGeq.ensures (count_of (ints_at K xs 0) (int_at K xs 1)) (int_at K xs 2) (c.count_of-in-FznCountGeq.ensures K (record { low = h.low.0; high = h.high.0 }) (record { low = h.low.1.0; high = h.high.1.0 })) (c.number-in-FznCountGeq.ensures K (record { low = h.low.1.1.0; high = h.high.1.1.0 })))
+    c.at_most-in-FznCountGeq.ensures (count_of (ints_at K xs 0) (int_at K xs 1)) (int_at K xs 2) (c.count_of-in-FznCountGeq.ensures K (record { low = h.low.0; high = h.high.0 }) (int_at K xs 1) (c.number-in-FznCountGeq.ensures K (record { low = h.low.1.0; high = h.high.1.0 }))) (c.number-in-FznCountGeq-2.ensures K (record { low = h.low.1.1.0; high = h.high.1.1.0 })))
 
 pub returns-in-FznCountGt : goal.returns-in-FznCountGt
 unfolding row_at
 returns-in-FznCountGt c = at_row c.args.at.now c.args.builtin builtin.FznCountGt c.below-in-FznCountGt.result c.in-FznCountGt.is (λ K h.
     let xs = given c.args.at.now in
-    c.below-in-FznCountGt.ensures (count_of (ints_at K xs 0) (int_at K xs 1)) (int_at K xs 2) (c.count_of-in-FznCountGt.ensures K (record { low = h.low.0; high = h.high.0 }) (record { low = h.low.1.0; high = h.high.1.0 })) (c.number-in-FznCountGt.ensures K (record { low = h.low.1.1.0; high = h.high.1.1.0 })))
+    c.below-in-FznCountGt.ensures (count_of (ints_at K xs 0) (int_at K xs 1)) (int_at K xs 2) (c.count_of-in-FznCountGt.ensures K (record { low = h.low.0; high = h.high.0 }) (int_at K xs 1) (c.number-in-FznCountGt.ensures K (record { low = h.low.1.0; high = h.high.1.0 }))) (c.number-in-FznCountGt-2.ensures K (record { low = h.low.1.1.0; high = h.high.1.1.0 })))
 
 pub returns-in-FznCountLeq : goal.returns-in-FznCountLeq
 unfolding row_at
 returns-in-FznCountLeq c = at_row c.args.at.now c.args.builtin builtin.FznCountLeq c.at_most-in-FznCountLeq.result c.in-FznCountLeq.is (λ K h.
     let xs = given c.args.at.now in
-    c.at_most-in-FznCountLeq.ensures (int_at K xs 2) (count_of (ints_at K xs 0) (int_at K xs 1)) (c.number-in-FznCountLeq.ensures K (record { low = h.low.1.1.0; high = h.high.1.1.0 })) (c.count_of-in-FznCountLeq.ensures K (record { low = h.low.0; high = h.high.0 }) (record { low = h.low.1.0; high = h.high.1.0 })))
+    c.at_most-in-FznCountLeq.ensures (int_at K xs 2) (count_of (ints_at K xs 0) (int_at K xs 1)) (c.number-in-FznCountLeq.ensures K (record { low = h.low.1.1.0; high = h.high.1.1.0 })) (c.count_of-in-FznCountLeq.ensures K (record { low = h.low.0; high = h.high.0 }) (int_at K xs 1) (c.number-in-FznCountLeq-2.ensures K (record { low = h.low.1.0; high = h.high.1.0 }))))
 
 pub returns-in-FznCountLt : goal.returns-in-FznCountLt
 unfolding row_at
 returns-in-FznCountLt c = at_row c.args.at.now c.args.builtin builtin.FznCountLt c.below-in-FznCountLt.result c.in-FznCountLt.is (λ K h.
     let xs = given c.args.at.now in
-    c.below-in-FznCountLt.ensures (int_at K xs 2) (count_of (ints_at K xs 0) (int_at K xs 1)) (c.number-in-FznCountLt.ensures K (record { low = h.low.1.1.0; high = h.high.1.1.0 })) (c.count_of-in-FznCountLt.ensures K (record { low = h.low.0; high = h.high.0 }) (record { low = h.low.1.0; high = h.high.1.0 })))
+    c.below-in-FznCountLt.ensures (int_at K xs 2) (count_of (ints_at K xs 0) (int_at K xs 1)) (c.number-in-FznCountLt.ensures K (record { low = h.low.1.1.0; high = h.high.1.1.0 })) (c.count_of-in-FznCountLt.ensures K (record { low = h.low.0; high = h.high.0 }) (int_at K xs 1) (c.number-in-FznCountLt-2.ensures K (record { low = h.low.1.0; high = h.high.1.0 }))))
 
 pub returns-in-FznAtLeastInt : goal.returns-in-FznAtLeastInt
 unfolding row_at
 returns-in-FznAtLeastInt c = at_row c.args.at.now c.args.builtin builtin.FznAtLeastInt c.at_most-in-FznAtLeastInt.result c.in-FznAtLeastInt.is (λ K h.
     let xs = given c.args.at.now in
-    c.at_most-in-FznAtLeastInt.ensures (int_at K xs 0) (count_of (ints_at K xs 1) (int_at K xs 2)) (c.number-in-FznAtLeastInt.ensures K (record { low = h.low.0; high = h.high.0 })) (c.count_of-in-FznAtLeastInt.ensures K (record { low = h.low.1.0; high = h.high.1.0 }) (record { low = h.low.1.1.0; high = h.high.1.1.0 })))
+    c.at_most-in-FznAtLeastInt.ensures (int_at K xs 0) (count_of (ints_at K xs 1) (int_at K xs 2)) (c.number-in-FznAtLeastInt.ensures K (record { low = h.low.0; high = h.high.0 })) (c.count_of-in-FznAtLeastInt.ensures K (record { low = h.low.1.0; high = h.high.1.0 }) (int_at K xs 2) (c.number-in-FznAtLeastInt-2.ensures K (record { low = h.low.1.1.0; high = h.high.1.1.0 }))))
 
 pub returns-in-FznAtMostInt : goal.returns-in-FznAtMostInt
 unfolding row_at
 returns-in-FznAtMostInt c = at_row c.args.at.now c.args.builtin builtin.FznAtMostInt c.at_most-in-FznAtMostInt.result c.in-FznAtMostInt.is (λ K h.
     let xs = given c.args.at.now in
-    c.at_most-in-FznAtMostInt.ensures (count_of (ints_at K xs 1) (int_at K xs 2)) (int_at K xs 0) (c.count_of-in-FznAtMostInt.ensures K (record { low = h.low.1.0; high = h.high.1.0 }) (record { low = h.low.1.1.0; high = h.high.1.1.0 })) (c.number-in-FznAtMostInt.ensures K (record { low = h.low.0; high = h.high.0 })))
+    c.at_most-in-FznAtMostInt.ensures (count_of (ints_at K xs 1) (int_at K xs 2)) (int_at K xs 0) (c.count_of-in-FznAtMostInt.ensures K (record { low = h.low.1.0; high = h.high.1.0 }) (int_at K xs 2) (c.number-in-FznAtMostInt.ensures K (record { low = h.low.1.1.0; high = h.high.1.1.0 }))) (c.number-in-FznAtMostInt-2.ensures K (record { low = h.low.0; high = h.high.0 })))
 
 pub returns-in-FznExactlyInt : goal.returns-in-FznExactlyInt
 unfolding row_at
 returns-in-FznExactlyInt c = at_row c.args.at.now c.args.builtin builtin.FznExactlyInt c.equal-in-FznExactlyInt.result c.in-FznExactlyInt.is (λ K h.
     let xs = given c.args.at.now in
-    c.equal-in-FznExactlyInt.ensures (int_at K xs 0) (count_of (ints_at K xs 1) (int_at K xs 2)) (c.number-in-FznExactlyInt.ensures K (record { low = h.low.0; high = h.high.0 })) (c.count_of-in-FznExactlyInt.ensures K (record { low = h.low.1.0; high = h.high.1.0 }) (record { low = h.low.1.1.0; high = h.high.1.1.0 })))
+    c.equal-in-FznExactlyInt.ensures (int_at K xs 0) (count_of (ints_at K xs 1) (int_at K xs 2)) (c.number-in-FznExactlyInt.ensures K (record { low = h.low.0; high = h.high.0 })) (c.count_of-in-FznExactlyInt.ensures K (record { low = h.low.1.0; high = h.high.1.0 }) (int_at K xs 2) (c.number-in-FznExactlyInt-2.ensures K (record { low = h.low.1.1.0; high = h.high.1.1.0 }))))
 
 pub returns-in-IntTimes : goal.returns-in-IntTimes
 unfolding row_at
@@ -336,3 +334,135 @@ pub returns-in-FznAlldifferentExcept0 : goal.returns-in-FznAlldifferentExcept0
 unfolding row_at
 returns-in-FznAlldifferentExcept0 c = at_row c.args.at.now c.args.builtin builtin.FznAlldifferentExcept0 c.different_but_zeros.result c.in-FznAlldifferentExcept0.is (λ K h.
     c.different_but_zeros.ensures K (record { low = h.low.0; high = h.high.0 }))
+
+pub returns-in-FznBinPacking : goal.returns-in-FznBinPacking
+unfolding row_at
+returns-in-FznBinPacking c = at_row c.args.at.now c.args.builtin builtin.FznBinPacking c.loads_are_within.result c.in-FznBinPacking.is (λ K h.
+    c.loads_are_within.ensures K (record { low = h.low.0; high = h.high.0 }) (record { low = h.low.1.0; high = h.high.1.0 }) (record { low = h.low.1.1.0; high = h.high.1.1.0 }))
+
+pub returns-in-GecodeBinPackingLoad : goal.returns-in-GecodeBinPackingLoad
+unfolding row_at
+returns-in-GecodeBinPackingLoad c = at_row c.args.at.now c.args.builtin builtin.GecodeBinPackingLoad c.and-in-GecodeBinPackingLoad.result c.in-GecodeBinPackingLoad.is (λ K h.
+    let xs = given c.args.at.now in
+    c.and-in-GecodeBinPackingLoad.ensures (list_all (lies_between (int_at K xs 3) ((int_at K xs 3 +ℤ pos (length (ints_at K xs 0))) -ℤ pos 1)) (ints_at K xs 1)) (loads_are (int_at K xs 3) (ints_at K xs 1) (ints_at K xs 2) (ints_at K xs 0)) (c.are_in_bins.ensures K (record { low = h.low.1.0; high = h.high.1.0 }) (record { low = h.low.1.1.1.0; high = h.high.1.1.1.0 })) (c.loads_are.ensures K (record { low = h.low.0; high = h.high.0 }) (record { low = h.low.1.0; high = h.high.1.0 }) (record { low = h.low.1.1.0; high = h.high.1.1.0 }) (record { low = h.low.1.1.1.0; high = h.high.1.1.1.0 })))
+
+pub returns-in-FznGlobalCardinality : goal.returns-in-FznGlobalCardinality
+unfolding row_at
+returns-in-FznGlobalCardinality c = at_row c.args.at.now c.args.builtin builtin.FznGlobalCardinality c.counts_are.result c.in-FznGlobalCardinality.is (λ K h.
+    c.counts_are.ensures K (record { low = h.low.0; high = h.high.0 }) (record { low = h.low.1.0; high = h.high.1.0 }) (record { low = h.low.1.1.0; high = h.high.1.1.0 }))
+
+pub returns-in-FznGlobalCardinalityClosed : goal.returns-in-FznGlobalCardinalityClosed
+unfolding row_at
+returns-in-FznGlobalCardinalityClosed c = at_row c.args.at.now c.args.builtin builtin.FznGlobalCardinalityClosed c.and-in-FznGlobalCardinalityClosed.result c.in-FznGlobalCardinalityClosed.is (λ K h.
+    let xs = given c.args.at.now in
+    c.and-in-FznGlobalCardinalityClosed.ensures (counts_are (ints_at K xs 0) (ints_at K xs 1) (ints_at K xs 2)) (is_closed (ints_at K xs 0) (ints_at K xs 1)) (c.counts_are-in-FznGlobalCardinalityClosed.ensures K (record { low = h.low.0; high = h.high.0 }) (record { low = h.low.1.0; high = h.high.1.0 }) (record { low = h.low.1.1.0; high = h.high.1.1.0 })) (c.is_closed.ensures K (record { low = h.low.0; high = h.high.0 }) (record { low = h.low.1.0; high = h.high.1.0 })))
+
+pub returns-in-FznGlobalCardinalityLowUp : goal.returns-in-FznGlobalCardinalityLowUp
+unfolding row_at
+returns-in-FznGlobalCardinalityLowUp c = at_row c.args.at.now c.args.builtin builtin.FznGlobalCardinalityLowUp c.counts_lie.result c.in-FznGlobalCardinalityLowUp.is (λ K h.
+    c.counts_lie.ensures K (record { low = h.low.0; high = h.high.0 }) (record { low = h.low.1.0; high = h.high.1.0 }) (record { low = h.low.1.1.0; high = h.high.1.1.0 }) (record { low = h.low.1.1.1.0; high = h.high.1.1.1.0 }))
+
+pub returns-in-FznGlobalCardinalityLowUpClosed : goal.returns-in-FznGlobalCardinalityLowUpClosed
+unfolding row_at
+returns-in-FznGlobalCardinalityLowUpClosed c = at_row c.args.at.now c.args.builtin builtin.FznGlobalCardinalityLowUpClosed c.and-in-FznGlobalCardinalityLowUpClosed.result c.in-FznGlobalCardinalityLowUpClosed.is (λ K h.
+    let xs = given c.args.at.now in
+    c.and-in-FznGlobalCardinalityLowUpClosed.ensures (counts_lie (ints_at K xs 0) (ints_at K xs 1) (ints_at K xs 2) (ints_at K xs 3)) (is_closed (ints_at K xs 0) (ints_at K xs 1)) (c.counts_lie-in-FznGlobalCardinalityLowUpClosed.ensures K (record { low = h.low.0; high = h.high.0 }) (record { low = h.low.1.0; high = h.high.1.0 }) (record { low = h.low.1.1.0; high = h.high.1.1.0 }) (record { low = h.low.1.1.1.0; high = h.high.1.1.1.0 })) (c.is_closed-in-FznGlobalCardinalityLowUpClosed.ensures K (record { low = h.low.0; high = h.high.0 }) (record { low = h.low.1.0; high = h.high.1.0 })))
+
+pub returns-in-FznDistribute : goal.returns-in-FznDistribute
+unfolding row_at
+returns-in-FznDistribute c = at_row c.args.at.now c.args.builtin builtin.FznDistribute c.counts_are-in-FznDistribute.result c.in-FznDistribute.is (λ K h.
+    c.counts_are-in-FznDistribute.ensures K (record { low = h.low.1.1.0; high = h.high.1.1.0 }) (record { low = h.low.1.0; high = h.high.1.0 }) (record { low = h.low.0; high = h.high.0 }))
+
+pub returns-in-FznCumulative : goal.returns-in-FznCumulative
+unfolding row_at
+returns-in-FznCumulative c = at_row c.args.at.now c.args.builtin builtin.FznCumulative c.is_cumulative.result c.in-FznCumulative.is (λ K h.
+    c.is_cumulative.ensures K (record { low = h.low.0; high = h.high.0 }) (record { low = h.low.1.0; high = h.high.1.0 }) (record { low = h.low.1.1.0; high = h.high.1.1.0 }) (record { low = h.low.1.1.1.0; high = h.high.1.1.1.0 }))
+
+pub returns-in-FznDisjunctive : goal.returns-in-FznDisjunctive
+unfolding row_at
+returns-in-FznDisjunctive c = at_row c.args.at.now c.args.builtin builtin.FznDisjunctive c.is_disjunctive.result c.in-FznDisjunctive.is (λ K h.
+    c.is_disjunctive.ensures K (record { low = h.low.0; high = h.high.0 }) (record { low = h.low.1.0; high = h.high.1.0 }))
+
+pub returns-in-FznDisjunctiveStrict : goal.returns-in-FznDisjunctiveStrict
+unfolding row_at
+returns-in-FznDisjunctiveStrict c = at_row c.args.at.now c.args.builtin builtin.FznDisjunctiveStrict c.is_disjunctive-in-FznDisjunctiveStrict.result c.in-FznDisjunctiveStrict.is (λ K h.
+    c.is_disjunctive-in-FznDisjunctiveStrict.ensures K (record { low = h.low.0; high = h.high.0 }) (record { low = h.low.1.0; high = h.high.1.0 }))
+
+pub returns-in-FznMemberInt : goal.returns-in-FznMemberInt
+unfolding row_at
+returns-in-FznMemberInt c = at_row c.args.at.now c.args.builtin builtin.FznMemberInt c.is_among-in-FznMemberInt.result c.in-FznMemberInt.is (λ K h.
+    let xs = given c.args.at.now in
+    c.is_among-in-FznMemberInt.ensures K (record { low = h.low.0; high = h.high.0 }) (int_at K xs 1) (c.number-in-FznMemberInt.ensures K (record { low = h.low.1.0; high = h.high.1.0 })))
+
+pub returns-in-IntDiv : goal.returns-in-IntDiv
+unfolding row_at
+returns-in-IntDiv c = at_row c.args.at.now c.args.builtin builtin.IntDiv c.is_quotient.result c.in-IntDiv.is (λ K h.
+    c.is_quotient.ensures K (record { low = h.low.0; high = h.high.0 }) (record { low = h.low.1.0; high = h.high.1.0 }) (record { low = h.low.1.1.0; high = h.high.1.1.0 }))
+
+pub returns-in-IntMod : goal.returns-in-IntMod
+unfolding row_at
+returns-in-IntMod c = at_row c.args.at.now c.args.builtin builtin.IntMod c.is_remainder.result c.in-IntMod.is (λ K h.
+    c.is_remainder.ensures K (record { low = h.low.0; high = h.high.0 }) (record { low = h.low.1.0; high = h.high.1.0 }) (record { low = h.low.1.1.0; high = h.high.1.1.0 }))
+
+pub returns-in-FznAllEqualInt : goal.returns-in-FznAllEqualInt
+unfolding row_at
+returns-in-FznAllEqualInt c = at_row c.args.at.now c.args.builtin builtin.FznAllEqualInt c.are_in_order.result c.in-FznAllEqualInt.is (λ K h.
+    c.are_in_order.ensures K (record { low = h.low.0; high = h.high.0 }))
+
+pub returns-in-FznIncreasingInt : goal.returns-in-FznIncreasingInt
+unfolding row_at
+returns-in-FznIncreasingInt c = at_row c.args.at.now c.args.builtin builtin.FznIncreasingInt c.are_in_order-in-FznIncreasingInt.result c.in-FznIncreasingInt.is (λ K h.
+    c.are_in_order-in-FznIncreasingInt.ensures K (record { low = h.low.0; high = h.high.0 }))
+
+pub returns-in-FznDecreasingInt : goal.returns-in-FznDecreasingInt
+unfolding row_at
+returns-in-FznDecreasingInt c = at_row c.args.at.now c.args.builtin builtin.FznDecreasingInt c.are_in_order-in-FznDecreasingInt.result c.in-FznDecreasingInt.is (λ K h.
+    c.are_in_order-in-FznDecreasingInt.ensures K (record { low = h.low.0; high = h.high.0 }))
+
+pub returns-in-FznStrictlyIncreasingInt : goal.returns-in-FznStrictlyIncreasingInt
+unfolding row_at
+returns-in-FznStrictlyIncreasingInt c = at_row c.args.at.now c.args.builtin builtin.FznStrictlyIncreasingInt c.are_in_order-in-FznStrictlyIncreasingInt.result c.in-FznStrictlyIncreasingInt.is (λ K h.
+    c.are_in_order-in-FznStrictlyIncreasingInt.ensures K (record { low = h.low.0; high = h.high.0 }))
+
+pub returns-in-FznIncreasingBool : goal.returns-in-FznIncreasingBool
+unfolding row_at
+returns-in-FznIncreasingBool c = at_row c.args.at.now c.args.builtin builtin.FznIncreasingBool c.are_rising.result c.in-FznIncreasingBool.is (λ K h.
+    c.are_rising.ensures K (record { low = h.low.0; high = h.high.0 }))
+
+pub returns-in-FznDecreasingBool : goal.returns-in-FznDecreasingBool
+unfolding row_at
+returns-in-FznDecreasingBool c = at_row c.args.at.now c.args.builtin builtin.FznDecreasingBool c.are_falling.result c.in-FznDecreasingBool.is (λ K h.
+    c.are_falling.ensures K (record { low = h.low.0; high = h.high.0 }))
+
+pub returns-in-FznValuePrecedeInt : goal.returns-in-FznValuePrecedeInt
+unfolding row_at
+returns-in-FznValuePrecedeInt c = at_row c.args.at.now c.args.builtin builtin.FznValuePrecedeInt c.precedes.result c.in-FznValuePrecedeInt.is (λ K h.
+    let xs = given c.args.at.now in
+    c.precedes.ensures K (record { low = h.low.1.1.0; high = h.high.1.1.0 }) (int_at K xs 0) (int_at K xs 1) (c.number-in-FznValuePrecedeInt.ensures K (record { low = h.low.0; high = h.high.0 })) (c.number-in-FznValuePrecedeInt-2.ensures K (record { low = h.low.1.0; high = h.high.1.0 })))
+
+pub returns-in-GecodePrecede : goal.returns-in-GecodePrecede
+unfolding row_at
+returns-in-GecodePrecede c = at_row c.args.at.now c.args.builtin builtin.GecodePrecede c.precedes-in-GecodePrecede.result c.in-GecodePrecede.is (λ K h.
+    let xs = given c.args.at.now in
+    c.precedes-in-GecodePrecede.ensures K (record { low = h.low.0; high = h.high.0 }) (int_at K xs 1) (int_at K xs 2) (c.number-in-GecodePrecede.ensures K (record { low = h.low.1.0; high = h.high.1.0 })) (c.number-in-GecodePrecede-2.ensures K (record { low = h.low.1.1.0; high = h.high.1.1.0 })))
+
+pub returns-in-FznValuePrecedeChainInt : goal.returns-in-FznValuePrecedeChainInt
+unfolding row_at
+returns-in-FznValuePrecedeChainInt c = at_row c.args.at.now c.args.builtin builtin.FznValuePrecedeChainInt c.precede_in_turn.result c.in-FznValuePrecedeChainInt.is (λ K h.
+    c.precede_in_turn.ensures K (record { low = h.low.0; high = h.high.0 }) (record { low = h.low.1.0; high = h.high.1.0 }))
+
+pub returns-in-FznSeqPrecedeChainInt : goal.returns-in-FznSeqPrecedeChainInt
+unfolding row_at
+returns-in-FznSeqPrecedeChainInt c = at_row c.args.at.now c.args.builtin builtin.FznSeqPrecedeChainInt c.rise_by_one.result c.in-FznSeqPrecedeChainInt.is (λ K h.
+    c.rise_by_one.ensures K (record { low = h.low.0; high = h.high.0 }))
+
+pub returns-in-SetIn : goal.returns-in-SetIn
+unfolding row_at
+returns-in-SetIn c = at_row c.args.at.now c.args.builtin builtin.SetIn c.is_in.result c.in-SetIn.is (λ K h.
+    c.is_in.ensures K (record { low = h.low.0; high = h.high.0 }) (record { low = h.low.1.0; high = h.high.1.0 }))
+
+pub returns-in-FznAmong : goal.returns-in-FznAmong
+unfolding row_at
+returns-in-FznAmong c = at_row c.args.at.now c.args.builtin builtin.FznAmong c.equal-in-FznAmong.result c.in-FznAmong.is (λ K h.
+    let xs = given c.args.at.now in
+    c.equal-in-FznAmong.ensures (int_at K xs 0) (count_in (ints_at K xs 1) (set_at K xs 2)) (c.number-in-FznAmong.ensures K (record { low = h.low.0; high = h.high.0 })) (c.count_in.ensures K (record { low = h.low.1.0; high = h.high.1.0 }) (record { low = h.low.1.1.0; high = h.high.1.1.0 })))

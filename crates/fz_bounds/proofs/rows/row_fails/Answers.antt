@@ -2,7 +2,7 @@ use Rattle.std.proofs.Common.{◌≡◌, rules}
 use Rattle.fz_bounds.specs.declared.limits.Limits.{Limits}
 use Rattle.fz_bounds.specs.declared.outlook.Outlook.TheVariants.{Never}
 use Rattle.fz_bounds.specs.Within.{AreKnown}
-use Rattle.fz_builtins.specs.of_meaning.Known.{known_row}
+use Rattle.fz_model.specs.of_builtins.of_meaning.Known.{known_row}
 use Rattle.fz_bounds.proofs.Never.{row_never}
 use Rattle.fz_bounds.proofs.rows.row_fails.Goals as goal
 

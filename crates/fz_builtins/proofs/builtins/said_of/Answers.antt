@@ -2,10 +2,12 @@ use Rattle.std.proofs.Common.{rules, refl, ap, sym, ◌∙◌}
 use Rattle.fz_globals.specs.of_meaning.Builtins.{row_at}
 use Rattle.fz_globals.specs.of_meaning.Relations.{◌=ℤ◌, ◌=ᴮ◌, ◌=ˢ◌}
 use Rattle.fz_globals.specs.of_meaning.Results.{result_of}
+use Rattle.fz_globals.specs.of_meaning.declared.builtin.Builtin.TheVariants.{GecodeArraySetElementUnion}
+use Rattle.fz_globals.specs.of_kernel.Views.{arguments_of, assigned}
 use Rattle.fz_builtins.specs.declared.outcome.Outcome.TheVariants.{Truth}
 use Rattle.fz_builtins.specs.Outcomes.{row_outcome}
 use Rattle.fz_builtins.specs.Said.{is_result}
-use Rattle.fz_builtins.proofs.Rows.{element_is, number_is, one_sum, same_bool_either_way, same_int_either_way, same_set_either_way, two_sums, value_is}
+use Rattle.fz_builtins.proofs.Rows.{element_is, number_is, one_sum, said_at, same_bool_either_way, same_int_either_way, same_set_either_way, two_sums, value_is}
 use Rattle.fz_builtins.proofs.builtins.said_of.Goals as goal
 
 pub returns-in-IntEq : goal.returns-in-IntEq
@@ -235,9 +237,16 @@ pub returns-in-SetCard : goal.returns-in-SetCard
 unfolding result_of row_at
 returns-in-SetCard c = rw c.in-SetCard.is ((refl, refl, refl), number_is c.set_card.ensures (search rules))
 
+pub returns-in_ok-convex-in-SetConvex : goal.returns-in_ok-convex-in-SetConvex
+unfolding row_outcome row_at result_of
+returns-in_ok-convex-in-SetConvex c = rw c.in-SetConvex.is (ap Truth c.in_ok-convex-in-SetConvex.ensures, tt)
+
 pub returns-in-ArraySetElement : goal.returns-in-ArraySetElement
 unfolding result_of row_at
 returns-in-ArraySetElement c = rw c.in-ArraySetElement.is ((refl, refl, refl), element_is ◌=ˢ◌ same_set_either_way c.set_element.ensures)
+
+pub returns-in-GecodeArraySetElementUnion : goal.returns-in-GecodeArraySetElementUnion
+returns-in-GecodeArraySetElementUnion c = rw c.in-GecodeArraySetElementUnion.is (said_at (row_at GecodeArraySetElementUnion) (assigned c.args.view.now) (arguments_of c.args.view.now) c.args.first c.set_element_union.result c.set_element_union.ensures)
 
 pub returns-in_ok-different_but_zeros-in-FznAlldifferentExcept0 : goal.returns-in_ok-different_but_zeros-in-FznAlldifferentExcept0
 unfolding row_outcome row_at result_of
@@ -322,6 +331,10 @@ returns-in-FznDisjunctive c = rw c.in-FznDisjunctive.is (ap Truth c.disjunctive.
 pub returns-in-FznDisjunctiveStrict : goal.returns-in-FznDisjunctiveStrict
 unfolding row_outcome row_at result_of
 returns-in-FznDisjunctiveStrict c = rw c.in-FznDisjunctiveStrict.is (ap Truth c.disjunctive_strict.ensures, tt)
+
+pub returns-in-GecodeScheduleUnary : goal.returns-in-GecodeScheduleUnary
+unfolding row_outcome row_at result_of
+returns-in-GecodeScheduleUnary c = rw c.in-GecodeScheduleUnary.is (ap Truth c.schedule_unary.ensures, tt)
 
 pub returns-in-FznDiffn : goal.returns-in-FznDiffn
 unfolding row_outcome row_at result_of
@@ -411,6 +424,10 @@ pub returns-in-GecodePrecede : goal.returns-in-GecodePrecede
 unfolding row_outcome row_at result_of
 returns-in-GecodePrecede c = rw c.in-GecodePrecede.is (ap Truth c.precede.ensures, tt)
 
+pub returns-in-GecodePrecedeSet : goal.returns-in-GecodePrecedeSet
+unfolding row_outcome row_at result_of
+returns-in-GecodePrecedeSet c = rw c.in-GecodePrecedeSet.is (ap Truth c.precede_set.ensures, tt)
+
 pub returns-in_ok-value_precede_chain-in-FznValuePrecedeChainInt : goal.returns-in_ok-value_precede_chain-in-FznValuePrecedeChainInt
 unfolding row_outcome row_at result_of
 returns-in_ok-value_precede_chain-in-FznValuePrecedeChainInt c = rw c.in-FznValuePrecedeChainInt.is (ap Truth c.in_ok-value_precede_chain-in-FznValuePrecedeChainInt.ensures, tt)
@@ -439,6 +456,10 @@ pub returns-in-GecodeMinimumArgIntOffset : goal.returns-in-GecodeMinimumArgIntOf
 unfolding result_of row_at
 returns-in-GecodeMinimumArgIntOffset c = rw c.in-GecodeMinimumArgIntOffset.is ((refl, refl, refl), c.argument_of_minimum.ensures)
 
+pub returns-in-GecodeMaximumArgBoolOffset : goal.returns-in-GecodeMaximumArgBoolOffset
+unfolding result_of row_at
+returns-in-GecodeMaximumArgBoolOffset c = rw c.in-GecodeMaximumArgBoolOffset.is ((refl, refl, refl), c.argument_of_greatest_truth.ensures)
+
 pub returns-in-FznKnapsack : goal.returns-in-FznKnapsack
 unfolding row_outcome row_at result_of
 returns-in-FznKnapsack c = rw c.in-FznKnapsack.is (c.knapsack.ensures ∙ two_sums _ _ _, tt)
@@ -447,6 +468,14 @@ pub returns-in-FznSlidingSum : goal.returns-in-FznSlidingSum
 unfolding row_outcome row_at result_of
 returns-in-FznSlidingSum c = rw c.in-FznSlidingSum.is (ap Truth c.sliding_sum.ensures, tt)
 
+pub returns-in-GecodeAmongSeqInt : goal.returns-in-GecodeAmongSeqInt
+unfolding row_outcome row_at result_of
+returns-in-GecodeAmongSeqInt c = rw c.in-GecodeAmongSeqInt.is (ap Truth c.among_seq.ensures, tt)
+
+pub returns-in_ok-set_weights-in-GecodeSetWeights : goal.returns-in_ok-set_weights-in-GecodeSetWeights
+unfolding result_of row_at
+returns-in_ok-set_weights-in-GecodeSetWeights c = rw c.in-GecodeSetWeights.is ((refl, refl, refl), c.in_ok-set_weights-in-GecodeSetWeights.ensures)
+
 pub returns-in-GecodeLinkSetToBooleans : goal.returns-in-GecodeLinkSetToBooleans
 unfolding row_outcome row_at result_of
 returns-in-GecodeLinkSetToBooleans c = rw c.in-GecodeLinkSetToBooleans.is (ap Truth c.link_set_to_booleans.ensures, tt)
@@ -454,6 +483,10 @@ returns-in-GecodeLinkSetToBooleans c = rw c.in-GecodeLinkSetToBooleans.is (ap Tr
 pub returns-in-GecodeIntSetChannel : goal.returns-in-GecodeIntSetChannel
 unfolding row_outcome row_at result_of
 returns-in-GecodeIntSetChannel c = rw c.in-GecodeIntSetChannel.is (ap Truth c.int_set_channel.ensures, tt)
+
+pub returns-in-GecodeInverseSet : goal.returns-in-GecodeInverseSet
+unfolding row_outcome row_at result_of
+returns-in-GecodeInverseSet c = rw c.in-GecodeInverseSet.is (ap Truth c.inverse_set.ensures, tt)
 
 pub returns-in-FznDisjoint : goal.returns-in-FznDisjoint
 unfolding row_outcome row_at result_of

@@ -13,6 +13,6 @@ returns-in-Some-walk c =
     let ms = moved_from (pos 1) f in
     let start = pos (c.in-Some.start + 1) in
     let found : slice_get ms 0 ≡ Some start = simp to_z-of_z at c.in-Some.ensures.found in
-    let counted : c.count_moved.result ≡ length ms = simp to_z-of_z at c.count_moved.ensures in
+    let counted : c.count_moved.result ≡ length ms = simp to_z-of_z at c.count_moved.ensures.exact in
     let ahead : NotBack f start c.count_moved.result = simp to_z-of_z at c.in-Some-walk.ensures.goes_on in
     sym (tour_from f ms start found ∙ goes_through f c.requires.different start (length ms) (subst (NotBack f start) counted ahead))

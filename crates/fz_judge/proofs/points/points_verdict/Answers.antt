@@ -15,10 +15,10 @@ returns-then-is_failed c =
     let within : c.loop-number.number < length (points c.args.model.now) = omega (arith, c.points-number-end.ensures.counted, c.loop-number-test.true) in
     point_violates c.args.model.now c.args.partial.now c.loop-number.number c.in_ok-found.found (point_name c.point-point.result) within c.in_ok-found.ensures.exact c.point-point.ensures.told _ c.loop-number.invariant.none_fails (sym c.is_failed.ensures ∙ c.if-is_failed.true) c.fault_named.ensures
 
-pub loop-number-preserved-then-holds : goal.loop-number-preserved-then-holds
-loop-number-preserved-then-holds c =
+pub loop-number-preserved-then-is_held : goal.loop-number-preserved-then-is_held
+loop-number-preserved-then-is_held c =
     let within : c.loop-number.number < length (points c.args.model.now) = omega (arith, c.points-number-end.ensures.counted, c.loop-number-test.true) in
-    let held = sym c.holds.ensures ∙ c.if-holds.true in
+    let held = sym c.is_held.ensures ∙ c.if-is_held.true in
     record {
       none_fails = held_passes c.args.model.now c.args.partial.now c.loop-number.number c.in_ok-found.found within c.in_ok-found.ensures.exact held c.loop-number.invariant.none_fails;
       undecided = held_decided c.args.model.now c.args.partial.now c.loop-number.number c.in_ok-found.found within c.in_ok-found.ensures.exact held _ c.loop-number.invariant.undecided;

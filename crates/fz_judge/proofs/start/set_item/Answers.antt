@@ -1,5 +1,6 @@
 use Rattle.std.proofs.Common.{◌≡◌, None, sym, ap, subst, ◌∙◌}
 use Rattle.fz_search.specs.of_model.Meaning.{IsPartial, variables_of}
+use Rattle.fz_search.specs.of_model.Relations.{kind_of}
 use Rattle.fz_search.specs.of_model.Shown.{found_place, what_place}
 use Rattle.fz_search.specs.of_model.View.{located_name}
 use Rattle.fz_judge.specs.BlockFaults.{value_fault}
@@ -21,4 +22,4 @@ returns-clause-kinds c =
     ap (λ vs. value_fault (located_name c.args.item.now.name) (what_place vs x c.in-Some.found.what) (located_printed_value c.args.item.now.value)) (sym c.variables.ensures.all)
     ∙ map_none refusal _ (sym (c.value_fault.ensures x) ∙ c.in_default-value_fault.is) in
     subst (IsPartial m) (sym (c.in_ok-set_value.ensures (variables_of m) x))
-    (all_fit m c.args.partial.now _ c.requires.fits (place_pairs_fit m (located_name c.args.item.now.name) place (located_printed_value c.args.item.now.value) c.in-Some.ensures.kinds none))
+    (all_fit (λ k v. kind_of v ≡ k) m c.args.partial.now _ c.requires.fits (place_pairs_fit (λ k v. kind_of v ≡ k) m (located_name c.args.item.now.name) place (located_printed_value c.args.item.now.value) c.in-Some.ensures.kinds none))

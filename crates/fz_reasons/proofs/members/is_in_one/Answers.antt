@@ -4,7 +4,7 @@ use Rattle.std.specs.List.{list_any}
 use Rattle.std.proofs.lemmas.Int.{to_z-of_z}
 use Rattle.fz_base.specs.Sets.{NumberSet}
 use Rattle.fz_builtins.specs.of_kernel.Views.{sets}
-use Rattle.fz_globals.proofs.Each.{one_does, not_yet}
+use Rattle.fz_builtins.proofs.of_globals.Each.{one_does, not_yet}
 use Rattle.fz_reasons.proofs.members.is_in_one.Goals as goal
 
 pub returns-then-contains : goal.returns-then-contains

@@ -3,7 +3,7 @@ use Rattle.std.specs.Int.{w128}
 use Rattle.std.proofs.lemmas.Int.{to_z-of_z}
 use Rattle.fz_builtins.specs.of_meaning.Relations.{as_places, element_at, end_of_tour}
 use Rattle.fz_builtins.specs.of_kernel.Views.{ints}
-use Rattle.fz_globals.proofs.Walked.{one_further}
+use Rattle.fz_builtins.proofs.of_globals.Walked.{one_further}
 use Rattle.fz_reasons.proofs.rings.ring_from.Goals as goal
 
 pub returns-then-position-start-clause-ring : goal.returns-then-position-start-clause-ring

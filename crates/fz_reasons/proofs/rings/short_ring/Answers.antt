@@ -3,8 +3,8 @@ use Rattle.std.specs.Int.{w128}
 use Rattle.std.proofs.lemmas.Int.{to_z-of_z}
 use Rattle.fz_builtins.specs.of_meaning.Relations.{as_places, end_of_tour}
 use Rattle.fz_builtins.specs.of_kernel.Views.{ints}
-use Rattle.fz_globals.proofs.Led.{placed_counted}
-use Rattle.fz_globals.proofs.of_kernel.Read.{ints_counted}
+use Rattle.fz_builtins.proofs.of_globals.Led.{placed_counted}
+use Rattle.fz_builtins.proofs.of_kernel.Read.{ints_counted}
 use Rattle.fz_reasons.specs.Tours.{ComesBack}
 use Rattle.fz_reasons.proofs.rings.short_ring.Goals as goal
 

@@ -1,16 +1,19 @@
-use Rattle.std.proofs.Common.{◌≡◌, ◌+◌, ◌<◌, ◌≤◌, ◌+ℤ◌, ◌-ℤ◌, ◌≤ℤ◌, true, length, FitsSigned, w64, to_z, of_z, sym, ap, ◌∙◌, arith, rules}
+use Rattle.std.proofs.Common.{◌≡◌, ◌+◌, ◌<◌, ◌≤◌, ◌+ℤ◌, ◌-ℤ◌, ◌≤ℤ◌, true, length, option_map, FitsSigned, w64, to_z, of_z, sym, ap, ◌∙◌, arith, rules}
 use Rattle.std.specs.Int.{w128}
 use Rattle.std.specs.List.{list_all}
 use Rattle.std.proofs.lemmas.Int.{ints as numerals, to_z-of_z}
 use Rattle.fz_kernel.specs.of_meaning.Relations.{total, lies_between, windows}
 use Rattle.fz_kernel.specs.Views.{ints}
-use Rattle.fz_scheduling.specs.Places.{number_at}
+use Rattle.fz_scheduling.specs.Places.{number_at, terms}
+use Rattle.fz_scheduling.proofs.Terms.{terms_counted}
 use Rattle.fz_scheduling.proofs.Windowed.{between_low, between_high, slides_out, slides_on, last_run}
 use Rattle.fz_scheduling.proofs.slides.running_sums_lie_between.Goals as goal
 
 pub returns-then-not-is_between : goal.returns-then-not-is_between
 returns-then-not-is_between c =
-    let xs = ints c.args.xs.now in
+    let o = option_map (λ s. s.now) c.args.counted in
+    let xs = terms o (ints c.args.xs.now) in
+    let counted : length xs ≡ length (ints c.args.xs.now) = terms_counted o (ints c.args.xs.now) in
     let low = to_z w64 (of_z w64 c.args.low) in
     let high = to_z w64 (of_z w64 c.args.high) in
     let k = c.args.width in
@@ -30,7 +33,7 @@ overflow_sub-sum c =
     let low = to_z w64 (of_z w64 c.args.low) in
     let high = to_z w64 (of_z w64 c.args.high) in
     let s = to_z w128 c.loop-start.sum-bits in
-    let fits_left : FitsSigned w64 c.number_at.result = search rules in
+    let fits_left : FitsSigned w64 c.term_at.result = search rules in
     let above : low ≤ℤ s = between_low low high s (passed c) in
     let below : s ≤ℤ high = between_high low high s (passed c) in
     omega (arith, numerals)
@@ -40,22 +43,24 @@ overflow_add-sum c =
     let low = to_z w64 (of_z w64 c.args.low) in
     let high = to_z w64 (of_z w64 c.args.high) in
     let s = to_z w128 c.loop-start.sum-bits in
-    let fits_left : FitsSigned w64 c.number_at.result = search rules in
-    let fits_new : FitsSigned w64 c.number_at-in-loop-start.result = search rules in
+    let fits_left : FitsSigned w64 c.term_at.result = search rules in
+    let fits_new : FitsSigned w64 c.term_at-in-loop-start.result = search rules in
     let above : low ≤ℤ s = between_low low high s (passed c) in
     let below : s ≤ℤ high = between_high low high s (passed c) in
     omega (arith, numerals)
 
 pub loop-start-preserved : goal.loop-start-preserved
 loop-start-preserved c =
-    let xs = ints c.args.xs.now in
+    let o = option_map (λ s. s.now) c.args.counted in
+    let xs = terms o (ints c.args.xs.now) in
+    let counted : length xs ≡ length (ints c.args.xs.now) = terms_counted o (ints c.args.xs.now) in
     let low = to_z w64 (of_z w64 c.args.low) in
     let high = to_z w64 (of_z w64 c.args.high) in
     let k = c.args.width in
     let i = c.loop-start.start in
     let s = to_z w128 c.loop-start.sum-bits in
-    let x = c.number_at.result in
-    let y = c.number_at-in-loop-start.result in
+    let x = c.term_at.result in
+    let y = c.term_at-in-loop-start.result in
     let fits_left : FitsSigned w64 x = search rules in
     let fits_new : FitsSigned w64 y = search rules in
     let above : low ≤ℤ s = between_low low high s (passed c) in
@@ -66,17 +71,19 @@ loop-start-preserved c =
     let inside : i + k ≤ length xs = omega arith in
     let more : i + k < length xs = omega arith in
     slides_on low high k xs i s c.loop-start.invariant c.requires.some inside (passed c) more t
-    (is ∙ ap (λ n. (s -ℤ n) +ℤ y) c.number_at.ensures ∙ ap (λ n. (s -ℤ number_at xs i) +ℤ n) c.number_at-in-loop-start.ensures)
+    (is ∙ ap (λ n. (s -ℤ n) +ℤ y) c.term_at.ensures ∙ ap (λ n. (s -ℤ number_at xs i) +ℤ n) c.term_at-in-loop-start.ensures)
 
 pub returns : goal.returns
 returns c =
-    let xs = ints c.args.xs.now in
+    let o = option_map (λ s. s.now) c.args.counted in
+    let xs = terms o (ints c.args.xs.now) in
+    let counted : length xs ≡ length (ints c.args.xs.now) = terms_counted o (ints c.args.xs.now) in
     let low = to_z w64 (of_z w64 c.args.low) in
     let high = to_z w64 (of_z w64 c.args.high) in
     let k = c.args.width in
     let i = c.loop-start.start in
     let s = to_z w128 c.loop-start.sum-bits in
-    let fits : k ≤ length xs = c.requires.fits in
+    let fits : k ≤ length (ints c.args.xs.now) = c.requires.fits in
     let end : i + k ≡ length xs = omega arith in
     let inside : i + k ≤ length xs = omega arith in
     c.is_between-2.ensures

@@ -1,5 +1,5 @@
 use Rattle.std.proofs.Common.{ap, subst}
-use Rattle.fz_builtins.specs.of_data.Shown.{point_view}
+use Rattle.fz_model.specs.Shown.{point_view}
 use Rattle.fz_bounds.specs.Bounds.{IsInDomain}
 use Rattle.fz_bounds.proofs.Numbers.{domain_inside}
 use Rattle.fz_bounds.proofs.bounds.Bounds.bound.Goals as goal

@@ -1,4 +1,4 @@
-use Rattle.fz_builtins.specs.of_data.Shown.{point_view}
+use Rattle.fz_model.specs.Shown.{point_view}
 use Rattle.fz_bounds.proofs.Known.{in_domain}
 use Rattle.fz_bounds.proofs.bounds.Bounds.new.Goals as goal
 

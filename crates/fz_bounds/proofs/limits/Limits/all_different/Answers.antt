@@ -1,10 +1,13 @@
 use Rattle.std.proofs.Common.{◌∙◌, ◌<◌, FitsSigned, Some, ap, length, w64, arith, rules}
 use Rattle.std.proofs.lemmas.Int.{to_z-of_z}
-use Rattle.fz_builtins.specs.of_kernel.Given.{ints_at, slots_at}
+use Rattle.fz_model.specs.of_builtins.of_kernel.Given.{ints_at, slots_at}
 use Rattle.fz_bounds.specs.Within.{given}
 use Rattle.fz_bounds.proofs.Indexed.{twice_listed}
 use Rattle.fz_bounds.proofs.Lists.{is_there}
 use Rattle.fz_bounds.proofs.limits.Limits.all_different.Goals as goal
+
+pub returns-then-are_crowded : goal.returns-then-are_crowded
+returns-then-are_crowded c = λ K h. c.are_crowded.ensures (search rules) K h
 
 pub returns-then-stands_before : goal.returns-then-stands_before
 returns-then-stands_before c = λ K h.

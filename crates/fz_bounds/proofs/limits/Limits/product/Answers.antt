@@ -1,6 +1,6 @@
 use Rattle.std.proofs.Common.{◌≡◌, ◌*ℤ◌, ◌∙◌, FitsSigned, subst, w64, rules}
 use Rattle.std.proofs.lemmas.Int.{to_z-of_z}
-use Rattle.fz_builtins.specs.of_kernel.Given.{int_at}
+use Rattle.fz_model.specs.of_builtins.of_kernel.Given.{int_at}
 use Rattle.fz_bounds.specs.Decided.{LiesIn}
 use Rattle.fz_bounds.specs.Within.{given}
 use Rattle.fz_bounds.proofs.Ranges.{product_above, product_below}
@@ -9,10 +9,10 @@ use Rattle.fz_bounds.proofs.limits.Limits.product.Goals as goal
 pub returns : goal.returns
 returns c = λ K f g.
     let s = c.args.self.now in
-    let l = int_at s.lowest.now (given s) 0 in
-    let h = int_at s.highest.now (given s) 0 in
-    let a = int_at K (given s) 0 in
-    let b = int_at K (given s) 1 in
+    let l = int_at s.lowest.now (given s) c.args.one in
+    let h = int_at s.highest.now (given s) c.args.one in
+    let a = int_at K (given s) c.args.one in
+    let b = int_at K (given s) c.args.other in
     let low_fits : FitsSigned w64 c.int.result = search rules in
     let high_fits : FitsSigned w64 c.int-2.result = search rules in
     let low_is : c.int.result ≡ l = search rules in

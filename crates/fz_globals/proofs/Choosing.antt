@@ -1,0 +1,107 @@
+-- The sets whose indices are in a set, one after another.
+use Rattle.std.proofs.Common.{◌≡◌, ℕ, ◌+◌, ◌≤◌, ℤ, pos, ◌+ℤ◌, Bool, true, false, ◌&&◌, ◌||◌, if◌then◌else◌, List, [], ◌∷◌, drop, length, Some, slice_get, refl, sym, ap, ◌∙◌, arith}
+use Rattle.std.specs.List.{list_all}
+use Rattle.std.specs.Ordering.{int_cmp}
+use Rattle.std.specs.Cmp.{int_cmp_total}
+use Rattle.std.specs.FinSet.{contains, contains-empty, contains-union, empty, is_subset, union}
+use Rattle.fz_base.specs.Sets.{NumberSet}
+use Rattle.fz_base.proofs.Numbers.{same_numbers}
+use Rattle.fz_kernel.specs.of_meaning.Relations.{chosen, indices_from, refer_back, union_of}
+use Rattle.fz_kernel.proofs.Left.{next, none_left}
+use Rattle.fz_globals.proofs.FirstBest.{one_on}
+
+-- the sets from the i-th position on that are chosen
+abbrev pub left : ℤ → List NumberSet → NumberSet → ℕ → List NumberSet
+left o ss s i = chosen (o +ℤ pos i) (drop i ss) s
+
+module _ (o : ℤ) (ss : List NumberSet) (s : NumberSet) (i : ℕ) (x : NumberSet) (at : slice_get ss i ≡ Some x) where
+  here : (b : Bool) → contains s (o +ℤ pos i) ≡ b
+      → left o ss s i ≡ (if b then x ∷ left o ss s (i + 1) else left o ss s (i + 1))
+  here b is =
+      ap (λ l. chosen (o +ℤ pos i) l s) (next ss i x at)
+      ∙ (λ k. if is k then x ∷ chosen (one_on o i k) (drop (i + 1) ss) s else chosen (one_on o i k) (drop (i + 1) ss) s)
+
+  pub one_chosen : contains s (o +ℤ pos i) ≡ true → left o ss s i ≡ x ∷ left o ss s (i + 1)
+  one_chosen is = here true is
+
+  pub none_chosen : contains s (o +ℤ pos i) ≡ false → left o ss s i ≡ left o ss s (i + 1)
+  none_chosen is = here false is
+
+-- ---- their union
+
+union_empty : (w : NumberSet) → union empty w ≡ w
+union_empty w = same_numbers (union empty w) w (λ q. contains-union int_cmp_total empty w q ∙ ap (λ b. b || contains w q) (contains-empty int_cmp q))
+
+empty_union : (w : NumberSet) → union w empty ≡ w
+empty_union w = same_numbers (union w empty) w (λ q. contains-union int_cmp_total w empty q ∙ ap (λ b. contains w q || b) (contains-empty int_cmp q) ∙ or_false (contains w q))
+  where
+    or_false : (b : Bool) → (b || false) ≡ b
+    or_false true = refl
+    or_false false = refl
+
+union_moved : (u v w : NumberSet) → union u (union v w) ≡ union (union u v) w
+union_moved u v w =
+    same_numbers (union u (union v w)) (union (union u v) w)
+    (λ q. contains-union int_cmp_total u (union v w) q ∙ ap (λ b. contains u q || b) (contains-union int_cmp_total v w q)
+    ∙ or_moved (contains u q) (contains v q) (contains w q)
+    ∙ sym (contains-union int_cmp_total (union u v) w q ∙ ap (λ b. b || contains w q) (contains-union int_cmp_total u v q)))
+  where
+    or_moved : (a b c : Bool) → (a || (b || c)) ≡ ((a || b) || c)
+    or_moved true b c = refl
+    or_moved false b c = refl
+
+-- what there is so far, with what is left, is the union of all
+abbrev pub IsUnited : List NumberSet → NumberSet → ℕ → NumberSet → Type 0
+IsUnited ss s i u = union_of (chosen (pos 1) ss s) ≡ union u (union_of (left (pos 1) ss s i))
+
+pub none_united : (ss : List NumberSet) (s u : NumberSet) → u ≡ empty → IsUnited ss s 0 u
+none_united ss s u is = sym (ap (λ v. union v (union_of (chosen (pos 1) ss s))) is ∙ union_empty (union_of (chosen (pos 1) ss s)))
+
+pub one_united : (ss : List NumberSet) (s : NumberSet) (i : ℕ) (u x v : NumberSet)
+    → IsUnited ss s i u → slice_get ss i ≡ Some x → contains s (pos 1 +ℤ pos i) ≡ true
+    → v ≡ union u x → IsUnited ss s (i + 1) v
+one_united ss s i u x v so_far at is joined =
+    let rest = union_of (left (pos 1) ss s (i + 1)) in
+    so_far ∙ ap (λ l. union u (union_of l)) (one_chosen (pos 1) ss s i x at is) ∙ union_moved u x rest
+    ∙ ap (λ w. union w rest) (sym joined)
+
+pub none_more : (ss : List NumberSet) (s : NumberSet) (i : ℕ) (u x v : NumberSet)
+    → IsUnited ss s i u → slice_get ss i ≡ Some x → contains s (pos 1 +ℤ pos i) ≡ false → v ≡ u
+    → IsUnited ss s (i + 1) v
+none_more ss s i u x v so_far at is same =
+    so_far ∙ (λ k. union (sym same k) (union_of (none_chosen (pos 1) ss s i x at is k)))
+
+pub all_united : (ss : List NumberSet) (s : NumberSet) (i : ℕ) (u : NumberSet) → IsUnited ss s i u
+    → length ss ≤ i → u ≡ union_of (chosen (pos 1) ss s)
+all_united ss s i u so_far end =
+    sym (so_far ∙ ap (λ l. union u (union_of (chosen (pos 1 +ℤ pos i) l s))) (none_left ss i end) ∙ empty_union u)
+
+-- ---- a number in each of them
+
+module _ (n o : ℤ) (ss : List NumberSet) (s : NumberSet) (i : ℕ) (r : Bool) (so_far : r ≡ list_all (λ t. contains t n) (left o ss s i)) where
+  module _ (x : NumberSet) (at : slice_get ss i ≡ Some x) where
+    pub one_has_not : contains s (o +ℤ pos i) ≡ true → contains x n ≡ false → false ≡ r
+    one_has_not is other = sym (so_far ∙ ap (list_all (λ t. contains t n)) (one_chosen o ss s i x at is) ∙ ap (λ b. b && list_all (λ t. contains t n) (left o ss s (i + 1))) other)
+
+    pub one_has : contains s (o +ℤ pos i) ≡ true → contains x n ≡ true
+        → r ≡ list_all (λ t. contains t n) (left o ss s (i + 1))
+    one_has is has = so_far ∙ ap (list_all (λ t. contains t n)) (one_chosen o ss s i x at is) ∙ ap (λ b. b && list_all (λ t. contains t n) (left o ss s (i + 1))) has
+
+    pub one_left_out : contains s (o +ℤ pos i) ≡ false
+        → r ≡ list_all (λ t. contains t n) (left o ss s (i + 1))
+    one_left_out is = so_far ∙ ap (list_all (λ t. contains t n)) (none_chosen o ss s i x at is)
+
+-- ---- sets that refer back, one after another
+
+module _ (o : ℤ) (ss : List NumberSet) (p : ℤ) (ys : List NumberSet) (i : ℕ) (r : Bool) (so_far : r ≡ refer_back (o +ℤ pos i) (drop i ss) p ys) where
+  module _ (s : NumberSet) (at : slice_get ss i ≡ Some s) (b : Bool) (is : b ≡ (is_subset s (indices_from p (length ys)) && list_all (λ t. contains t (o +ℤ pos i)) (chosen p ys s))) where
+    one : (c : Bool) → b ≡ c → r ≡ (c && refer_back (o +ℤ pos (i + 1)) (drop (i + 1) ss) p ys)
+    one c told =
+        so_far ∙ ap (λ l. refer_back (o +ℤ pos i) l p ys) (next ss i s at)
+        ∙ (λ k. (sym is ∙ told) k && refer_back (one_on o i k) (drop (i + 1) ss) p ys)
+
+    pub one_refers : b ≡ true → r ≡ refer_back (o +ℤ pos (i + 1)) (drop (i + 1) ss) p ys
+    one_refers e = one true e
+
+    pub one_does_not : b ≡ false → false ≡ r
+    one_does_not e = sym (one false e)

@@ -1,0 +1,13 @@
+use Rattle.std.proofs.Common.{◌≡◌, ◌↔◌, pos, true, FitsSigned, w64}
+use Rattle.std.proofs.lemmas.Int.{to_z-of_z}
+use Rattle.fz_base.specs.Sets.{LiesWithin}
+use Rattle.fz_reasons.proofs.Gaps.{some_less}
+use Rattle.fz_reasons.proofs.members.has_less.Goals as goal
+
+pub returns : goal.returns
+returns c =
+    let n = c.args.number in
+    let s = c.args.set.now in
+    let fits : FitsSigned w64 n = c.ranges.number in
+    let told : c.within.result ≡ true ↔ LiesWithin n (pos 9223372036854775807) s = simp to_z-of_z at c.within.ensures.exact in
+    some_less s n c.within.result told c.within.ensures.fits
