@@ -461,9 +461,31 @@ ROWS = [
 ]
 
 
-def make_model(size, rand, block_size=0):
-    """A model over the whole table, and a stream of one block. Where the block is to be larger than its arrays make
-    it, defined variables are printed by name."""
+def power(name):
+    """A power by a small exponent; now and then one that isn't known, or that leaves 128 bits."""
+
+    def make(model):
+        text, base = model.term("I")
+        exponent = model.rand.choice([-1, 0, 1, 2, 3, 4, 5, 6, 127])
+        by, notes = model.known("I", exponent)[0], model.note()
+        result = model.term("I")[0]
+        if exponent >= 0 and (exponent < 127 or abs(base) < 2):
+            value = base**exponent
+            if abs(value) >= 2**63:
+                return
+            result, notes = model.result("I", value)
+        model.post(name, [text, by, result], notes)
+
+    return make
+
+
+# Beside the others where two checkers are compared; the models that are measured have none.
+POWERS = [power("int_pow"), power("gecode_int_pow")]
+
+
+def make_model(size, rand, block_size=0, rows=ROWS):
+    """A model over these rows of the table, and a stream of one block. Where the block is to be
+    larger than its arrays make it, defined variables are printed by name."""
     variables = max(60, size // 160)
     model = Model(rand, variables)
     for number in range(max(1, size // 100_000)):
@@ -478,7 +500,7 @@ def make_model(size, rand, block_size=0):
     model.declare("var 0..1000000: cost :: output_var;")
     goal = "solve :: int_search(out_I0,first_fail,indomain_min,complete) :: restart_geometric(1.5,100) minimize cost;"
     while model.size < size - len(goal):
-        rand.choice(ROWS)(model)
+        rand.choice(rows)(model)
     for name, value in model.introduced:
         if len(block) >= block_size:
             break

@@ -31,6 +31,7 @@ pub enum BlockFault {
 enum State {
     Holds,
     Fails,
+    Unknown,
     TooLarge,
 }
 
@@ -51,6 +52,23 @@ fn rel<X: Ord>(r: Rel, a: X, b: X) -> bool {
         Rel::Le => a <= b,
         Rel::Lt => a < b,
     }
+}
+
+/// A power in 128 bits. It isn't known where the exponent is below 0.
+fn power(a: i64, b: i64) -> Result<i128, State> {
+    if b < 0 {
+        return Err(State::Unknown);
+    }
+    // Of 0, 1 and -1 the power is that of the same exponent down to 2, even or odd; any other
+    // number leaves 128 bits before the exponent is 128.
+    let exponent = if a.unsigned_abs() < 2 {
+        b.min(2 - b % 2)
+    } else {
+        b.min(128)
+    };
+    (a as i128)
+        .checked_pow(exponent as u32)
+        .ok_or(State::TooLarge)
 }
 
 /// What a constraint is evaluated over.
@@ -216,7 +234,7 @@ impl<'e> Env<'e> {
         }
     }
 
-    /// The state of a known constraint whose variables all have values.
+    /// The state of a constraint that fits a row and whose variables all have values.
     #[inline(always)]
     fn state(&self, con: &Con, nums: &mut Vec<i64>, scratch: &mut Vec<Range>) -> State {
         let g = |p: u32| self.g(p);
@@ -247,6 +265,10 @@ impl<'e> Env<'e> {
                 Some(s) => rel(rr, s, g(c) as i128) == (g(r) != 0),
             },
             Con::Arith(o, a, b, c) => self.arith(o, g(a), g(b)) == Some(g(c) as i128),
+            Con::Pow(a, b, c) => match power(g(a), g(b)) {
+                Err(state) => return state,
+                Ok(p) => p == g(c) as i128,
+            },
             Con::Abs(a, b) => (g(a) as i128).abs() == g(b) as i128,
             Con::Elem(a, b, c) => self.select(a, b).is_some_and(|p| g(p) == g(c)),
             Con::ElemSet(a, b, c) => self
@@ -880,6 +902,7 @@ impl<'a> Checker<'a> {
                 ..
             } => rel(r, e.sum(co, vo, n)?, g(c) as i128) as i64,
             Con::Arith(o, a, b, _) => fit(e.arith(o, g(a), g(b))?)?,
+            Con::Pow(a, b, _) => fit(power(g(a), g(b)).ok()?)?,
             Con::Abs(a, _) => fit((g(a) as i128).abs())?,
             Con::Elem(a, b, _) | Con::ElemSet(a, b, _) => g(e.select(a, b)?),
             Con::Ext { max, b, .. } => e.extreme(max, b)?,
@@ -1065,6 +1088,11 @@ impl<'a> Checker<'a> {
                 State::Fails => {
                     failed = Some(k as u32);
                     break;
+                }
+                State::Unknown => {
+                    if undecided.is_none() {
+                        undecided = Some(Verdict::Unknown(k as u32));
+                    }
                 }
                 State::TooLarge => {
                     if undecided.is_none() {

@@ -106,6 +106,7 @@ pub enum Con {
         r: u32,
     },
     Arith(Ar, u32, u32, u32),
+    Pow(u32, u32, u32),
     Abs(u32, u32),
     Elem(u32, Arr, u32),
     ElemSet(u32, Arr, u32),
@@ -187,6 +188,7 @@ impl Con {
             | Con::Card(a, b) => p(&[a, b], &[]),
             Con::CmpR(_, a, b, c)
             | Con::Arith(_, a, b, c)
+            | Con::Pow(a, b, c)
             | Con::Logic(_, a, b, c)
             | Con::InR(a, b, c)
             | Con::SetRelR(_, a, b, c)
@@ -214,6 +216,7 @@ impl Con {
             | Con::SetRel(SRel::Eq, a, b) => t == a || t == b,
             Con::CmpR(_, _, _, c)
             | Con::Arith(_, _, _, c)
+            | Con::Pow(_, _, c)
             | Con::Logic(_, _, _, c)
             | Con::InR(_, _, c)
             | Con::SetRelR(_, _, _, c)
@@ -239,6 +242,7 @@ enum Op {
     Lin(Rel),
     LinR(Rel),
     Arith(Ar),
+    Pow,
     Abs,
     Elem,
     ElemSet,
@@ -281,6 +285,8 @@ static ROWS: &[Row] = &[
     ("int_max", &[I, I, I], Op::Arith(Ar::Max)),
     ("int_div", &[I, I, I], Op::Arith(Ar::Div)),
     ("int_mod", &[I, I, I], Op::Arith(Ar::Mod)),
+    ("int_pow", &[I, I, I], Op::Pow),
+    ("gecode_int_pow", &[I, I, I], Op::Pow),
     ("int_abs", &[I, I], Op::Abs),
     ("array_int_element", &[I, AI, I], Op::Elem),
     ("array_var_int_element", &[I, AI, I], Op::Elem),
@@ -711,6 +717,7 @@ impl<'a> Builder<'a> {
                 },
             },
             Op::Arith(o) => Con::Arith(o, v(0), v(1), v(2)),
+            Op::Pow => Con::Pow(v(0), v(1), v(2)),
             Op::Abs => Con::Abs(v(0), v(1)),
             Op::Elem => Con::Elem(v(0), arr(1), v(2)),
             Op::ElemSet => Con::ElemSet(v(0), arr(1), v(2)),

@@ -7,8 +7,9 @@ A model has a solution by the way it is made, over the whole table of builtins, 
 prints a part of that. In each of COUNT blocks one printed value is another one of its variable's
 domain. Whether a solution extends a block is found by trying all values of the variables that it
 leaves out, with the rows of slow.py. No block may be violated that a solution extends, and none
-satisfied that none extends. Prints how many of the blocks that no solution extends are violated,
-and ends with 'N passed, M failed'; the files of a wrong verdict are kept."""
+satisfied that none extends. Where it would take a power that isn't known, a block has to stay
+undecided. Prints how many of the blocks that nothing extends are violated, and ends with
+'N passed, M failed'; the files of a wrong verdict are kept."""
 import itertools
 import os
 import random
@@ -21,9 +22,9 @@ sys.path.insert(0, HERE)
 import slow
 
 CORE = (
-    "int_lin_le int_lin_eq int_lin_ne int_le int_lt int_eq int_ne int_plus int_times int_min "
-    "int_max bool2int bool_clause array_bool_and array_bool_or bool_and bool_or bool_eq bool_not "
-    "array_int_element array_var_int_element array_bool_element array_int_maximum "
+    "int_lin_le int_lin_eq int_lin_ne int_le int_lt int_eq int_ne int_plus int_times int_pow "
+    "int_min int_max bool2int bool_clause array_bool_and array_bool_or bool_and bool_or bool_eq "
+    "bool_not array_int_element array_var_int_element array_bool_element array_int_maximum "
     "int_lin_le_reif int_lin_eq_reif int_le_reif int_eq_reif int_ne_reif int_lin_le_imp int_eq_imp "
     "bool_clause_reif set_in_reif fzn_all_different_int fzn_count_eq fzn_table_int set_card"
 ).split()
@@ -98,9 +99,10 @@ class Small:
                 return f" :: defines_var(x{args[place][1]})"
         return ""
 
-    def is_extended(self, values):
-        """Whether some values of the other variables make a solution, or none where there are too
-        many to try."""
+    def right_verdict(self, values):
+        """The verdict that is right beside `undecided`: `satisfied` where some values of the other
+        variables make a solution, `violated` where none do, and neither where that rests on what
+        isn't known. None where there are too many to try."""
         missing = [n for n in range(len(self.kinds)) if n not in values]
         size = 1
         for number in missing:
@@ -108,17 +110,23 @@ class Small:
         if size > MOST_TRIED:
             return None
         if any(values[n] not in self.domains[n] for n in values):
-            return False
+            return "violated"
+        right = "violated"
         for chosen in itertools.product(*(self.domains[n] for n in missing)):
             whole = slow.Values({**values, **dict(zip(missing, chosen))})
             if all(holds(row, args, whole) for _, row, args in self.constraints):
-                return True
-        return False
+                return "satisfied"
+            if all(holds(row, args, whole, True) for _, row, args in self.constraints):
+                right = "undecided"
+        return right
 
 
-def holds(row, args, values):
+def holds(row, args, values, unknown=False):
+    """Whether a constraint holds, and what is asked for where it isn't known."""
     try:
         return row.holds([values.of(a) for a in args])
+    except slow.NotKnown:
+        return unknown
     except OverflowError:
         return False
 
@@ -192,19 +200,19 @@ def main():
                 continue
             blocks = [damaged(model, printed, rand) for _ in range(DAMAGED)]
             for block, told in zip(blocks, verdicts(program, folder, model, blocks)):
-                extended = model.is_extended(block)
-                if extended is None:
+                right = model.right_verdict(block)
+                if right is None:
                     continue
-                without += not extended
-                refuted += not extended and told == "violated"
-                if told == "undecided" or told == ("satisfied" if extended else "violated"):
+                without += right == "violated"
+                refuted += right == told == "violated"
+                if told in ("undecided", right):
                     passed += 1
                 else:
                     failed += 1
                     kept = tempfile.mkdtemp(prefix=f"damaged-{seed}-{number}-")
                     write(kept, model, [block])
-                    print(f"{kept}: {told}, and some solution extends it: {extended}")
-    print(f"{refuted} of {without} blocks that no solution extends are violated")
+                    print(f"{kept}: {told}, and it should be {right} or undecided")
+    print(f"{refuted} of {without} blocks that nothing extends are violated")
     print(f"{passed} passed, {failed} failed")
     return 1 if failed else 0
 

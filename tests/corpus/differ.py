@@ -65,7 +65,8 @@ def is_value(text, at):
 
 
 def pair(rand):
-    model, block = generate.make_model(rand.choice([2_000, 4_000, 8_000]), rand)
+    rows = generate.ROWS + generate.POWERS
+    model, block = generate.make_model(rand.choice([2_000, 4_000, 8_000]), rand, rows=rows)
     if rand.random() < 0.5:
         model = changed(model, rand.randint(1, 3), rand, in_constraint)
     elif rand.random() < 0.1:

@@ -39,6 +39,10 @@ class TooLargeToList(Exception):
     """A set has more numbers than are listed here."""
 
 
+class NotKnown(Exception):
+    """A power has a negative exponent."""
+
+
 class Token:
     def __init__(self, sort, text, start, end, value=None):
         self.sort, self.text, self.start, self.end, self.value = sort, text, start, end, value
@@ -315,6 +319,17 @@ def total(a, b):
     return s
 
 
+def power(a, b):
+    """A power; NotKnown where the exponent is negative, OverflowError where it leaves 128 bits."""
+    if b < 0:
+        raise NotKnown
+    if abs(a) > 1 and b > 127:
+        raise OverflowError
+    if not -(2**127) <= a**b < 2**127:
+        raise OverflowError
+    return a**b
+
+
 def where(a, b):
     """The sum of the numbers whose Booleans are true."""
     return sum(x for x, y in zip(a, b) if y)
@@ -369,6 +384,8 @@ RESULTS = {
     "int_negate": ("I I", 1, lambda a: -a),
     "int_div": ("I I I", 2, lambda a, b: quotient(a, b) if b else None),
     "int_mod": ("I I I", 2, lambda a, b: a - b * quotient(a, b) if b else None),
+    "int_pow": ("I I I", 2, power),
+    "gecode_int_pow": ("I I I", 2, power),
     "array_int_element": ("I [I] I", 2, element),
     "array_var_int_element": ("I [I] I", 2, element),
     "array_int_maximum": ("I [I]", 0, lambda b: max(b, default=None)),
@@ -581,6 +598,8 @@ def state_of_constraint(constraint, values):
         return "no value"
     try:
         return "holds" if row.holds(found) else "fails"
+    except NotKnown:
+        return "unknown"
     except OverflowError:
         return "too large"
 
@@ -621,7 +640,7 @@ def step_of_constraint(constraint, values):
             if place is None:
                 return None
             value = row.value_at(place, [None if a == target else values.of(a) for a in args])
-    except OverflowError:
+    except (NotKnown, OverflowError):
         return None
     whole = isinstance(value, int) and not isinstance(value, bool)
     if value is None or (whole and not LEAST <= value <= MOST):

@@ -148,7 +148,7 @@ class Small:
     def holds(self, name, values):
         try:
             return slow.Row(name).holds(values)
-        except OverflowError:
+        except (slow.NotKnown, OverflowError):
             return False
 
     def block(self):

@@ -1,5 +1,6 @@
 -- A constraint whose row holds at no arguments inside the bounds holds under no assignment there.
 use Rattle.std.proofs.Common.{◌≡◌, ℕ, suc, true, false, List, [], ◌∷◌, Option, None, Some, refl, sym, ap, subst, ◌∙◌, ◌⊎◌, inl, inr, IsSomeAnd, IsTrue, option_map}
+use Rattle.std.specs.List.{list_all}
 use Rattle.std.proofs.lemmas.Option.{same_Some}
 use Rattle.fz_model.specs.Builtins.{ArgValue, Row, Shape, Test, passes}
 use Rattle.fz_model.specs.Meaning.{Argument, Assignment, Partial, Posted, argument_values, have_shapes, row_holds, row_of, whole}
@@ -7,6 +8,10 @@ use Rattle.fz_model.specs.Meaning.Point.{ConstraintPoint}
 use Rattle.fz_model.specs.declared.Known.{Known}
 use Rattle.fz_model.specs.of_builtins.of_meaning.Known.{known_row}
 use Rattle.fz_model.specs.Parts.{constraint_view}
+use Rattle.fz_model.specs.declared.Builtin.TheVariants.{IntPow}
+use Rattle.fz_model.specs.declared.State.TheVariants.{Unknown}
+use Rattle.fz_model.specs.States.{state_of_row}
+use Rattle.fz_model.proofs.Powers.{is_sum, known_sums, sums_are_known}
 use Rattle.fz_model.proofs.Values.{no'}
 use Rattle.fz_model.proofs.Steps.{some_of}
 use Rattle.fz_model.specs.of_builtins.of_kernel.Given.{are_read, given_from, given_values}
@@ -41,7 +46,7 @@ holds_read r K xs vs shaped are holds =
           (refl, passes_at K xs 0 r.shapes r.holds ∙ ap (row_holds r) same ∙ holds)
     ]) refl
 
-module _ (B : Ranges) (k : ℕ) (p : Posted) (r : Row) (fits : row_of p ≡ Some r) (low : are_read B.lowest r.shapes p.arguments ≡ true) (high : are_read B.highest r.shapes p.arguments ≡ true) (fails : (K : Partial) → AreBetween B.lowest K B.highest p.arguments r.shapes → test_from 0 K p.arguments r.shapes r.holds ≡ false) where
+module _ (B : Ranges) (k : ℕ) (p : Posted) (r : Row) (fits : row_of p ≡ Some r) (sums : list_all is_sum r.wide ≡ true) (low : are_read B.lowest r.shapes p.arguments ≡ true) (high : are_read B.highest r.shapes p.arguments ≡ true) (fails : (K : Partial) → AreBetween B.lowest K B.highest p.arguments r.shapes → test_from 0 K p.arguments r.shapes r.holds ≡ false) where
   never_with : (A : Assignment) (vs : List ArgValue) → IsInside B A
       → argument_values (whole A) p.arguments ≡ Some vs → row_holds r vs ≡ true → ⊥
   never_with A vs inside are holds =
@@ -50,10 +55,12 @@ module _ (B : Ranges) (k : ℕ) (p : Posted) (r : Row) (fits : row_of p ≡ Some
 
   pub never_holds : NeverHolds B (ConstraintPoint k p)
   never_holds A inside h =
-      (elim (row_of p) as (λ o. row_of p ≡ o → (o ≡ None) ⊎ IsSomeAnd o (λ r. IsSomeAnd (argument_values (whole A) p.arguments) (λ vs. IsTrue (row_holds r vs))) → ⊥) [
+      (elim (row_of p) as (λ o. row_of p ≡ o → (state_of_row (whole A) p.arguments o ≡ Unknown) ⊎ IsSomeAnd o (λ r. IsSomeAnd (argument_values (whole A) p.arguments) (λ vs. IsTrue (row_holds r vs))) → ⊥) [
         | None ↦ λ e _. let wrong : None ≡ Some r = sym e ∙ fits in cc
         | Some q ↦ λ e h. elim h [
-          | inl none ↦ cc
+          | inl unknown ↦
+              let same : q ≡ r = same_Some q r (sym e ∙ fits) in
+              sums_are_known (whole A) p.arguments r sums (subst (λ z. state_of_row (whole A) p.arguments (Some z) ≡ Unknown) same unknown)
           | inr holds ↦
               let same : q ≡ r = same_Some q r (sym e ∙ fits) in
               let (vs, are, is) = some_of (λ vs. IsTrue (row_holds q vs)) (argument_values (whole A) p.arguments) holds in
@@ -65,11 +72,11 @@ module _ (B : Ranges) (k : ℕ) (p : Posted) (r : Row) (fits : row_of p ≡ Some
 pub row_never : (s : Limits) (B : Ranges) (k : ℕ) (q : Option Known) (known : Known) (o : Outlook)
     → s.lowest.now ≡ B.lowest → s.highest.now ≡ B.highest
     → option_map known_row q ≡ row_of (constraint_view s.parts) → q ≡ Some known
-    → AreKnown s (known_row known).shapes → Foretells s (known_row known) o → o ≡ Never
+    → (known.builtin ≡ IntPow → ⊥) → AreKnown s (known_row known).shapes → Foretells s (known_row known) o → o ≡ Never
     → NeverHolds B (ConstraintPoint k (constraint_view s.parts))
-row_never s B k q known o e f told is at foretold never =
+row_never s B k q known o e f told is other at foretold never =
     let r = known_row known in
     let C : Ranges = record { lowest = s.lowest.now; highest = s.highest.now } in
     let same : C ≡ B = λ i. record { lowest = e i; highest = f i } in
     subst (λ D. NeverHolds D (ConstraintPoint k (constraint_view s.parts))) same
-    (never_holds C k (constraint_view s.parts) r (sym told ∙ ap (option_map known_row) is) at.low at.high (λ K h. subst (λ z. Decides z (test_from 0 K (given s) r.shapes r.holds)) never (foretold K h)))
+    (never_holds C k (constraint_view s.parts) r (sym told ∙ ap (option_map known_row) is) (known_sums known other) at.low at.high (λ K h. subst (λ z. Decides z (test_from 0 K (given s) r.shapes r.holds)) never (foretold K h)))

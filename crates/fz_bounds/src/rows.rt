@@ -16,7 +16,7 @@ use crate::limits::Limits;
 use crate::outlook::Outlook;
 use fz_model::fz_builtins::control_index;
 use fz_model::fz_builtins::fz_kernel::Readiness;
-use fz_model::{ConstraintParts, Form, Known};
+use fz_model::{Builtin, ConstraintParts, Form, Known};
 
 /// Whether a constraint is found to hold under no assignment inside the bounds. Each of its scalars
 /// has to have bounds.
@@ -29,6 +29,10 @@ pub(crate) fn row_fails(parts: &ConstraintParts<'_, '_>, bounds: &Bounds) -> boo
     let Some(known) = parts.posted.known else {
         return false;
     };
+    // A power isn't known where its exponent is negative: its row says nothing there.
+    if known.builtin == Builtin::IntPow {
+        return false;
+    }
     let at = Limits {
         parts: *parts,
         lowest: bounds.lowest(),

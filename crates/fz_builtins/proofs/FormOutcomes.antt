@@ -1,5 +1,5 @@
 -- The outcome of a reified form.
-use Rattle.std.proofs.Common.{◌≡◌, ℕ, suc, ◌+◌, Bool, true, false, not, ◌||◌, List, [], ◌∷◌, ◌++◌, length, refl, sym, ap, ◌∙◌, arith}
+use Rattle.std.proofs.Common.{◌≡◌, ℕ, suc, ◌+◌, Bool, true, false, cond, not, ◌||◌, List, [], ◌∷◌, ◌++◌, length, refl, sym, ap, ◌∙◌, arith}
 use Rattle.std.specs.Prelude.{IsSome}
 use Rattle.std.specs.List.{list_any}
 use Rattle.fz_base.specs.declared.value.Value.TheVariants.{Bool as BoolValue}
@@ -11,8 +11,9 @@ use Rattle.fz_builtins.specs.of_meaning.Known.{HasTruth, form_at}
 use Rattle.fz_builtins.specs.of_meaning.Builtins.ArgValue.{OneValue}
 use Rattle.fz_builtins.specs.of_meaning.Meaning.{Argument, Partial, row_holds}
 use Rattle.fz_builtins.proofs.of_meaning.TableRows.{AreRead, implied_holds, reified_holds}
-use Rattle.fz_builtins.specs.of_kernel.Given.{given, given_from, given_values, bool_at, read_leave}
-use Rattle.fz_builtins.specs.Outcomes.{row_outcome, sum_outcome, compared, implied_by}
+use Rattle.fz_builtins.specs.of_kernel.Given.{given, given_from, given_values, bool_at, read_unknown}
+use Rattle.fz_builtins.specs.declared.outcome.Outcome.TheVariants.{Truth, TooLarge, Unknown}
+use Rattle.fz_builtins.specs.Outcomes.{compared, implied_by, outcome_beyond, reads_beyond, row_outcome}
 use Rattle.fz_builtins.proofs.Rows.{outcome_is, reads}
 
 -- the values that are given are read as they are
@@ -46,37 +47,37 @@ module _ (r : Row) (K : Partial) (xs : List Argument) where
   holds : Bool
   holds = row_holds r (given_values K r.shapes xs)
 
-  leaves : Bool
-  leaves = list_any (read_leave K xs) r.sums
-
   last_given : given_values K (with_bool r.shapes) xs
       ≡ given_values K r.shapes xs ++ OneValue (BoolValue (bool_at K xs (length r.shapes))) ∷ []
   last_given =
       let place : length r.shapes + 0 ≡ length r.shapes = omega arith in
       with_last K xs 0 r.shapes ∙ ap (λ n. given_values K r.shapes xs ++ OneValue (BoolValue (bool_at K xs n)) ∷ []) place
 
-  compared_sum : (b : Bool) → sum_outcome b (said =ᴮ holds) ≡ compared said (sum_outcome b holds)
-  compared_sum true = refl
-  compared_sum false = refl
+  compared_told : (b n : Bool) → cond b (cond n Unknown TooLarge) (Truth (said =ᴮ holds))
+      ≡ compared said (cond b (cond n Unknown TooLarge) (Truth holds))
+  compared_told true true = refl
+  compared_told true false = refl
+  compared_told false n = refl
 
-  implied_sum : (b : Bool) → sum_outcome b (not said || holds)
-      ≡ implied_by said (sum_outcome b holds)
-  implied_sum true = refl
-  implied_sum false = refl
+  implied_told : (b n : Bool) → cond b (cond n Unknown TooLarge) (Truth (not said || holds))
+      ≡ implied_by said (cond b (cond n Unknown TooLarge) (Truth holds))
+  implied_told true true = refl
+  implied_told true false = refl
+  implied_told false n = refl
 
   -- the outcome of a reified form is what it says of the outcome of its base row
   pub reified_outcome : row_outcome (reified r) K xs
       ≡ compared (bool_at K xs (length r.shapes)) (row_outcome r K xs)
-  unfolding said holds leaves
+  unfolding said holds
   reified_outcome =
       outcome_is (reified r) K xs
-      ∙ ap (sum_outcome leaves) (ap (row_holds (reified r)) last_given ∙ reified_holds r (given_values K r.shapes xs) said (all_read K xs 0 r.shapes))
-      ∙ compared_sum leaves ∙ ap (compared said) (sym (outcome_is r K xs))
+      ∙ ap (λ b. cond (reads_beyond r K xs) (outcome_beyond r K xs) (Truth b)) (ap (row_holds (reified r)) last_given ∙ reified_holds r (given_values K r.shapes xs) said (all_read K xs 0 r.shapes))
+      ∙ compared_told (reads_beyond r K xs) (list_any (read_unknown K xs) r.wide) ∙ ap (compared said) (sym (outcome_is r K xs))
 
   pub implied_outcome : row_outcome (implied r) K xs
       ≡ implied_by (bool_at K xs (length r.shapes)) (row_outcome r K xs)
-  unfolding said holds leaves
+  unfolding said holds
   implied_outcome =
       outcome_is (implied r) K xs
-      ∙ ap (sum_outcome leaves) (ap (row_holds (implied r)) last_given ∙ implied_holds r (given_values K r.shapes xs) said (all_read K xs 0 r.shapes))
-      ∙ implied_sum leaves ∙ ap (implied_by said) (sym (outcome_is r K xs))
+      ∙ ap (λ b. cond (reads_beyond r K xs) (outcome_beyond r K xs) (Truth b)) (ap (row_holds (implied r)) last_given ∙ implied_holds r (given_values K r.shapes xs) said (all_read K xs 0 r.shapes))
+      ∙ implied_told (reads_beyond r K xs) (list_any (read_unknown K xs) r.wide) ∙ ap (implied_by said) (sym (outcome_is r K xs))

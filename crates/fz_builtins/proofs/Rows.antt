@@ -1,6 +1,6 @@
 -- A row's test at the arguments, each read as its kind asks, is whether it holds of the values
 -- given.
-use Rattle.std.proofs.Common.{◌≡◌, ℕ, zero, suc, ◌+◌, ℤ, Bool, true, false, ◌||◌, List, [], ◌∷◌, Option, None, Some, IfNone, IfSome, Result as Answer, Ok, Err, IfOk, slice_get, slice_set, refl, sym, ap, ◌∙◌, arith, FitsSigned, to_z, of_z}
+use Rattle.std.proofs.Common.{◌≡◌, ℕ, zero, suc, ◌+◌, ℤ, Bool, true, false, cond, ◌||◌, List, [], ◌∷◌, Option, None, Some, IfNone, IfSome, Result as Answer, Ok, Err, IfOk, slice_get, slice_set, refl, sym, ap, ◌∙◌, arith, FitsSigned, to_z, of_z}
 use Rattle.std.specs.Int.{w128}
 use Rattle.std.proofs.lemmas.Int.{to_z-of_z}
 use Rattle.std.proofs.Math.Bool.{or-false, and_comm}
@@ -20,9 +20,11 @@ use Rattle.fz_globals.specs.of_meaning.Builtins.Shape.{ScalarOf, ArrayOf}
 use Rattle.fz_globals.specs.of_meaning.Builtins.ArgValue.{OneValue}
 use Rattle.fz_globals.specs.of_meaning.Meaning.{Argument, Partial, row_holds}
 use Rattle.fz_globals.proofs.of_meaning.TableRows.{plain_ints, plain_bools, plain_sets}
-use Rattle.fz_globals.specs.of_kernel.Given.{given, given_from, given_values, int_at, bool_at, set_at, ints_at, bools_at, sets_at, read_leave}
-use Rattle.fz_builtins.specs.Outcomes.{argument_at, row_outcome, sum_outcome, test_from}
-use Rattle.fz_builtins.specs.Said.{HasResult, IsSaid, is_result, row_with, test_with}
+use Rattle.fz_globals.specs.of_kernel.Given.{given, given_from, given_values, int_at, bool_at, set_at, ints_at, bools_at, sets_at}
+use Rattle.fz_builtins.specs.Outcomes.{argument_at, outcome_beyond, reads_beyond, row_outcome, sum_outcome, test_from}
+use Rattle.fz_globals.specs.of_meaning.Results.{Result}
+use Rattle.fz_builtins.specs.declared.outcome.Outcome.{Outcome}
+use Rattle.fz_builtins.specs.Said.{HasNone, HasNoneIfTold, HasResult, IsSaid, is_result, row_with, test_with}
 use Rattle.fz_builtins.specs.declared.said.Said.{Said}
 
 pub reads : (K : Partial) (xs : List Argument) (i : ℕ) (s : Shape)
@@ -40,10 +42,10 @@ passes_at K xs i [] t = refl
 passes_at K xs i (s ∷ ss) t = rw (reads K xs i s) (passes_at K xs (suc i) ss (t (argument_at K xs i s)))
 
 pub outcome_is : (r : Row) (K : Partial) (xs : List Argument)
-    → row_outcome r K xs ≡ sum_outcome (list_any (read_leave K xs) r.sums)
-    (row_holds r (given_values K r.shapes xs))
+    → row_outcome r K xs ≡ cond (reads_beyond r K xs) (outcome_beyond r K xs)
+    (outcomes.Truth (row_holds r (given_values K r.shapes xs)))
 unfolding row_outcome
-outcome_is r K xs = ap (sum_outcome (list_any (read_leave K xs) r.sums)) (passes_at K xs 0 r.shapes r.holds)
+outcome_is r K xs = ap (λ b. cond (reads_beyond r K xs) (outcome_beyond r K xs) (outcomes.Truth b)) (passes_at K xs 0 r.shapes r.holds)
 
 -- ---- with a value in the place of a scalar
 
@@ -78,12 +80,12 @@ module _ (K : Partial) (xs : List Argument) where
       itself (suc j) n i ss (t (argument_at K xs j s)) k (omega arith) e
 
   -- a row with a result holds where the scalar there has the value
-  pub holds_at : (r : Row) (i : ℕ) (k : Kind) → HasResult r false i k → (holds : Bool)
+  pub holds_at : (r : Row) (i : ℕ) (k : Kind) → HasResult r false K xs i k → (holds : Bool)
       → holds ≡ row_with r K xs i (scalar_at i k) → outcomes.Truth holds ≡ row_outcome r K xs
   unfolding row_outcome
   holds_at r i k h holds e =
       ap outcomes.Truth (e ∙ itself 0 i i r.shapes r.holds k (omega arith) h.1)
-      ∙ ap (λ ps. sum_outcome (list_any (read_leave K xs) ps) (test_from 0 K xs r.shapes r.holds))
+      ∙ ap (λ b. cond b (outcome_beyond r K xs) (outcomes.Truth (test_from 0 K xs r.shapes r.holds)))
       (sym h.2)
 
 -- ---- one test as the other
@@ -141,6 +143,12 @@ one_sum leaves holds = ap (λ b. sum_outcome b holds) (sym (or-false leaves))
 pub two_sums : (one other holds : Bool)
     → sum_outcome (one || other) holds ≡ sum_outcome (one || (other || false)) holds
 two_sums one other holds = ap (λ b. sum_outcome (one || b) holds) (sym (or-false other))
+
+-- a row that has no result
+pub none_told : (o : Outcome) (r : Result) → HasNone r → HasNoneIfTold o r
+none_told (outcomes.Truth b) r h = h
+none_told outcomes.TooLarge r h = tt
+none_told outcomes.Unknown r h = tt
 
 -- whichever of two arguments is asked for, where it is said for either
 pub said_at : {E : Type 0} (r : Row) (K : Partial) (xs : List Argument) (first : Bool)

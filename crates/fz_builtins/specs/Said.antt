@@ -13,7 +13,9 @@ use Rattle.fz_globals.specs.of_meaning.Builtins.ArgValue.{OneValue}
 use Rattle.fz_globals.specs.of_meaning.Results.{Result, result_of}
 use Rattle.fz_globals.specs.of_meaning.Results.Result.{NoResult, Places, UnitTerm}
 use Rattle.fz_globals.specs.of_meaning.Meaning.{Argument, Partial}
-use Rattle.fz_builtins.specs.Outcomes.{argument_at, row_outcome, test_from}
+use Rattle.fz_builtins.specs.Outcomes.{argument_at, reads_beyond, row_outcome, test_from}
+use Rattle.fz_builtins.specs.declared.outcome.Outcome.{Outcome}
+use Rattle.fz_builtins.specs.declared.outcome.Outcome.TheVariants as outcome
 use Rattle.fz_builtins.specs.declared.said.Said.{Said}
 use Rattle.fz_builtins.specs.declared.said.Said.TheVariants as said
 
@@ -38,10 +40,10 @@ asked_place first (Places (i ∷ [])) = Some i
 asked_place first (Places (zero ∷ suc zero ∷ [])) = Some (cond first 0 1)
 asked_place first _ = None
 
--- the row adds no sum up, and its result is the scalar of the kind at index i
-abbrev pub HasResult : Row → Bool → ℕ → Kind → Type 0
-HasResult r first i k = (asked_place first (result_of r) ≡ Some i)
-    × (slice_get r.shapes i ≡ Some (ScalarOf k)) × (r.sums ≡ [])
+-- each number of the row can be computed, and its result is the scalar of the kind at index i
+abbrev pub HasResult : Row → Bool → Partial → List Argument → ℕ → Kind → Type 0
+HasResult r first K xs i k = (asked_place first (result_of r) ≡ Some i)
+    × (slice_get r.shapes i ≡ Some (ScalarOf k)) × (reads_beyond r K xs ≡ false)
 
 -- a row that has no result among its scalars
 abbrev pub HasNone : Result → Type 0
@@ -49,13 +51,20 @@ HasNone NoResult = ⊤
 HasNone (Places is) = ⊥
 HasNone UnitTerm = ⊤
 
+-- such a row, where it is told whether it holds
+abbrev pub HasNoneIfTold : Outcome → Result → Type 0
+HasNoneIfTold (outcome.Truth holds) o = HasNone o
+HasNoneIfTold outcome.TooLarge o = ⊤
+HasNoneIfTold outcome.Unknown o = ⊤
+
 abbrev pub IsSaid : Row → Bool → Partial → List Argument → Said → Type 0
-IsSaid r first K xs (said.Whether o) = (o ≡ row_outcome r K xs) × HasNone (result_of r)
-IsSaid r first K xs (said.Number i o) = HasResult r first i IntKind
+IsSaid r first K xs (said.Whether o) =
+    (o ≡ row_outcome r K xs) × HasNoneIfTold o (result_of r)
+IsSaid r first K xs (said.Number i o) = HasResult r first K xs i IntKind
     × ((v : ℤ) → row_with r K xs i (Int v) ≡ is_result ◌=ℤ◌ o v)
-IsSaid r first K xs (said.Boolean i o) = HasResult r first i BoolKind
+IsSaid r first K xs (said.Boolean i o) = HasResult r first K xs i BoolKind
     × ((v : Bool) → row_with r K xs i (Truth v) ≡ is_result ◌=ᴮ◌ o v)
-IsSaid r first K xs (said.Set i s) = HasResult r first i SetKind
+IsSaid r first K xs (said.Set i s) = HasResult r first K xs i SetKind
     × ((v : NumberSet) → row_with r K xs i (Set v) ≡ (v =ˢ s))
-IsSaid r first K xs (said.Given i o) = HasResult r first i SetKind
+IsSaid r first K xs (said.Given i o) = HasResult r first K xs i SetKind
     × ((v : NumberSet) → row_with r K xs i (Set v) ≡ is_result ◌=ˢ◌ (option_map (λ s. s.now) o) v)

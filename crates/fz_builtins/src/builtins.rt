@@ -92,6 +92,7 @@ pub fn said_of<'s>(
         Builtin::IntNegate => Ok(Number(1, Some(scalars::int_negate(view)))),
         Builtin::IntDiv => Ok(Number(2, quotient(view.int(0), view.int(1)))),
         Builtin::IntMod => Ok(Number(2, remainder(view.int(0), view.int(1)))),
+        Builtin::IntPow => Ok(scalars::int_pow(view, first)),
         Builtin::ArrayIntElement => Ok(Number(2, wide(arrays::int_element(view)))),
         Builtin::ArrayIntMaximum => Ok(Number(0, wide(arrays::int_maximum(view)))),
         Builtin::ArrayIntMinimum => Ok(Number(0, wide(arrays::int_minimum(view)))),

@@ -29,4 +29,4 @@ pub use fz_globals::{fz_kernel, fz_meaning};
 pub use fz_scheduling;
 pub use outcome::Outcome;
 pub use said::Said;
-pub use sums::products_leave;
+pub use sums::{is_unknown, leaves};

@@ -6,11 +6,13 @@ ghost use Rattle.fz_builtins.specs.Outcomes.{compared, implied_by, told};
 
 use fz_globals::fz_meaning::State;
 
-/// Whether a row holds, or that a sum of it leaves 128 bits.
+/// Whether a row holds, or that a number of it leaves 128 bits, or that it has a power that isn't
+/// known.
 #[derive(Clone, Copy)]
 pub enum Outcome {
     Truth(bool),
     TooLarge,
+    Unknown,
 }
 
 impl Outcome {
@@ -21,6 +23,7 @@ impl Outcome {
         match self {
             Outcome::Truth(holds) => Outcome::Truth(truth == holds),
             Outcome::TooLarge => Outcome::TooLarge,
+            Outcome::Unknown => Outcome::Unknown,
         }
     }
 
@@ -31,6 +34,7 @@ impl Outcome {
         match self {
             Outcome::Truth(holds) => Outcome::Truth(!truth || holds),
             Outcome::TooLarge => Outcome::TooLarge,
+            Outcome::Unknown => Outcome::Unknown,
         }
     }
 
@@ -42,6 +46,7 @@ impl Outcome {
             Outcome::Truth(true) => State::Holds,
             Outcome::Truth(false) => State::Fails,
             Outcome::TooLarge => State::TooLarge,
+            Outcome::Unknown => State::Unknown,
         }
     }
 }

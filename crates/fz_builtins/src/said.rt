@@ -17,7 +17,7 @@ use fz_globals::fz_kernel::sets::same_set;
 /// is told, and nowhere where none is told.
 #[derive(Drop)]
 pub enum Said<'s> {
-    /// The row has no result: whether it holds.
+    /// The row has no result, or what it computes isn't known or too large: its outcome.
     Whether(Outcome),
     Number(usize, Option<i128>),
     Boolean(usize, Option<bool>),

@@ -6,14 +6,15 @@ ghost use Rattle.std.specs.FinSet as sets;
 ghost use Rattle.std.specs.Int.{int_min, int_max};
 ghost use Rattle.fz_globals.specs.of_meaning.Builtins.{row_at};
 ghost use Rattle.fz_globals.specs.of_meaning.Relations.{◌=ℤ◌, ◌=ᴮ◌, as_number};
-ghost use Rattle.fz_globals.specs.of_meaning.declared.builtin.Builtin.TheVariants.{Bool2Int, BoolEq, BoolNot, IntEq, SetEq};
+ghost use Rattle.fz_globals.specs.of_meaning.declared.builtin.Builtin.TheVariants.{Bool2Int, BoolEq, BoolNot, IntEq, IntPow, SetEq};
 ghost use Rattle.fz_globals.specs.of_kernel.Views.{arguments_of, assigned};
 ghost use Rattle.fz_builtins.specs.Readings.{int, numbers, truth};
 ghost use Rattle.fz_builtins.specs.Said.{IsSaid, is_result};
 
+use crate::outcome::Outcome;
 use crate::said::Said;
 use fz_globals::fz_kernel::ArgumentView;
-use fz_globals::fz_kernel::numbers::{greatest, least, number_of_truth};
+use fz_globals::fz_kernel::numbers::{greatest, least, number_of_truth, power};
 
 /// Either number is the other one.
 #[inline(always)]
@@ -57,6 +58,21 @@ pub(crate) fn int_max(view: &ArgumentView<'_, '_>) -> i128
     ensures { result ≡ int_max (int view.now 0) (int view.now 1) }
 {
     i128::from(greatest(view.int(0), view.int(1)))
+}
+
+/// The third is the power of the first by the second, which isn't known where the second is
+/// negative.
+pub(crate) fn int_pow<'s>(view: &ArgumentView<'s, '_>, first: bool) -> Said<'s>
+    ensures { IsSaid (row_at IntPow) first (assigned view.now) (arguments_of view.now) result }
+{
+    let exponent = view.int(1);
+    if exponent < 0 {
+        return Said::Whether(Outcome::Unknown);
+    }
+    match power(view.int(0), exponent.unsigned_abs()) {
+        Some(power) => Said::Number(2, Some(power)),
+        None => Said::Whether(Outcome::TooLarge),
+    }
 }
 
 /// Either Boolean is the other one.

@@ -1,14 +1,18 @@
-//! The rows whose products are added in 128 bits.
+//! The rows whose numbers are computed in 128 bits.
 
 ghost use Rattle.std.specs.Prelude.{◌≡◌, ◌||◌, int_le, not};
 ghost use Rattle.fz_globals.specs.of_meaning.Relations.{◌=ℤ◌, products, total, is_knapsack};
 ghost use Rattle.fz_globals.specs.of_meaning.States.{leaves_128};
+ghost use Rattle.fz_globals.specs.of_kernel.Given.{read_leaves, read_unknown};
+ghost use Rattle.fz_globals.specs.of_kernel.Views.{arguments_of, assigned};
 ghost use Rattle.fz_builtins.specs.Outcomes.{sum_outcome};
 ghost use Rattle.fz_builtins.specs.Readings.{int, ints};
 
 use crate::outcome::Outcome;
 use fz_globals::fz_kernel::ArgumentView;
 use fz_globals::fz_kernel::arrays::sum_of_products;
+use fz_globals::fz_kernel::numbers::power;
+use fz_globals::fz_meaning::Wide;
 use fz_scheduling::packed::is_knapsack;
 
 /// Whether the sum of products is the third argument.
@@ -61,9 +65,25 @@ pub(crate) fn knapsack(view: &ArgumentView<'_, '_>) -> Outcome
     }
 }
 
-/// Whether a partial sum of the products of two arrays leaves 128 bits.
-pub fn products_leave(view: &ArgumentView<'_, '_>, first: usize, second: usize) -> bool
-    ensures { result ≡ leaves_128 (products (ints view.now first) (ints view.now second)) }
+/// Whether a number that a row computes leaves 128 bits or isn't known.
+pub fn leaves(view: &ArgumentView<'_, '_>, wide: Wide) -> bool
+    ensures { result ≡ read_leaves (assigned view.now) (arguments_of view.now) wide }
 {
-    sum_of_products(&view.elements(first), &view.elements(second)).is_none()
+    match wide {
+        Wide::Products(a, b) => sum_of_products(&view.elements(a), &view.elements(b)).is_none(),
+        Wide::Power(base, exponent) => {
+            is_unknown(view, wide)
+                || power(view.int(base), view.int(exponent).unsigned_abs()).is_none()
+        }
+    }
+}
+
+/// Whether it is a power that isn't known, since its exponent is negative.
+pub fn is_unknown(view: &ArgumentView<'_, '_>, wide: Wide) -> bool
+    ensures { result ≡ read_unknown (assigned view.now) (arguments_of view.now) wide }
+{
+    match wide {
+        Wide::Products(_, _) => false,
+        Wide::Power(_, exponent) => view.int(exponent) < 0,
+    }
 }

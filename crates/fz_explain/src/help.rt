@@ -17,8 +17,12 @@ const PRINT_ALL: &str = "let the solver run `fzcheck show --print-all`";
 /// A constraint isn't known.
 const USE_LIBRARY: &str = "compile with the library in minizinc/, or with the standard one";
 
-/// A sum is too large.
-const TIGHTEN_DOMAINS: &str = "tighten the domains, so that no sum leaves 128 bits";
+/// The exponent of a power is negative.
+const BOUND_EXPONENT: &str =
+    "solvers differ in powers with a negative exponent: let its domain begin at 0";
+
+/// A sum or a power is too large.
+const TIGHTEN_DOMAINS: &str = "tighten the domains, so that no sum or power leaves 128 bits";
 
 /// Adds what to do about a block that is undecided.
 pub(crate) fn note_help(
@@ -32,9 +36,22 @@ pub(crate) fn note_help(
     };
     match reason {
         Reason::NoValue(_) => note_help_on_value(alloc, reading, message),
-        Reason::Unknown(_, _) => note(alloc, message, USE_LIBRARY),
+        Reason::Unknown(number, _) => {
+            note(alloc, message, help_on_unknown(reading.model, number))
+        }
         Reason::TooLarge(_) => note(alloc, message, TIGHTEN_DOMAINS),
         Reason::NotShownBetter(_, _) => note(alloc, message, PRINT_ALL),
+    }
+}
+
+/// What to do about the constraint of this number, from 1, that isn't known. Where it fits a row,
+/// the power of that row isn't known.
+fn help_on_unknown(model: &Model<'_>, number: usize) -> &'static str {
+    let posted = &model.constraints().posted;
+    if 1 <= number && number <= posted.len() && posted[number - 1].known.is_some() {
+        BOUND_EXPONENT
+    } else {
+        USE_LIBRARY
     }
 }
 

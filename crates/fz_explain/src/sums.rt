@@ -9,7 +9,7 @@ ghost use Rattle.fz_explain.specs.Leaving.{first_leaving, leaving_in, leaving_of
 
 use crate::scalars::scalars_at;
 use fz_base::Value;
-use fz_judge::fz_model::{ConstraintParts, Model, Partial, PointParts, Scalar};
+use fz_judge::fz_model::{ConstraintParts, Model, Partial, PointParts, Scalar, Wide};
 use std::alloc::{AllocError, Global};
 
 /// The integer value of a scalar: of a literal, or of a variable that has a value.
@@ -80,12 +80,15 @@ fn leaving_of(
     alloc: Global,
     filling: &Partial,
     parts: &ConstraintParts<'_, '_>,
-    sums: &[(usize, usize)],
+    numbers: &[Wide],
 ) -> Result<Option<usize>, AllocError>
     ensures { IfOk result (λ o. o ≡ leaving_of filling.now
-        (constraint_view parts.now).arguments sums.now) }
+        (constraint_view parts.now).arguments numbers.now) }
 {
-    for &(first, second) in sums {
+    for number in numbers {
+        let Wide::Products(first, second) = *number else {
+            continue;
+        };
         let a = scalars_at(alloc, parts, first)?;
         let b = scalars_at(alloc, parts, second)?;
         if let Some(count) = first_leaving(&products_of(alloc, filling, &a, &b)?) {
@@ -115,7 +118,7 @@ pub fn too_large_at(
         return Ok(None);
     };
     match parts.posted.known {
-        Some(known) => leaving_of(alloc, filling, &parts, known.sums()),
+        Some(known) => leaving_of(alloc, filling, &parts, known.wide()),
         None => Ok(None),
     }
 }

@@ -1,11 +1,14 @@
 -- What a point gives rests on the values of its own scalars alone.
-use Rattle.std.proofs.Common.{◌≡◌, ◌||◌, ℕ, suc, zero, pos, negsuc, cond, List, [], ◌∷◌, ◌++◌, length, Option, Some, None, refl, sym, ap, subst, subst₂, ◌∙◌, option_map, option_and_then, slice_get, is_none, flat_map, IsSomeAnd, IfSome, IsFalse, IsTrue, arith, ◌⊎◌}
+use Rattle.std.proofs.Common.{◌≡◌, ◌||◌, ℕ, suc, zero, pos, negsuc, false, int_lt, cond, List, [], ◌∷◌, ◌++◌, length, Option, Some, None, refl, sym, ap, subst, subst₂, ◌∙◌, option_map, option_and_then, slice_get, is_none, flat_map, IsSomeAnd, IfSome, IsFalse, IsTrue, arith, ◌⊎◌}
 use Rattle.std.specs.List.{AllByRecursion, list_any}
+use Rattle.std.specs.Option.{option_map_or}
 use Rattle.fz_base.specs.declared.value.Value.{Value}
 use Rattle.fz_base.specs.declared.value.Value.TheVariants.{Int}
-use Rattle.fz_search.specs.of_model.declared.State.TheVariants.{TooLarge}
+use Rattle.fz_search.specs.of_model.declared.State.TheVariants.{TooLarge, Unknown}
+use Rattle.fz_search.specs.of_model.declared.Wide.{Wide}
+use Rattle.fz_search.specs.of_model.declared.Wide.TheVariants.{Products, Power}
 use Rattle.fz_search.specs.of_model.Builtins.{ArgValue, Row}
-use Rattle.fz_search.specs.of_model.States.{judged, state_of_row, state_of_values, leaves_128, product_before, known_products, products_leave, sums_leave, terms_at_argument}
+use Rattle.fz_search.specs.of_model.States.{is_beyond, is_unknown, judged, known_products, leaves, leaves_128, number_of_value, power_leaves, product_before, state_of_row, state_of_values, terms_at_argument}
 use Rattle.fz_search.specs.of_model.Results.{Result, result_of}
 use Rattle.fz_search.specs.of_model.Builtins.ArgValue.{OneValue, ManyValues}
 use Rattle.fz_search.specs.of_model.Results.Result.{NoResult, Places, UnitTerm}
@@ -16,7 +19,8 @@ use Rattle.fz_search.specs.of_model.Meaning.Place.{Scalar, Array}
 use Rattle.fz_search.specs.of_model.Meaning.Argument.{One, ListOf}
 use Rattle.fz_search.specs.of_model.Meaning.Point.{DomainPoint, DefinitionPoint, ArrayPoint, ConstraintPoint}
 use Rattle.fz_search.proofs.of_model.Lists.{all_left, all_right}
-use Rattle.fz_search.specs.of_model.Steps.{Gives, IsResult, IsTarget, SumsFit, HasUnitCoefficient, terms_of, open_terms}
+use Rattle.fz_search.proofs.of_model.Powers.{same_unknown}
+use Rattle.fz_search.specs.of_model.Steps.{Gives, IsResult, IsTarget, NumbersFit, HasUnitCoefficient, terms_of, open_terms}
 use Rattle.fz_judge.specs.Outlooks.{Agree}
 
 -- ---- values
@@ -69,12 +73,29 @@ module _ (K L : Partial) where
   argument_at_agrees (x ∷ xs) zero h = left_part (terms_in x) (flat_map terms_in xs) h
   argument_at_agrees (x ∷ xs) (suc i) h = argument_at_agrees xs i (right_part (terms_in x) (flat_map terms_in xs) h)
 
-  sums_agree : (xs : List Argument) (ps : List (ℕ × ℕ)) → Agree K L (flat_map terms_in xs)
-      → list_any (products_leave K xs) ps ≡ list_any (products_leave L xs) ps
-  sums_agree xs [] h = refl
-  sums_agree xs ((i, j) ∷ ps) h =
-      let products = products_agree (terms_at_argument xs i) (terms_at_argument xs j) (argument_at_agrees xs i h) (argument_at_agrees xs j h) in
-      λ k. leaves_128 (products k) || sums_agree xs ps h k
+  slot_agrees : (xs : List Argument) (i : ℕ) → Agree K L (flat_map terms_in xs)
+      → option_and_then (argument_value K) (slice_get xs i)
+      ≡ option_and_then (argument_value L) (slice_get xs i)
+  slot_agrees [] i h = refl
+  slot_agrees (x ∷ xs) zero h = argument_agrees x (left_part (terms_in x) (flat_map terms_in xs) h)
+  slot_agrees (x ∷ xs) (suc i) h = slot_agrees xs i (right_part (terms_in x) (flat_map terms_in xs) h)
+
+  unknown_agree : (xs : List Argument) (ws : List Wide) → Agree K L (flat_map terms_in xs)
+      → list_any (is_unknown K xs) ws ≡ list_any (is_unknown L xs) ws
+  unknown_agree xs ws h = same_unknown K L xs ws (λ j. slot_agrees xs j h)
+
+  number_agrees : (xs : List Argument) (w : Wide) → Agree K L (flat_map terms_in xs)
+      → leaves K xs w ≡ leaves L xs w
+  number_agrees xs (Products i j) h = ap leaves_128 (products_agree (terms_at_argument xs i) (terms_at_argument xs j) (argument_at_agrees xs i h) (argument_at_agrees xs j h))
+  number_agrees xs (Power i j) h =
+      let base = ap (option_and_then number_of_value) (slot_agrees xs i h) in
+      let exponent = ap (option_and_then number_of_value) (slot_agrees xs j h) in
+      λ t. option_map_or (λ b. int_lt b (pos 0)) (exponent t) false || power_leaves (base t) (exponent t)
+
+  numbers_agree : (xs : List Argument) (ws : List Wide) → Agree K L (flat_map terms_in xs)
+      → list_any (leaves K xs) ws ≡ list_any (leaves L xs) ws
+  numbers_agree xs [] h = refl
+  numbers_agree xs (w ∷ ws) h = λ t. number_agrees xs w h t || numbers_agree xs ws h t
 
   -- a constraint has the same state
   pub row_state_agrees : (xs : List Argument) (o : Option Row) → Agree K L (flat_map terms_in xs)
@@ -84,7 +105,8 @@ module _ (K L : Partial) where
     where
       by_values : (o : Option (List ArgValue)) → state_of_values K xs r o ≡ state_of_values L xs r o
       by_values None = refl
-      by_values (Some vs) = ap (λ b. cond b TooLarge (judged (row_holds r vs))) (sums_agree xs r.sums h)
+      by_values (Some vs) =
+          λ t. cond (numbers_agree xs r.wide h t) (cond (unknown_agree xs r.wide h t) Unknown TooLarge) (judged (row_holds r vs))
 
   -- ---- the parts of a step
 
@@ -110,16 +132,16 @@ module _ (K L : Partial) where
       by_row None is = is
       by_row (Some r) is = result_agrees p.arguments n (result_of r) h is
 
-  sums_fit_agree : (p : Point) → Agree K L (terms_of p) → SumsFit K p → SumsFit L p
-  sums_fit_agree (DomainPoint x k) h s = tt
-  sums_fit_agree (DefinitionPoint x k e) h s = tt
-  sums_fit_agree (ArrayPoint name d ts) h s = tt
-  sums_fit_agree (ConstraintPoint k p) h s = by_row (row_of p) s
+  fit_agrees : (p : Point) → Agree K L (terms_of p) → NumbersFit K p → NumbersFit L p
+  fit_agrees (DomainPoint x k) h s = tt
+  fit_agrees (DefinitionPoint x k e) h s = tt
+  fit_agrees (ArrayPoint name d ts) h s = tt
+  fit_agrees (ConstraintPoint k p) h s = by_row (row_of p) s
     where
-      by_row : (o : Option Row) → IfSome o (λ r. IsFalse (sums_leave K p.arguments r))
-          → IfSome o (λ r. IsFalse (sums_leave L p.arguments r))
+      by_row : (o : Option Row) → IfSome o (λ r. IsFalse (is_beyond K p.arguments r))
+          → IfSome o (λ r. IsFalse (is_beyond L p.arguments r))
       by_row None fit = fit
-      by_row (Some r) fit = sym (sums_agree p.arguments r.sums h) ∙ fit
+      by_row (Some r) fit = sym (numbers_agree p.arguments r.wide h) ∙ fit
 
   holds_agrees : (p : Point) → Agree K L (terms_of p) → HoldsUnder K p → HoldsUnder L p
   holds_agrees (DomainPoint x k) h q = subst (λ o. IsSomeAnd o (λ v. IsTrue (inside x.domain v))) h.0 q
@@ -153,6 +175,6 @@ gives_agree m K L p n v as_many h g = record {
   only_open = sym (open_agree K L (terms_of p) h) ∙ g.only_open;
   of_kind = g.of_kind;
   within_limits = g.within_limits;
-  sums_fit = sums_fit_agree K L p h g.sums_fit;
+  numbers_fit = fit_agrees K L p h g.numbers_fit;
   then_holds = holds_agrees (give K n v) (give L n v) p (given_agree K L n v as_many (terms_of p) h) g.then_holds;
 }

@@ -1,5 +1,5 @@
 -- A known-solution that extends a block agrees with each value that the filling gives.
-use Rattle.std.proofs.Common.{◌≡◌, ℕ, suc, zero, ◌+◌, true, false, cond, List, [], ◌∷◌, Option, Some, None, refl, sym, ap, subst, ◌∙◌, option_map, IsTrue, ◌⊎◌, inl, inr, IsSomeAnd, arith, take, drop, ◌==◌, add-zero, zero-add, eqb-true}
+use Rattle.std.proofs.Common.{◌≡◌, ℕ, suc, zero, ◌+◌, true, false, cond, List, [], ◌∷◌, Option, Some, None, refl, sym, ap, subst, ◌∙◌, option_map, IsTrue, ◌⊎◌, inl, inr, IfSome, IsSomeAnd, arith, flat_map, take, drop, ◌==◌, add-zero, zero-add, eqb-true}
 use Rattle.std.specs.List.{AllByRecursion, enumerate_from}
 use Rattle.std.specs.Option.{option_map_or, option_or}
 use Rattle.fz_base.specs.declared.value.Value.{Value}
@@ -9,18 +9,22 @@ use Rattle.fz_search.specs.of_model.Builtins.ArgValue.{OneValue, ManyValues}
 use Rattle.fz_search.specs.of_model.Meaning.{Place, Argument, Variable, Model, Point, Partial, Assignment, value, values, value_at, give, whole, option_cons, terms_in, argument_value, argument_values, row_of, row_holds, points, inside, find_name, HoldsUnder, IsAssignment, variables_of}
 use Rattle.fz_search.specs.of_model.Aimed.{aimed}
 use Rattle.fz_search.specs.of_model.Openings.{HasEach}
-use Rattle.fz_search.specs.of_model.States.{HoldsIfKnown, IsKnownSolution}
+use Rattle.fz_search.specs.of_model.declared.State.TheVariants.{Unknown}
+use Rattle.fz_search.specs.of_model.Results.{result_of}
+use Rattle.fz_search.specs.of_model.States.{HoldsIfKnown, IsKnownSolution, is_beyond, state_of_row}
 use Rattle.fz_search.specs.of_model.declared.Term.{Term}
 use Rattle.fz_search.specs.of_model.declared.Term.TheVariants.{Var, Fixed}
 use Rattle.fz_search.specs.of_model.Meaning.Place.{Scalar, Array}
 use Rattle.fz_search.specs.of_model.Meaning.Argument.{One, ListOf}
 use Rattle.fz_search.specs.of_model.Meaning.Point.{DomainPoint, DefinitionPoint, ArrayPoint, ConstraintPoint}
-use Rattle.fz_search.specs.of_model.Steps.{Gives, IsTarget}
+use Rattle.fz_search.specs.of_model.Steps.{Gives, IsResult}
 use Rattle.fz_search.proofs.of_model.Lists.{all_append, all_right, all_drop, all_take, all_enumerated, all_both, at_place}
+use Rattle.fz_search.proofs.of_model.ConstraintStates.{row_fits}
 use Rattle.fz_search.proofs.of_model.Points.{points_fit}
+use Rattle.fz_search.proofs.of_model.Powers.{power_known, row_power}
 use Rattle.fz_search.proofs.of_model.States.{intro}
 use Rattle.fz_search.proofs.of_model.Under.{arguments_under, assigned, some_and, value_under}
-use Rattle.fz_search.proofs.of_model.Steps.{some_of, PointFits, only_value, option_cons_parts, map_some}
+use Rattle.fz_search.proofs.of_model.Steps.{some_of, PointFits, only_open_none, only_value, option_cons_parts, map_some}
 use Rattle.fz_judge.specs.Solutions.{Block, Printed, PrintedValue, Extends, HasPrinted, printed_values}
 use Rattle.fz_judge.specs.Filling.{IsFirstStep, Chain, counted_from, Further, IsFilling, pairs, pairs_at, printed_scalars, first_printed, start_from, start}
 use Rattle.fz_judge.specs.Filling.Chain.{Ends, Step}
@@ -98,34 +102,38 @@ under_give K L n v under at k u e = elim (given_or_before K n k v u e) [ inl h �
 
 -- where the point holds with one value of the variable, it holds with the one that a known-solution
 -- has
-holds_too : (A : Assignment) (K : Partial) (p : Point) (n : ℕ) (v w : Value) → IsTarget K p n
-    → HasEach (give K n w) (whole A) → HoldsIfKnown (whole A) p → HoldsUnder (give K n v) p
-    → HoldsUnder (give K n w) p
-holds_too A K (DomainPoint x k) n v w target under h s =
-    let (u, at, in') = some_of (λ z. IsTrue (inside x.domain z)) (value_at (give K n v) k) s in
+holds_too : (m : Model) (A : Assignment) (K : Partial) (p : Point) (n : ℕ) (v w : Value)
+    → Gives m K p n v → HasEach K (whole A) → HasEach (give K n w) (whole A)
+    → HoldsIfKnown (whole A) p → HoldsUnder (give K n w) p
+holds_too m A K (DomainPoint x k) n v w g before under h =
+    let (u, at, in') = some_of (λ z. IsTrue (inside x.domain z)) (value_at (give K n v) k) g.then_holds in
     let (t, t_at) = value_defined K n v w (Var k) u at in
     intro (λ z. IsTrue (inside x.domain z)) (value_at (give K n w) k) t t_at (some_and (λ v. IsTrue (inside x.domain v)) (value_at (whole A) k) t h (under k t t_at))
-holds_too A K (DefinitionPoint x k e) n v w target under h s =
-    let (u, l, rest) = some_of (λ v'. IsSomeAnd (value (give K n v) e) (λ w'. v' ≡ w')) (value_at (give K n v) k) s in
+holds_too m A K (DefinitionPoint x k e) n v w g before under h =
+    let (u, l, rest) = some_of (λ v'. IsSomeAnd (value (give K n v) e) (λ w'. v' ≡ w')) (value_at (give K n v) k) g.then_holds in
     let (u', r, _) = some_of (λ w'. u ≡ w') (value (give K n v) e) rest in
     let (a, a_at) = value_defined K n v w (Var k) u l in
     let (b, b_at) = value_defined K n v w e u' r in
     let equal : a ≡ b = some_and (λ w. a ≡ w) (value (whole A) e) b (some_and (λ v. IsSomeAnd (value (whole A) e) (λ w. v ≡ w)) (value_at (whole A) k) a h (under k a a_at)) (value_under (give K n w) (whole A) under e b b_at) in
     intro (λ v'. IsSomeAnd (value (give K n w) e) (λ w'. v' ≡ w')) (value_at (give K n w) k) a a_at (intro (λ w'. a ≡ w') (value (give K n w) e) b b_at equal)
-holds_too A K (ArrayPoint name d ts) n v w target under h s = absurd target
-holds_too A K (ConstraintPoint k p) n v w target under h s =
-    (elim (row_of p) as (λ o. (o ≡ None) ⊎ IsSomeAnd o (λ r. IsSomeAnd (argument_values (whole A) p.arguments) (λ vs. IsTrue (row_holds r vs)))
-    → IsSomeAnd o (λ r. IsSomeAnd (argument_values (give K n v) p.arguments) (λ vs. IsTrue (row_holds r vs))) → IsSomeAnd o (λ r. IsSomeAnd (argument_values (give K n w) p.arguments) (λ vs. IsTrue (row_holds r vs)))) [
-      | None ↦ λ _ s. absurd s
-      | Some r ↦ λ h s. elim h [
-        | inl e ↦ cc
+holds_too m A K (ArrayPoint name d ts) n v w g before under h = absurd g.target
+holds_too m A K (ConstraintPoint k p) n v w g before under h =
+    (elim (row_of p) as (λ o. row_of p ≡ o → (state_of_row (whole A) p.arguments o ≡ Unknown) ⊎ IsSomeAnd o (λ r. IsSomeAnd (argument_values (whole A) p.arguments) (λ vs. IsTrue (row_holds r vs)))
+    → IsSomeAnd o (λ r. IsSomeAnd (argument_values (give K n v) p.arguments) (λ vs. IsTrue (row_holds r vs)))
+    → IsSomeAnd o (λ r. IsResult K p.arguments n (result_of r)) → IfSome o (λ r. is_beyond K p.arguments r ≡ false)
+    → IsSomeAnd o (λ r. IsSomeAnd (argument_values (give K n w) p.arguments) (λ vs. IsTrue (row_holds r vs)))) [
+      | None ↦ λ _ _ s _ _. absurd s
+      | Some r ↦ λ row h s result fit. elim h [
+        | inl unknown ↦
+            let none : value_at K n ≡ None = only_open_none K n (flat_map terms_in p.arguments) g.only_open in
+            absurd (power_known K (whole A) n none (value_under K (whole A) before) p.arguments r (row_power p r row) (row_fits p r row) result g.only_open fit unknown)
         | inr h ↦
             let (vs, are, _) = some_of (λ vs. IsTrue (row_holds r vs)) (argument_values (give K n v) p.arguments) s in
             let (ws, w_are) = arguments_defined K n v w p.arguments vs are in
             intro (λ vs. IsTrue (row_holds r vs)) (argument_values (give K n w) p.arguments) ws w_are
             (some_and (λ vs. IsTrue (row_holds r vs)) (argument_values (whole A) p.arguments) ws h (arguments_under (give K n w) (whole A) under p.arguments ws w_are))
       ]
-    ]) h s
+    ]) refl h g.then_holds g.target.1 g.numbers_fit
 
 -- a known-solution has the value of a forced step
 step_agrees : (m : Model) (A : Assignment) (K : Partial) (p : Point) (n : ℕ) (v : Value)
@@ -133,7 +141,7 @@ step_agrees : (m : Model) (A : Assignment) (K : Partial) (p : Point) (n : ℕ) (
     → Gives m K p n v → value_at (whole A) n ≡ Some v
 step_agrees m A K p n v assignment h fits under g =
     let (w, at, kind) = assigned (variables_of m) A n (kind_of v) assignment g.of_kind in
-    let same : v ≡ w = only_value m K p n v w fits g kind (holds_too A K p n v w g.target (under_give K (whole A) n w under at) h g.then_holds) in
+    let same : v ≡ w = only_value m K p n v w fits g kind (holds_too m A K p n v w g under (under_give K (whole A) n w under at) h) in
     at ∙ ap Some (sym same)
 
 -- along the chain a known-solution that agrees with the start agrees with the end

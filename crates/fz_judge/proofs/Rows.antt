@@ -183,7 +183,7 @@ yx_filled =
       rest = _;
       order = refl;
       none_skipped = tt;
-      gives = record { target = (refl, refl, (pos 2, one_number 2)); only_open = refl; of_kind = refl; within_limits = record { sfits = lit< tt }; sums_fit = tt; then_holds = refl };
+      gives = record { target = (refl, refl, (pos 2, one_number 2)); only_open = refl; of_kind = refl; within_limits = record { sfits = lit< tt }; numbers_fit = tt; then_holds = refl };
     })
     (Step {k = 1} {n = 1} {v = Int (pos 1)} (record {
       point = DomainPoint (record { name = x; kind = IntKind; domain = Within (pos 1) (pos 1) }) 1;
@@ -191,7 +191,7 @@ yx_filled =
       rest = _;
       order = refl;
       none_skipped = ((λ k u g. let e = g.only_open in cc), tt);
-      gives = record { target = (refl, refl, (pos 1, one_number 1)); only_open = refl; of_kind = refl; within_limits = record { sfits = lit< tt }; sums_fit = tt; then_holds = refl };
+      gives = record { target = (refl, refl, (pos 1, one_number 1)); only_open = refl; of_kind = refl; within_limits = record { sfits = lit< tt }; numbers_fit = tt; then_holds = refl };
     })
     (Ends ((λ k u g. let e = g.only_open in cc), ((λ k u g. let e = g.only_open in cc), ((λ k u g. let e = g.only_open in cc), tt)))))
 

@@ -1,9 +1,10 @@
 -- The arguments of a constraint under a partial assignment, read as integers, Booleans and sets. A
 -- reading is total: what cannot be read as a number is read as 0, as a Boolean `false`, as a set
 -- the empty set; `are_read` says where nothing of that kind happens.
-use Rattle.std.specs.Prelude.{ℕ, suc, ℤ, Bool, true, false, ◌&&◌, List, [], ◌∷◌, map, slice_get, Option, None, Some, option_and_then, is_some}
+use Rattle.std.specs.Prelude.{ℕ, suc, ℤ, pos, Bool, true, false, not, ◌&&◌, ◌||◌, int_lt, unsigned_abs, List, [], ◌∷◌, map, slice_get, Option, None, Some, option_and_then, is_some}
 use Rattle.std.specs.List.{list_all}
 use Rattle.std.specs.Option.{option_map_or}
+use Rattle.std.specs.Int.{int_pow}
 use Rattle.std.specs.FinSet as sets
 use Rattle.fz_base.specs.Sets.{NumberSet}
 use Rattle.fz_base.specs.declared.value.Value.{Value}
@@ -13,7 +14,9 @@ use Rattle.fz_data.specs.of_meaning.declared.kind.Kind.TheVariants.{Int as IntKi
 use Rattle.fz_data.specs.of_meaning.declared.term.Term.{Term}
 use Rattle.fz_data.specs.of_meaning.Relations.{kind_of, same_kind, products}
 use Rattle.fz_data.specs.of_meaning.Builtins.{Shape, ArgValue}
-use Rattle.fz_data.specs.of_meaning.States.{leaves_128}
+use Rattle.fz_data.specs.of_meaning.States.{fits_128, leaves_128}
+use Rattle.fz_data.specs.of_meaning.declared.row.Wide.{Wide}
+use Rattle.fz_data.specs.of_meaning.declared.row.Wide.TheVariants.{Products, Power}
 use Rattle.fz_data.specs.of_meaning.Builtins.Shape.{ScalarOf, ArrayOf}
 use Rattle.fz_data.specs.of_meaning.Builtins.ArgValue.{OneValue, ManyValues}
 use Rattle.fz_data.specs.Partial.{number_in, truth_in}
@@ -93,9 +96,17 @@ set_at K xs i = set_of_slot K (slot_at xs i)
 abbrev pub ints_at : Partial → List Argument → ℕ → List ℤ
 ints_at K xs i = ints_of K (slots_at xs i)
 
--- the products of the numbers of two array arguments, added from the left, leave 128 bits
-abbrev pub read_leave : Partial → List Argument → ℕ × ℕ → Bool
-read_leave K xs at = leaves_128 (products (ints_at K xs at.0) (ints_at K xs at.1))
+-- a power whose exponent is read as negative
+abbrev pub read_unknown : Partial → List Argument → Wide → Bool
+read_unknown K xs (Products i j) = false
+read_unknown K xs (Power i j) = int_lt (int_at K xs j) (pos 0)
+
+-- the products of the numbers of two array arguments, added from the left, leave 128 bits; the power
+-- of two scalars isn't known or leaves them
+abbrev pub read_leaves : Partial → List Argument → Wide → Bool
+read_leaves K xs (Products i j) = leaves_128 (products (ints_at K xs i) (ints_at K xs j))
+read_leaves K xs (Power i j) = read_unknown K xs (Power i j)
+    || not (fits_128 (int_pow (int_at K xs i) (unsigned_abs (int_at K xs j))))
 
 abbrev pub bools_at : Partial → List Argument → ℕ → List Bool
 bools_at K xs i = bools_of K (slots_at xs i)

@@ -1,7 +1,10 @@
 // Integers: the exact results of the builtins' arithmetic.
-ghost use Rattle.std.specs.Prelude.{◌≡◌, pos, ◌+ℤ◌, ◌*ℤ◌, int_div, int_rem, unsigned_abs, IfSome, IfNone};
-ghost use Rattle.std.specs.Int.{int_min, int_max};
+ghost use Rattle.std.specs.Prelude.{◌≡◌, pos, ◌+ℤ◌, ◌*ℤ◌, true, false, int_div, int_rem, unsigned_abs, IfSome, IfNone};
+ghost use Rattle.std.specs.Int.{int_min, int_max, int_pow};
 ghost use Rattle.fz_data.specs.of_meaning.Relations.{as_number};
+ghost use Rattle.fz_data.specs.of_meaning.States.{fits_128};
+
+use num_traits::checked_pow;
 
 /// The sum, which always fits in 128 bits.
 #[inline(always)]
@@ -68,6 +71,15 @@ pub fn remainder(a: i64, b: i64) -> Option<i128>
         return None;
     }
     Some(i128::from(a) % i128::from(b))
+}
+
+/// The power, 1 where the exponent is 0. None where it leaves signed 128 bits.
+pub fn power(base: i64, exponent: u64) -> Option<i128>
+    ensures exact { IfSome result (λ p. p ≡ int_pow base exponent) }
+    ensures fits { IfSome result (λ p. fits_128 p ≡ true) }
+    ensures leaves { IfNone result (fits_128 (int_pow base exponent) ≡ false) }
+{
+    checked_pow(i128::from(base), exponent as usize)
 }
 
 /// 1 for true and 0 for false.

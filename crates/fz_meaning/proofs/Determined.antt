@@ -7,7 +7,7 @@ use Rattle.std.proofs.lemmas.Int.{ints}
 use Rattle.std.proofs.Math.IntN.{*ℤ_comm, *ℤ-one, *ℤ-negsuc}
 use Rattle.std.specs.List.{AllByRecursion, list_any, list_all, filter, zip}
 use Rattle.std.specs.Option.{option_map_or}
-use Rattle.std.specs.Int.{int_min, int_max}
+use Rattle.std.specs.Int.{int_min, int_max, int_pow}
 use Rattle.std.specs.FinSet as sets
 use Rattle.std.proofs.lemmas.Bool.Decides.{nat_tests}
 use Rattle.std.proofs.lemmas.Grind.{common_steps}
@@ -20,7 +20,7 @@ use Rattle.fz_meaning.proofs.Lists.{all_append}
 use Rattle.fz_meaning.proofs.WithTruth.{reified_result}
 use Rattle.fz_meaning.proofs.Values.{no, and_first, and_second, int_itself, same_int, same_bool, same_set_is}
 use Rattle.fz_meaning.specs.declared.builtin.Builtin.{Builtin}
-use Rattle.fz_meaning.specs.declared.builtin.Builtin.TheVariants.{GecodeMaximumArgIntOffset, GecodeMinimumArgIntOffset, GecodeMaximumArgBoolOffset, GecodeSetWeights, FznCountEq, FznAmong, FznNvalue, IntEq, IntLinEq, IntPlus, IntMinus, IntTimes, IntMin, IntMax, IntAbs, IntNegate, IntDiv, IntMod, ArrayIntElement, ArrayIntMaximum, ArrayIntMinimum, BoolEq, BoolNot, BoolAnd, BoolOr, BoolXor, ArrayBoolAnd, ArrayBoolOr, ArrayBoolElement, Bool2Int, BoolLinEq, SetEq, SetUnion, SetIntersect, SetDiff, SetSymdiff, SetCard, ArraySetElement, GecodeArraySetElementUnion}
+use Rattle.fz_meaning.specs.declared.builtin.Builtin.TheVariants.{GecodeMaximumArgIntOffset, GecodeMinimumArgIntOffset, GecodeMaximumArgBoolOffset, GecodeSetWeights, FznCountEq, FznAmong, FznNvalue, IntEq, IntLinEq, IntPlus, IntMinus, IntTimes, IntMin, IntMax, IntAbs, IntNegate, IntDiv, IntMod, IntPow, ArrayIntElement, ArrayIntMaximum, ArrayIntMinimum, BoolEq, BoolNot, BoolAnd, BoolOr, BoolXor, ArrayBoolAnd, ArrayBoolOr, ArrayBoolElement, Bool2Int, BoolLinEq, SetEq, SetUnion, SetIntersect, SetDiff, SetSymdiff, SetCard, ArraySetElement, GecodeArraySetElementUnion}
 use Rattle.fz_meaning.specs.declared.kind.Kind.TheVariants.{Int as IntKind}
 use Rattle.fz_base.specs.Sets.{NumberSet, symmetric_difference}
 
@@ -191,6 +191,7 @@ row_determines IntAbs = ((λ a x y. int_both x y (pos (unsigned_abs a))), tt)
 row_determines IntNegate = ((λ a x y. int_both x y (pos 0 -ℤ a)), tt)
 row_determines IntDiv = ((λ a b x y d e. int_both x y (int_div a b) (and_second (not (b =ℤ pos 0)) _ d) (and_second (not (b =ℤ pos 0)) _ e)), tt)
 row_determines IntMod = ((λ a b x y d e. int_both x y (int_rem a b) (and_second (not (b =ℤ pos 0)) _ d) (and_second (not (b =ℤ pos 0)) _ e)), tt)
+row_determines IntPow = ((λ a b x y d e. int_both x y (int_pow a (unsigned_abs b)) (and_second (int_le (pos 0) b) _ d) (and_second (int_le (pos 0) b) _ e)), tt)
 row_determines ArrayIntElement = ((λ a b x y. element_both ◌=ℤ◌ int_both' (element_at b a) x y), tt)
 row_determines ArrayIntMaximum = ((λ x y b. extreme_both int_le int_le_antisymmetric b x y), tt)
 row_determines ArrayIntMinimum = ((λ x y b. extreme_both (λ z w. int_le w z) (λ z w d e. int_le_antisymmetric z w e d) b x y), tt)

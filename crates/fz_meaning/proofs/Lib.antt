@@ -8,6 +8,7 @@ pub mod Points
 pub mod Numbers
 pub mod Scope
 pub mod States
+pub mod Powers
 pub mod Places
 pub mod NamedKinds
 pub mod Writing

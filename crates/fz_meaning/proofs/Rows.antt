@@ -27,7 +27,7 @@ use Rattle.fz_meaning.specs.Steps.{Gives, GivesNothing, WithinLimits}
 use Rattle.fz_meaning.proofs.Values.{no, same_int, and_first, and_second, and_both}
 use Rattle.fz_meaning.proofs.Writing.{span_at, name_at, literal, whole, num, v, MIN, MAX, int_var, var_in, posts, defines, model_tree, i, is, t, ts, s, names, x, z}
 
-how_many : length (flat_map (λ r. r.names) rows) ≡ 445
+how_many : length (flat_map (λ r. r.names) rows) ≡ 447
 unfolding rows row_at builtins
 how_many = refl
 
@@ -83,6 +83,38 @@ sum_exact = refl
 product_exact : state_of (codes "int_times") (i (pos big) ∷ i (pos big) ∷ i (pos 0) ∷ []) ≡ Fails
 unfolding rows row_at builtins
 product_exact = refl
+
+-- ---- powers
+
+power_cube : state_of (codes "int_pow") (i (pos 2) ∷ i (pos 3) ∷ i (pos 8) ∷ []) ≡ Holds
+unfolding rows row_at builtins
+power_cube = refl
+
+power_cube_fails : state_of (codes "int_pow") (i (pos 2) ∷ i (pos 3) ∷ i (pos 9) ∷ []) ≡ Fails
+unfolding rows row_at builtins
+power_cube_fails = refl
+
+power_of_zeros : state_of (codes "int_pow") (i (pos 0) ∷ i (pos 0) ∷ i (pos 1) ∷ []) ≡ Holds
+unfolding rows row_at builtins
+power_of_zeros = refl
+
+power_of_minus_two : state_of (codes "int_pow") (i (negsuc 1) ∷ i (pos 3) ∷ i (negsuc 7) ∷ []) ≡ Holds
+unfolding rows row_at builtins
+power_of_minus_two = refl
+
+-- a negative exponent isn't known, not even of 1
+power_negative : state_of (codes "int_pow") (i (pos 1) ∷ i (negsuc 0) ∷ i (pos 1) ∷ []) ≡ Unknown
+unfolding rows row_at builtins
+power_negative = refl
+
+-- 2^127 leaves 128 bits, and (-2)^127 doesn't
+power_large : state_of (codes "int_pow") (i (pos 2) ∷ i (pos 127) ∷ i (pos 0) ∷ []) ≡ TooLarge
+unfolding rows row_at builtins
+power_large = refl
+
+power_least : state_of (codes "int_pow") (i (negsuc 1) ∷ i (pos 127) ∷ i (pos 0) ∷ []) ≡ Fails
+unfolding rows row_at builtins
+power_least = refl
 
 empty_sum : state_of (codes "int_lin_le") (is [] ∷ is [] ∷ i (pos 0) ∷ []) ≡ Holds
 unfolding rows row_at builtins
@@ -370,7 +402,7 @@ doubled_gives = record {
   only_open = refl;
   of_kind = refl;
   within_limits = record { sfits = lit< tt };
-  sums_fit = refl;
+  numbers_fit = refl;
   then_holds = refl;
 }
 
@@ -401,7 +433,7 @@ in_front_gives = record {
   only_open = refl;
   of_kind = refl;
   within_limits = record { sfits = lit< tt };
-  sums_fit = refl;
+  numbers_fit = refl;
   then_holds = refl;
 }
 

@@ -4,7 +4,7 @@
 -- holds. Which arguments `defines_var` may fill is in `Results.antt`.
 use Prim.Native.String.{String}
 use Rattle.std.specs.Prelude.{ℕ, ℤ, pos, ◌+ℤ◌, ◌*ℤ◌, Bool, true, false, not, ◌&&◌, ◌||◌, List, [], ◌∷◌, ◌++◌, length, map, codes, int_le, int_lt, int_div, int_rem, unsigned_abs, Option, Some, None, ◌-ℤ◌, bytes_eq}
-use Rattle.std.specs.Int.{int_min, int_max}
+use Rattle.std.specs.Int.{int_min, int_max, int_pow}
 use Rattle.std.specs.List.{list_all, list_any, filter, zip}
 use Rattle.std.specs.Option.{option_map_or}
 use Rattle.std.specs.FinSet as sets
@@ -20,6 +20,8 @@ use Rattle.fz_meaning.specs.declared.kind.Kind.{Kind}
 use Rattle.fz_meaning.specs.declared.kind.Kind.TheVariants.{Int as IntKind, Bool as BoolKind, Set as SetKind}
 use Rattle.fz_meaning.specs.declared.row.Matrix.{Matrix}
 use Rattle.fz_meaning.specs.declared.row.Matrix.TheVariants.{Absent, RowsLike, RowsBy}
+use Rattle.fz_meaning.specs.declared.row.Wide.{Wide}
+use Rattle.fz_meaning.specs.declared.row.Wide.TheVariants.{Products, Power}
 
 -- ---- the kinds of arguments
 
@@ -70,8 +72,9 @@ pub record Row : Type 0 where
   pub together : List ℕ
   -- the array that was a matrix, whose length has to be that of whole rows
   pub matrix : Matrix
-  -- the indices of the arrays whose products are added in signed 128 bits
-  pub sums : List (ℕ × ℕ)
+  -- the numbers that are computed in signed 128 bits: sums of the products of two arrays, and
+  -- powers, by the indices of the arguments
+  pub wide : List Wide
   pub holds : Test shapes
   -- whether there are reified forms for it, and which of them it is
   pub has_forms : Bool
@@ -84,13 +87,13 @@ is_named name r = list_any (λ n. bytes_eq n name) r.names
 abbrev pub Written : Type 0
 Written = List String → (shapes : List Shape) → Test shapes → Row
 
-abbrev pub row_with : List ℕ → Matrix → List (ℕ × ℕ) → Bool → Written
-row_with together matrix sums has_forms names shapes holds = record {
+abbrev pub row_with : List ℕ → Matrix → List Wide → Bool → Written
+row_with together matrix wide has_forms names shapes holds = record {
   names = map codes names;
   shapes = shapes;
   together = together;
   matrix = matrix;
-  sums = sums;
+  wide = wide;
   holds = holds;
   has_forms = has_forms;
   form = Base;
@@ -111,11 +114,15 @@ equal places = row_with places Absent [] true
 
 -- the sums of int_lin, which are added in 128 bits
 abbrev pub int_lin : Written
-int_lin = row_with (0 ∷ 1 ∷ []) Absent ((0, 1) ∷ []) true
+int_lin = row_with (0 ∷ 1 ∷ []) Absent (Products 0 1 ∷ []) true
 
 -- weights, profits and numbers of things, of which two sums are made
 abbrev pub knapsack : Written
-knapsack = row_with (0 ∷ 1 ∷ 2 ∷ []) Absent ((0, 2) ∷ (1, 2) ∷ []) true
+knapsack = row_with (0 ∷ 1 ∷ 2 ∷ []) Absent (Products 0 2 ∷ Products 1 2 ∷ []) true
+
+-- the power of the first argument by the second
+abbrev pub power : Written
+power = row_with [] Absent (Power 0 1 ∷ []) false
 
 -- one whose second array is a table: its rows are as long as the first array, which isn't empty
 abbrev pub table : Written
@@ -152,6 +159,9 @@ row_at builtin.IntDiv =
     alone ("int_div" ∷ []) (I ∷ I ∷ I ∷ []) λ a b c. not (b =ℤ pos 0) && (c =ℤ int_div a b)
 row_at builtin.IntMod =
     alone ("int_mod" ∷ []) (I ∷ I ∷ I ∷ []) λ a b c. not (b =ℤ pos 0) && (c =ℤ int_rem a b)
+row_at builtin.IntPow =
+    power ("int_pow" ∷ "gecode_int_pow" ∷ []) (I ∷ I ∷ I ∷ [])
+    λ a b c. int_le (pos 0) b && (c =ℤ int_pow a (unsigned_abs b))
 row_at builtin.ArrayIntElement =
     alone ("array_int_element" ∷ "array_var_int_element" ∷ []) (I ∷ [I] ∷ I ∷ [])
     λ a b c. is_element ◌=ℤ◌ a b c
@@ -408,20 +418,21 @@ builtins =
     builtin.IntEq ∷ builtin.IntNe ∷ builtin.IntLe ∷ builtin.IntLt ∷ builtin.IntGe ∷ builtin.IntGt ∷
     builtin.IntLinEq ∷ builtin.IntLinNe ∷ builtin.IntLinLe ∷ builtin.IntPlus ∷ builtin.IntMinus ∷
     builtin.IntTimes ∷ builtin.IntMin ∷ builtin.IntMax ∷ builtin.IntAbs ∷ builtin.IntNegate ∷
-    builtin.IntDiv ∷ builtin.IntMod ∷ builtin.ArrayIntElement ∷ builtin.ArrayIntMaximum ∷
-    builtin.ArrayIntMinimum ∷ builtin.FznAllDifferentInt ∷ builtin.BoolEq ∷ builtin.BoolLe ∷
-    builtin.BoolLt ∷ builtin.BoolGe ∷ builtin.BoolGt ∷ builtin.BoolNot ∷ builtin.BoolAnd ∷
-    builtin.BoolOr ∷ builtin.BoolXor ∷ builtin.BoolAndImp ∷ builtin.BoolOrImp ∷ builtin.BoolXorImp ∷
-    builtin.ArrayBoolAnd ∷ builtin.ArrayBoolOr ∷ builtin.ArrayBoolAndImp ∷ builtin.ArrayBoolOrImp ∷
-    builtin.ArrayBoolXor ∷ builtin.ArrayBoolElement ∷ builtin.BoolClause ∷ builtin.Bool2Int ∷
-    builtin.BoolLinEq ∷ builtin.BoolLinLe ∷ builtin.BoolLinNe ∷ builtin.BoolLinLt ∷
-    builtin.BoolLinGe ∷ builtin.BoolLinGt ∷ builtin.SetIn ∷ builtin.SetEq ∷ builtin.SetNe ∷
-    builtin.SetSubset ∷ builtin.SetSuperset ∷ builtin.SetUnion ∷ builtin.SetIntersect ∷
-    builtin.SetDiff ∷ builtin.SetSymdiff ∷ builtin.SetCard ∷ builtin.SetConvex ∷
-    builtin.ArraySetElement ∷ builtin.GecodeArraySetElementUnion ∷ builtin.FznAlldifferentExcept0 ∷
-    builtin.FznAllEqualInt ∷ builtin.FznCountEq ∷ builtin.FznCountNeq ∷ builtin.FznCountGeq ∷
-    builtin.FznCountGt ∷ builtin.FznCountLeq ∷ builtin.FznCountLt ∷ builtin.FznAmong ∷
-    builtin.FznNvalue ∷ builtin.FznAtLeastInt ∷ builtin.FznAtMostInt ∷ builtin.FznExactlyInt ∷
+    builtin.IntDiv ∷ builtin.IntMod ∷ builtin.IntPow ∷ builtin.ArrayIntElement ∷
+    builtin.ArrayIntMaximum ∷ builtin.ArrayIntMinimum ∷ builtin.FznAllDifferentInt ∷
+    builtin.BoolEq ∷ builtin.BoolLe ∷ builtin.BoolLt ∷ builtin.BoolGe ∷ builtin.BoolGt ∷
+    builtin.BoolNot ∷ builtin.BoolAnd ∷ builtin.BoolOr ∷ builtin.BoolXor ∷ builtin.BoolAndImp ∷
+    builtin.BoolOrImp ∷ builtin.BoolXorImp ∷ builtin.ArrayBoolAnd ∷ builtin.ArrayBoolOr ∷
+    builtin.ArrayBoolAndImp ∷ builtin.ArrayBoolOrImp ∷ builtin.ArrayBoolXor ∷
+    builtin.ArrayBoolElement ∷ builtin.BoolClause ∷ builtin.Bool2Int ∷ builtin.BoolLinEq ∷
+    builtin.BoolLinLe ∷ builtin.BoolLinNe ∷ builtin.BoolLinLt ∷ builtin.BoolLinGe ∷
+    builtin.BoolLinGt ∷ builtin.SetIn ∷ builtin.SetEq ∷ builtin.SetNe ∷ builtin.SetSubset ∷
+    builtin.SetSuperset ∷ builtin.SetUnion ∷ builtin.SetIntersect ∷ builtin.SetDiff ∷
+    builtin.SetSymdiff ∷ builtin.SetCard ∷ builtin.SetConvex ∷ builtin.ArraySetElement ∷
+    builtin.GecodeArraySetElementUnion ∷ builtin.FznAlldifferentExcept0 ∷ builtin.FznAllEqualInt ∷
+    builtin.FznCountEq ∷ builtin.FznCountNeq ∷ builtin.FznCountGeq ∷ builtin.FznCountGt ∷
+    builtin.FznCountLeq ∷ builtin.FznCountLt ∷ builtin.FznAmong ∷ builtin.FznNvalue ∷
+    builtin.FznAtLeastInt ∷ builtin.FznAtMostInt ∷ builtin.FznExactlyInt ∷
     builtin.FznGlobalCardinality ∷ builtin.FznGlobalCardinalityClosed ∷
     builtin.FznGlobalCardinalityLowUp ∷ builtin.FznGlobalCardinalityLowUpClosed ∷
     builtin.FznDistribute ∷ builtin.FznCumulative ∷ builtin.FznDisjunctive ∷

@@ -258,7 +258,8 @@ abbrev pub fits : Row → List Argument → Bool
 fits r xs =
     have_shapes r.shapes xs && (equally_long r.together xs && has_whole_rows r.matrix xs)
 
--- the row that a constraint fits; a constraint is known where there is one
+-- the row that a constraint fits; a constraint is known where there is one, but for a power whose
+-- exponent is negative
 abbrev pub row_of : Posted → Option Row
 row_of p = find (λ r. is_named p.name r && fits r p.arguments) rows
 

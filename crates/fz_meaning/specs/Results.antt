@@ -35,15 +35,16 @@ abbrev pub results : List (String × Result)
 results =
     ("int_eq", a_or_b) ∷ ("int_lin_eq", UnitTerm) ∷ ("int_plus", c) ∷ ("int_minus", c) ∷
     ("int_times", c) ∷ ("int_min", c) ∷ ("int_max", c) ∷ ("int_abs", b) ∷ ("int_negate", b) ∷
-    ("int_div", c) ∷ ("int_mod", c) ∷ ("array_int_element", c) ∷ ("array_int_maximum", a) ∷
-    ("array_int_minimum", a) ∷ ("bool_eq", a_or_b) ∷ ("bool_not", a_or_b) ∷ ("bool_and", c) ∷
-    ("bool_or", c) ∷ ("bool_xor", c) ∷ ("array_bool_and", b) ∷ ("array_bool_or", b) ∷
-    ("array_bool_element", c) ∷ ("bool2int", a_or_b) ∷ ("bool_lin_eq", c) ∷ ("set_eq", a_or_b) ∷
-    ("set_union", c) ∷ ("set_intersect", c) ∷ ("set_diff", c) ∷ ("set_symdiff", c) ∷
-    ("set_card", b) ∷ ("array_set_element", c) ∷ ("gecode_array_set_element_union", c) ∷
-    ("fzn_count_eq", c) ∷ ("fzn_among", a) ∷ ("fzn_nvalue", a) ∷
-    ("gecode_maximum_arg_int_offset", c) ∷ ("gecode_minimum_arg_int_offset", c) ∷
-    ("gecode_maximum_arg_bool_offset", c) ∷ ("gecode_set_weights", d) ∷ []
+    ("int_div", c) ∷ ("int_mod", c) ∷ ("int_pow", c) ∷ ("array_int_element", c) ∷
+    ("array_int_maximum", a) ∷ ("array_int_minimum", a) ∷ ("bool_eq", a_or_b) ∷
+    ("bool_not", a_or_b) ∷ ("bool_and", c) ∷ ("bool_or", c) ∷ ("bool_xor", c) ∷
+    ("array_bool_and", b) ∷ ("array_bool_or", b) ∷ ("array_bool_element", c) ∷
+    ("bool2int", a_or_b) ∷ ("bool_lin_eq", c) ∷ ("set_eq", a_or_b) ∷ ("set_union", c) ∷
+    ("set_intersect", c) ∷ ("set_diff", c) ∷ ("set_symdiff", c) ∷ ("set_card", b) ∷
+    ("array_set_element", c) ∷ ("gecode_array_set_element_union", c) ∷ ("fzn_count_eq", c) ∷
+    ("fzn_among", a) ∷ ("fzn_nvalue", a) ∷ ("gecode_maximum_arg_int_offset", c) ∷
+    ("gecode_minimum_arg_int_offset", c) ∷ ("gecode_maximum_arg_bool_offset", c) ∷
+    ("gecode_set_weights", d) ∷ []
 
 abbrev pub first_name : Row → List ℕ
 first_name r = get_or r.names 0 []

@@ -1,15 +1,19 @@
 -- The state of a point under a partial assignment, and what is asked where constraints that aren't
 -- known count for nothing (the states and the bound of 128 bits are this project's profile).
-use Rattle.std.specs.Prelude.{ℕ, ℤ, pos, negsuc, ◌+ℤ◌, ◌*ℤ◌, Bool, true, false, not, ◌&&◌, ◌^◌, ◌-◌, List, [], ◌∷◌, int_le, Option, Some, None, ◌≡◌, cond, slice_get, ◌⊎◌}
+use Rattle.std.specs.Prelude.{ℕ, ℤ, pos, negsuc, ◌+ℤ◌, ◌*ℤ◌, Bool, true, false, not, ◌&&◌, ◌||◌, ◌^◌, ◌-◌, List, [], ◌∷◌, int_le, int_lt, unsigned_abs, Option, Some, None, ◌≡◌, cond, slice_get, option_and_then, ◌⊎◌}
+use Rattle.std.specs.Int.{int_pow}
 use Rattle.std.specs.List.{list_all, list_any, AllByRecursion}
 use Rattle.std.specs.Option.{option_map_or}
 use Rattle.fz_meaning.specs.declared.state.State.{State}
 use Rattle.fz_meaning.specs.declared.term.Term.{Term}
 use Rattle.fz_meaning.specs.declared.term.Domain.{Domain}
+use Rattle.fz_meaning.specs.declared.row.Wide.{Wide}
+use Rattle.fz_meaning.specs.declared.row.Wide.TheVariants.{Products, Power}
 use Rattle.fz_meaning.specs.declared.state.State.TheVariants.{Holds, Fails, NoValue, Unknown, TooLarge}
 use Rattle.fz_meaning.specs.Relations.{same_value}
 use Rattle.fz_meaning.specs.Builtins.{Row, ArgValue}
-use Rattle.fz_meaning.specs.Meaning.{Argument, Model, Partial, Assignment, whole, value_at, IsAssignment, value, values, inside, terms_in, argument_values, row_of, row_holds, number_at, Point, points, HoldsUnder}
+use Rattle.fz_meaning.specs.Builtins.ArgValue.{OneValue, ManyValues}
+use Rattle.fz_meaning.specs.Meaning.{Argument, Model, Partial, Assignment, whole, value_at, IsAssignment, value, values, inside, terms_in, argument_value, argument_values, row_of, row_holds, as_int, number_at, Point, points, HoldsUnder}
 use Rattle.fz_meaning.specs.Meaning.Point.{DomainPoint, DefinitionPoint, ArrayPoint, ConstraintPoint}
 
 -- the partial sums when the numbers are added one after another to s, from the left
@@ -39,28 +43,42 @@ known_products K (a ∷ as') (b ∷ bs) =
     product_before (number_at K a) (number_at K b) (known_products K as' bs)
 known_products K _ _ = []
 
--- A partial sum of the products of two array arguments, added from the left over the indices at
--- which both elements have values, leaves signed 128 bits. Where the whole constraint has values
--- these are all indices, and where one element has none they are the others.
-abbrev pub products_leave : Partial → List Argument → ℕ × ℕ → Bool
-products_leave K xs at =
-    leaves_128 (known_products K (terms_at_argument xs at.0) (terms_at_argument xs at.1))
+-- the number of an argument that is a scalar, where it has a value
+abbrev pub number_of_value : ArgValue → Option ℤ
+number_of_value (OneValue v) = as_int v
+number_of_value (ManyValues vs) = None
 
--- one of the row's sums leaves 128 bits
-abbrev pub sums_leave : Partial → List Argument → Row → Bool
-sums_leave K xs r = list_any (products_leave K xs) r.sums
+abbrev pub number_at_argument : Partial → List Argument → ℕ → Option ℤ
+number_at_argument K xs i =
+    option_and_then number_of_value (option_and_then (argument_value K) (slice_get xs i))
 
--- the same, where it is asked of known constraints alone
-abbrev pub HoldsIfKnown : Partial → Point → Type 0
-HoldsIfKnown K (ConstraintPoint k p) = (row_of p ≡ None) ⊎ HoldsUnder K (ConstraintPoint k p)
-HoldsIfKnown K (DomainPoint x n) = HoldsUnder K (DomainPoint x n)
-HoldsIfKnown K (DefinitionPoint x n e) = HoldsUnder K (DefinitionPoint x n e)
-HoldsIfKnown K (ArrayPoint name d ts) = HoldsUnder K (ArrayPoint name d ts)
+abbrev pub power_leaves : Option ℤ → Option ℤ → Bool
+power_leaves (Some a) (Some b) = not (fits_128 (int_pow a (unsigned_abs b)))
+power_leaves _ _ = false
 
--- the same with every known constraint in place of every constraint
-pub record IsKnownSolution (m : Model) (A : Assignment) : Type 0 where
-  pub assignment : IsAssignment m A
-  pub each_holds : AllByRecursion (HoldsIfKnown (whole A)) (points m)
+-- A power whose exponent has a value that is negative: solvers differ in what it is, so it isn't
+-- known here.
+abbrev pub is_unknown : Partial → List Argument → Wide → Bool
+is_unknown K xs (Products i j) = false
+is_unknown K xs (Power i j) =
+    option_map_or (λ b. int_lt b (pos 0)) (number_at_argument K xs j) false
+
+-- A number that can't be computed in signed 128 bits. Of a sum of products: a partial sum, added
+-- from the left over the indices at which both elements have values, leaves them; where the whole
+-- constraint has values these are all indices, and where one element has none they are the others.
+-- Of a power: it isn't known, or both numbers have values and it leaves 128 bits.
+abbrev pub leaves : Partial → List Argument → Wide → Bool
+leaves K xs (Products i j) =
+    leaves_128 (known_products K (terms_at_argument xs i) (terms_at_argument xs j))
+leaves K xs (Power i j) = is_unknown K xs (Power i j)
+    || power_leaves (number_at_argument K xs i) (number_at_argument K xs j)
+
+-- one of the row's numbers can't be computed; and what the constraint's state is then
+abbrev pub is_beyond : Partial → List Argument → Row → Bool
+is_beyond K xs r = list_any (leaves K xs) r.wide
+
+abbrev pub beyond : Partial → List Argument → Row → State
+beyond K xs r = cond (list_any (is_unknown K xs) r.wide) Unknown TooLarge
 
 abbrev pub judged : Bool → State
 judged true = Holds
@@ -79,11 +97,12 @@ both _ _ = None
 abbrev pub is_outside : Partial → Domain → Term → Bool
 is_outside K d t = option_map_or (λ v. not (inside d v)) (value K t) false
 
--- Where an argument has no value, the constraint has none; then it is too large where a sum leaves
--- 128 bits; else it holds or fails.
+-- Where an argument has no value, the constraint has none; then it is unknown or too large where a
+-- number of it can't be computed; else it holds or fails.
 abbrev pub state_of_values : Partial → List Argument → Row → Option (List ArgValue) → State
 state_of_values K xs r None = NoValue
-state_of_values K xs r (Some vs) = cond (sums_leave K xs r) TooLarge (judged (row_holds r vs))
+state_of_values K xs r (Some vs) =
+    cond (is_beyond K xs r) (beyond K xs r) (judged (row_holds r vs))
 
 abbrev pub state_of_row : Partial → List Argument → Option Row → State
 state_of_row K xs None = Unknown
@@ -91,7 +110,7 @@ state_of_row K xs (Some r) = state_of_values K xs r (argument_values K xs)
 
 -- A domain or a definition holds or fails where there are values, and else has none; an array's
 -- domain fails as soon as one element lies outside; a constraint is unknown where it fits no row,
--- whatever its values are.
+-- whatever its values are, and by its values where an exponent is negative.
 abbrev pub state : Partial → Point → State
 state K (DomainPoint x n) = judged_by (inside x.domain) (value_at K n)
 state K (DefinitionPoint x n e) =
@@ -99,6 +118,19 @@ state K (DefinitionPoint x n e) =
 state K (ArrayPoint name d ts) =
     cond (list_any (is_outside K d) ts) Fails (judged_by (λ vs. true) (values K ts))
 state K (ConstraintPoint k p) = state_of_row K p.arguments (row_of p)
+
+-- the point holds, where it is asked of known constraints alone
+abbrev pub HoldsIfKnown : Partial → Point → Type 0
+HoldsIfKnown K (ConstraintPoint k p) =
+    (state K (ConstraintPoint k p) ≡ Unknown) ⊎ HoldsUnder K (ConstraintPoint k p)
+HoldsIfKnown K (DomainPoint x n) = HoldsUnder K (DomainPoint x n)
+HoldsIfKnown K (DefinitionPoint x n e) = HoldsUnder K (DefinitionPoint x n e)
+HoldsIfKnown K (ArrayPoint name d ts) = HoldsUnder K (ArrayPoint name d ts)
+
+-- a solution, where it is asked of known constraints alone
+pub record IsKnownSolution (m : Model) (A : Assignment) : Type 0 where
+  pub assignment : IsAssignment m A
+  pub each_holds : AllByRecursion (HoldsIfKnown (whole A)) (points m)
 
 -- how a point is reported: by the declared name, or by the constraint's number and the predicate's
 -- name

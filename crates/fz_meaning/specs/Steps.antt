@@ -11,7 +11,7 @@ use Rattle.fz_meaning.specs.Relations.{kind_of}
 use Rattle.fz_meaning.specs.Results.{Result, result_of}
 use Rattle.fz_meaning.specs.Results.Result.{NoResult, Places, UnitTerm}
 use Rattle.fz_meaning.specs.Meaning.{Argument, Model, Point, Partial, variables_of, value, give, admits, terms_in, row_of, HoldsUnder}
-use Rattle.fz_meaning.specs.States.{terms_at_argument, sums_leave}
+use Rattle.fz_meaning.specs.States.{is_beyond, terms_at_argument}
 use Rattle.fz_meaning.specs.declared.term.Term.{Term}
 use Rattle.fz_meaning.specs.declared.term.Domain.{Domain}
 use Rattle.fz_meaning.specs.declared.term.Term.TheVariants.{Var}
@@ -71,23 +71,23 @@ WithinLimits (Int n) = FitsSigned w64 n
 WithinLimits (Truth b) = ⊤
 WithinLimits (Set s) = ⊤
 
--- no sum that the step needs leaves 128 bits: the partial sums of the constraint's row over the
--- elements that have values
-abbrev pub SumsFit : Partial → Point → Type 0
-SumsFit K (DomainPoint x n) = ⊤
-SumsFit K (DefinitionPoint x n e) = ⊤
-SumsFit K (ArrayPoint name d ts) = ⊤
-SumsFit K (ConstraintPoint k p) = IfSome (row_of p) (λ r. IsFalse (sums_leave K p.arguments r))
+-- each number that the step needs can be computed: those of the constraint's row over the scalars
+-- that have values
+abbrev pub NumbersFit : Partial → Point → Type 0
+NumbersFit K (DomainPoint x n) = ⊤
+NumbersFit K (DefinitionPoint x n e) = ⊤
+NumbersFit K (ArrayPoint name d ts) = ⊤
+NumbersFit K (ConstraintPoint k p) = IfSome (row_of p) (λ r. IsFalse (is_beyond K p.arguments r))
 
 -- The point gives the variable the value: the variable is its target, it is the point's only scalar
--- without a value, no sum that the step needs leaves 128 bits, and with the value, which is of the
--- variable's kind and within the limits, the point holds.
+-- without a value, each number that the step needs can be computed, and with the value, which is of
+-- the variable's kind and within the limits, the point holds.
 pub record Gives (m : Model) (K : Partial) (p : Point) (n : ℕ) (v : Value) : Type 0 where
   pub target : IsTarget K p n
   pub only_open : open_terms K (terms_of p) ≡ Var n ∷ []
   pub of_kind : kind_at m n ≡ Some (kind_of v)
   pub within_limits : WithinLimits v
-  pub sums_fit : SumsFit K p
+  pub numbers_fit : NumbersFit K p
   pub then_holds : HoldsUnder (give K n v) p
 
 abbrev pub GivesNothing : Model → Partial → Point → Type 0

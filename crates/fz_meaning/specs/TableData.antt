@@ -3,26 +3,30 @@ use Rattle.std.specs.Prelude.{◌≡◌, ℕ, List, [], ◌∷◌, map}
 use Rattle.fz_meaning.specs.Builtins.{Row, with_bool}
 use Rattle.fz_meaning.specs.declared.row.BaseRow.{BaseRow}
 use Rattle.fz_meaning.specs.declared.row.Lengths.{Lengths}
-use Rattle.fz_meaning.specs.declared.row.Lengths.TheVariants.{Free, Equal, Summed, Packed, Shaped}
+use Rattle.fz_meaning.specs.declared.row.Lengths.TheVariants.{Free, Equal, Summed, Packed, Raised, Shaped}
 use Rattle.fz_meaning.specs.declared.row.Matrix.{Matrix}
 use Rattle.fz_meaning.specs.declared.row.Matrix.TheVariants.{Absent}
+use Rattle.fz_meaning.specs.declared.row.Wide.{Wide}
+use Rattle.fz_meaning.specs.declared.row.Wide.TheVariants.{Products, Power}
 use Rattle.fz_meaning.specs.Known.{as_result, shape_of}
 use Rattle.fz_meaning.specs.Results.{result_of}
 
--- the arrays of equal lengths, those whose products are added in 128 bits, and the matrix
+-- the arrays of equal lengths, the numbers that are computed in 128 bits, and the matrix
 abbrev pub together_in : Lengths → List ℕ
 together_in Free = []
 together_in (Equal places) = places.now
 together_in Summed = 0 ∷ 1 ∷ []
 together_in Packed = 0 ∷ 1 ∷ 2 ∷ []
+together_in Raised = []
 together_in (Shaped matrix) = []
 
-abbrev pub sums_in : Lengths → List (ℕ × ℕ)
-sums_in Free = []
-sums_in (Equal places) = []
-sums_in Summed = (0, 1) ∷ []
-sums_in Packed = (0, 2) ∷ (1, 2) ∷ []
-sums_in (Shaped matrix) = []
+abbrev pub wide_in : Lengths → List Wide
+wide_in Free = []
+wide_in (Equal places) = []
+wide_in Summed = Products 0 1 ∷ []
+wide_in Packed = Products 0 2 ∷ Products 1 2 ∷ []
+wide_in Raised = Power 0 1 ∷ []
+wide_in (Shaped matrix) = []
 
 abbrev pub matrix_in : Lengths → Matrix
 matrix_in (Shaped matrix) = matrix
@@ -33,6 +37,6 @@ pub record IsData (kept : BaseRow) (r : Row) : Type 0 where
   pub shapes : map shape_of kept.0.now ≡ with_bool r.shapes
   pub filled : as_result kept.1 ≡ result_of r
   pub together : together_in kept.2 ≡ r.together
-  pub sums : sums_in kept.2 ≡ r.sums
+  pub wide : wide_in kept.2 ≡ r.wide
   pub matrix : matrix_in kept.2 ≡ r.matrix
   pub has_forms : kept.3 ≡ r.has_forms

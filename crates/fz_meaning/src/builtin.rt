@@ -27,6 +27,7 @@ pub enum Builtin {
     IntNegate,
     IntDiv,
     IntMod,
+    IntPow,
     ArrayIntElement,
     ArrayIntMaximum,
     ArrayIntMinimum,
@@ -165,6 +166,7 @@ impl Builtin {
                 (b"int_abs", Builtin::IntAbs),
                 (b"int_div", Builtin::IntDiv),
                 (b"int_mod", Builtin::IntMod),
+                (b"int_pow", Builtin::IntPow),
                 (b"bool_eq", Builtin::BoolEq),
                 (b"bool_le", Builtin::BoolLe),
                 (b"bool_lt", Builtin::BoolLt),
@@ -241,6 +243,7 @@ impl Builtin {
                 (b"array_bool_lq", Builtin::FznLexLesseqBool),
             ],
             14 => &[
+                (b"gecode_int_pow", Builtin::IntPow),
                 (b"array_bool_and", Builtin::ArrayBoolAnd),
                 (b"array_bool_xor", Builtin::ArrayBoolXor),
                 (b"fzn_distribute", Builtin::FznDistribute),

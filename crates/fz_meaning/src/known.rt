@@ -6,7 +6,7 @@ ghost use Rattle.fz_meaning.specs.Known.{HasTruth, as_result, known_row, row_nam
 ghost use Rattle.fz_meaning.specs.Results.{result_of};
 
 use crate::builtin::Builtin;
-use crate::row::{BaseRow, Filled, Lengths, Matrix, Shape};
+use crate::row::{BaseRow, Filled, Lengths, Matrix, Shape, Wide};
 use crate::text::same_text;
 
 /// What a constraint says of a base row.
@@ -110,7 +110,7 @@ impl Known {
     {
         let BaseRow(_, _, lengths, _) = self.builtin.base_row();
         match lengths {
-            Lengths::Free | Lengths::Shaped(_) => &[],
+            Lengths::Free | Lengths::Raised | Lengths::Shaped(_) => &[],
             Lengths::Equal(places) => places,
             Lengths::Summed => &[0, 1],
             Lengths::Packed => &[0, 1, 2],
@@ -124,20 +124,20 @@ impl Known {
         let BaseRow(_, _, lengths, _) = self.builtin.base_row();
         match lengths {
             Lengths::Shaped(matrix) => matrix,
-            Lengths::Free | Lengths::Equal(_) | Lengths::Summed | Lengths::Packed => Matrix::Absent,
+            _ => Matrix::Absent,
         }
     }
 
-    /// The indices, counted from 0, of the pairs of array arguments whose products are added in
-    /// signed 128 bits.
-    pub fn sums(self) -> &'static [(usize, usize)]
-        ensures { result.now ≡ (known_row self).sums }
+    /// The numbers that are computed in signed 128 bits.
+    pub fn wide(self) -> &'static [Wide]
+        ensures { result.now ≡ (known_row self).wide }
     {
         let BaseRow(_, _, lengths, _) = self.builtin.base_row();
         match lengths {
             Lengths::Free | Lengths::Equal(_) | Lengths::Shaped(_) => &[],
-            Lengths::Summed => &[(0, 1)],
-            Lengths::Packed => &[(0, 2), (1, 2)],
+            Lengths::Summed => &[Wide::Products(0, 1)],
+            Lengths::Packed => &[Wide::Products(0, 2), Wide::Products(1, 2)],
+            Lengths::Raised => &[Wide::Power(0, 1)],
         }
     }
 

@@ -4,7 +4,7 @@
 //! The table of builtins is data here too. [`Known::find`] says what a constraint's name means: a
 //! [`Builtin`], or a reified [`Form`] of it. A [`Known`] tells what its row asks: the kinds of its
 //! arguments, which arrays have to be of equal lengths, which one has to have whole rows, which
-//! sums are added in 128 bits, and which arguments may be filled. When a row holds is in the
+//! numbers are computed in 128 bits, and which arguments may be filled. When a row holds is in the
 //! definitions alone (`specs/Builtins.antt`).
 //!
 //! Its definitions are computed on worked rows in `proofs/Rows.antt`; the worked cases of the table
@@ -27,7 +27,7 @@ pub use error::ModelError;
 pub use fz_syntax;
 pub use kind::Kind;
 pub use known::{Form, Known};
-pub use row::{Filled, Matrix, Shape};
+pub use row::{Filled, Matrix, Shape, Wide};
 pub use state::State;
 pub use term::{Domain, Term};
 pub use text::same_text;
@@ -42,7 +42,8 @@ pub fn numbers_agree()
     ensures { NumbersAgree }
 {}
 
-/// The state is unknown exactly where the constraint is not known.
+/// The state is unknown exactly where the constraint fits no row, or has a power with a negative
+/// exponent.
 pub fn unknown_is_not_known()
     ensures { UnknownIsNotKnown }
 {}

@@ -38,15 +38,26 @@ pub enum Matrix {
     RowsBy(usize, usize, usize),
 }
 
+/// A number that a row computes in signed 128 bits, by the indices of arguments, counted from 0.
+#[derive(Clone, Copy, Debug, PartialEq, Eq)]
+pub enum Wide {
+    /// The sum of the products of two arrays.
+    Products(usize, usize),
+    /// The power of a scalar by another.
+    Power(usize, usize),
+}
+
 // Which arrays have to be of certain lengths: none; those at some argument indices, counted from 0,
 // of equal ones; the first two, whose products are added in signed 128 bits; the first three, where
-// the products of each of the first two with the third are added so; or one that was a matrix.
+// the products of each of the first two with the third are added so; none, where the power of the
+// first argument by the second is computed so; or one that was a matrix.
 #[derive(Clone, Copy)]
 pub(crate) enum Lengths {
     Free,
     Equal(&'static [usize]),
     Summed,
     Packed,
+    Raised,
     Shaped(Matrix),
 }
 
@@ -102,6 +113,8 @@ const SUMMED: Lengths = Lengths::Summed;
 
 const PACKED: Lengths = Lengths::Packed;
 
+const RAISED: Lengths = Lengths::Raised;
+
 const TABLE: Lengths = Lengths::Shaped(Matrix::RowsLike(0, 1));
 
 const AUTOMATON: Lengths = Lengths::Shaped(Matrix::RowsBy(1, 2, 3));
@@ -136,6 +149,7 @@ impl Builtin {
             Builtin::IntNegate => BaseRow(&[INT, INT, BOOL], B, FREE, ALONE),
             Builtin::IntDiv => BaseRow(&[INT, INT, INT, BOOL], C, FREE, ALONE),
             Builtin::IntMod => BaseRow(&[INT, INT, INT, BOOL], C, FREE, ALONE),
+            Builtin::IntPow => BaseRow(&[INT, INT, INT, BOOL], C, RAISED, ALONE),
             Builtin::ArrayIntElement => BaseRow(&[INT, INTS, INT, BOOL], C, FREE, ALONE),
             Builtin::ArrayIntMaximum => BaseRow(&[INT, INTS, BOOL], A, FREE, ALONE),
             Builtin::ArrayIntMinimum => BaseRow(&[INT, INTS, BOOL], A, FREE, ALONE),

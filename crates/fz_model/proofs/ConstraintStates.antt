@@ -4,36 +4,37 @@ use Rattle.std.specs.Prelude.{is_some, find}
 use Rattle.std.specs.List.{list_all, list_any}
 use Rattle.fz_builtins.specs.of_meaning.declared.state.State.{State}
 use Rattle.fz_builtins.specs.of_meaning.declared.term.Term.{Term}
-use Rattle.fz_builtins.specs.of_meaning.declared.state.State.TheVariants.{Holds, Fails, NoValue, TooLarge}
+use Rattle.fz_builtins.specs.of_meaning.declared.state.State.TheVariants.{Holds, Fails, NoValue, TooLarge, Unknown}
 use Rattle.fz_builtins.specs.of_meaning.Builtins.{Row, ArgValue, builtins, is_named, row_at, rows}
 use Rattle.fz_builtins.specs.of_meaning.Meaning.{Argument, Partial, Posted, argument_values, fits, have_shapes, row_holds, row_of, values}
-use Rattle.fz_builtins.specs.of_meaning.States.{judged, judged_by, state_of_row, state_of_values, sums_leave}
+use Rattle.fz_builtins.specs.of_meaning.States.{is_beyond, is_unknown, judged, judged_by, state_of_row, state_of_values}
 use Rattle.fz_builtins.proofs.of_meaning.Values.{no, no', and_first, and_second}
 use Rattle.fz_builtins.specs.of_meaning.declared.known.Form.{Form}
 use Rattle.fz_builtins.specs.of_meaning.declared.known.Form.TheVariants.{Base, Reified, Implied}
 use Rattle.fz_builtins.specs.of_meaning.declared.known.Known.{Known}
 use Rattle.fz_builtins.specs.of_meaning.Known.{form_at, known_row}
 use Rattle.fz_builtins.proofs.of_meaning.FoundRows.{each_builtin}
-use Rattle.fz_builtins.specs.of_kernel.Given.{are_read, are_given, has_value, given_values, read_leave}
+use Rattle.fz_builtins.specs.of_kernel.Given.{are_read, are_given, has_value, given_values, read_unknown}
 use Rattle.fz_builtins.proofs.of_kernel.Ready.{ready_values, values_given, values_some, wrong_kind}
-use Rattle.fz_builtins.proofs.of_kernel.Sums.{are_ints, sums_leave_are, sums_with_bool}
-use Rattle.fz_builtins.specs.Outcomes.{row_outcome, sum_outcome, told}
+use Rattle.fz_builtins.proofs.of_kernel.Sums.{are_ints, leave_are, numbers_with_bool, unknown_are}
+use Rattle.fz_builtins.specs.declared.outcome.Outcome.TheVariants as outcome
+use Rattle.fz_builtins.specs.Outcomes.{outcome_beyond, reads_beyond, row_outcome, told}
 use Rattle.fz_builtins.proofs.Rows.{outcome_is}
 
--- ---- a row adds products of arrays of numbers
+-- ---- a row computes with numbers
 
-all_sum_ints : list_all (λ b. list_all (are_ints (row_at b).shapes) (row_at b).sums) builtins ≡ true
+all_ints : list_all (λ b. list_all (are_ints (row_at b).shapes) (row_at b).wide) builtins ≡ true
 unfolding row_at builtins
-all_sum_ints = refl
+all_ints = refl
 
-form_sums_ints : (f : Form) (r : Row) → list_all (are_ints r.shapes) r.sums ≡ true
-    → list_all (are_ints (form_at f r).shapes) (form_at f r).sums ≡ true
-form_sums_ints Base r h = h
-form_sums_ints Reified r h = sums_with_bool r.shapes r.sums h
-form_sums_ints Implied r h = sums_with_bool r.shapes r.sums h
+form_ints : (f : Form) (r : Row) → list_all (are_ints r.shapes) r.wide ≡ true
+    → list_all (are_ints (form_at f r).shapes) (form_at f r).wide ≡ true
+form_ints Base r h = h
+form_ints Reified r h = numbers_with_bool r.shapes r.wide h
+form_ints Implied r h = numbers_with_bool r.shapes r.wide h
 
-sums_ints : (k : Known) → list_all (are_ints (known_row k).shapes) (known_row k).sums ≡ true
-sums_ints k = form_sums_ints k.form (row_at k.builtin) (each_builtin (λ b. list_all (are_ints (row_at b).shapes) (row_at b).sums) all_sum_ints k.builtin)
+known_ints : (k : Known) → list_all (are_ints (known_row k).shapes) (known_row k).wide ≡ true
+known_ints k = form_ints k.form (row_at k.builtin) (each_builtin (λ b. list_all (are_ints (row_at b).shapes) (row_at b).wide) all_ints k.builtin)
 
 -- ---- an array's elements
 
@@ -65,32 +66,38 @@ module _ (k : Known) (K : Partial) (xs : List Argument) (shaped : have_shapes (k
         | Some vs ↦ λ e. no' e
       ] (values_given K xs ∙ none)
 
-  by_sum : (vs : List ArgValue) (leaves holds : Bool) → leaves
-      ≡ (list_any (read_leave K xs) (known_row k).sums) → holds ≡ row_holds (known_row k) vs
-      → cond leaves TooLarge (judged holds) ≡ state_of_values K xs (known_row k) (Some vs)
-  by_sum vs leaves holds e f =
-      ap (λ b. cond b TooLarge (judged holds)) (e ∙ sym (sums_leave_are K (known_row k).shapes xs (known_row k).sums (sums_ints k) shaped)) ∙ ap (λ h. cond (sums_leave K xs (known_row k)) TooLarge (judged h)) f
+  as_told : (leaves unknown holds : Bool)
+      → told (cond leaves (cond unknown outcome.Unknown outcome.TooLarge) (outcome.Truth holds))
+      ≡ cond leaves (cond unknown Unknown TooLarge) (judged holds)
+  as_told true true holds = refl
+  as_told true false holds = refl
+  as_told false unknown holds = refl
+
+  by_outcome : (vs : List ArgValue) (holds : Bool) → holds ≡ row_holds (known_row k) vs
+      → told (cond (reads_beyond (known_row k) K xs) (outcome_beyond (known_row k) K xs) (outcome.Truth holds))
+      ≡ state_of_values K xs (known_row k) (Some vs)
+  by_outcome vs holds e =
+      let r = known_row k in
+      let leave : reads_beyond r K xs ≡ is_beyond K xs r = sym (leave_are K r.shapes xs shaped r.wide (known_ints k)) in
+      let unknown : list_any (read_unknown K xs) r.wide ≡ list_any (is_unknown K xs) r.wide = sym (unknown_are K r.shapes xs shaped r.wide (known_ints k)) in
+      as_told (reads_beyond r K xs) (list_any (read_unknown K xs) r.wide) holds
+      ∙ (λ i. cond (leave i) (cond (unknown i) Unknown TooLarge) (judged (e i)))
 
   pub of_wrong_kind : are_read K (known_row k).shapes xs ≡ false → are_given K xs ≡ true
-      → (leaves : Bool) → leaves ≡ (list_any (read_leave K xs) (known_row k).sums)
-      → cond leaves TooLarge Fails ≡ state_of_row K xs (Some (known_row k))
-  of_wrong_kind unread all leaves e =
-      elim (argument_values K xs) as (λ o. argument_values K xs ≡ o → is_some o ≡ true → cond leaves TooLarge Fails ≡ state_of_values K xs (known_row k) o) [
+      → told (cond (reads_beyond (known_row k) K xs) (outcome_beyond (known_row k) K xs) (outcome.Truth false))
+      ≡ state_of_row K xs (Some (known_row k))
+  of_wrong_kind unread all =
+      let says = told (cond (reads_beyond (known_row k) K xs) (outcome_beyond (known_row k) K xs) (outcome.Truth false)) in
+      elim (argument_values K xs) as (λ o. argument_values K xs ≡ o → is_some o ≡ true → says ≡ state_of_values K xs (known_row k) o) [
         | None ↦ λ _ h. no h
-        | Some vs ↦ λ are _. by_sum vs leaves false e (sym (wrong_kind K (known_row k).shapes (known_row k).holds xs vs shaped unread are))
+        | Some vs ↦ λ are _. by_outcome vs false (sym (wrong_kind K (known_row k).shapes (known_row k).holds xs vs shaped unread are))
       ] refl (values_given K xs ∙ all)
-
-  told_sum : (leaves holds : Bool)
-      → told (sum_outcome leaves holds) ≡ cond leaves TooLarge (judged holds)
-  told_sum true holds = refl
-  told_sum false holds = refl
 
   pub of_ready : are_read K (known_row k).shapes xs ≡ true
       → told (row_outcome (known_row k) K xs) ≡ state_of_row K xs (Some (known_row k))
   of_ready ready =
       let vs = given_values K (known_row k).shapes xs in
-      ap told (outcome_is (known_row k) K xs) ∙ told_sum (list_any (read_leave K xs) (known_row k).sums) (row_holds (known_row k) vs)
-      ∙ by_sum vs (list_any (read_leave K xs) (known_row k).sums) (row_holds (known_row k) vs) refl refl
+      ap told (outcome_is (known_row k) K xs) ∙ by_outcome vs (row_holds (known_row k) vs) refl
       ∙ ap (state_of_values K xs (known_row k)) (sym (ready_values K (known_row k).shapes xs shaped ready))
 
 -- ---- a constraint has the shapes of its row

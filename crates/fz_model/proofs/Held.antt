@@ -11,7 +11,7 @@ use Rattle.fz_builtins.specs.of_meaning.Results.{Result, result_of}
 use Rattle.fz_builtins.specs.of_meaning.Builtins.Shape.{ScalarOf, ArrayOf}
 use Rattle.fz_builtins.specs.of_meaning.Results.Result.{NoResult, Places, UnitTerm}
 use Rattle.fz_builtins.specs.of_meaning.Meaning.{Argument, Partial, value_at, give, argument_values, has_shape, have_shapes, row_holds, terms_in}
-use Rattle.fz_builtins.specs.of_meaning.States.{sums_leave, terms_at_argument}
+use Rattle.fz_builtins.specs.of_meaning.States.{is_beyond, terms_at_argument}
 use Rattle.fz_builtins.specs.of_meaning.Meaning.Place.{Scalar, Array}
 use Rattle.fz_builtins.specs.of_meaning.Meaning.Argument.{One, ListOf}
 use Rattle.fz_builtins.specs.of_meaning.Steps.{IsResult, open_terms}
@@ -136,10 +136,10 @@ module _ (K : Partial) (xs : List Argument) (r : Row) (s : Spot) (h : IsReady K 
 
   -- ---- where sums leave 128 bits
 
-  pub too_large : (o : Option Value) → sums_leave K xs r ≡ true → o ≡ None
+  pub too_large : (o : Option Value) → is_beyond K xs r ≡ true → o ≡ None
       → IsOnlyValue K xs r s.variable o
   too_large (Some v) large is = cc
-  too_large None large is = λ within w f. no (sym f.sums_fit ∙ large)
+  too_large None large is = λ within w f. no (sym f.numbers_fit ∙ large)
 
   -- ---- where they don't
   --
@@ -149,7 +149,7 @@ module _ (K : Partial) (xs : List Argument) (r : Row) (s : Spot) (h : IsReady K 
   module _ (z : Shape) (shape : slice_get r.shapes s.argument ≡ Some z) (test : Value → Bool)
       (test_is : s.variable < length K → (w : Value) → kind_of w ≡ kind_in z
       → row_holds r (given_values (give K s.variable w) r.shapes xs) ≡ test w)
-      (result : IsResult K xs s.variable (result_of r)) (sums : sums_leave K xs r ≡ false) where
+      (result : IsResult K xs s.variable (result_of r)) (sums : is_beyond K xs r ≡ false) where
     holds_kind : s.variable < length K → (w : Value) → IsSomeAnd
         (argument_values (give K s.variable w) xs) (λ vs. IsTrue (row_holds r vs))
         → kind_of w ≡ kind_in z
@@ -167,7 +167,7 @@ module _ (K : Partial) (xs : List Argument) (r : Row) (s : Spot) (h : IsReady K 
       h.only_open,
       λ within. record {
         only_open = h.only_open;
-        sums_fit = sums;
+        numbers_fit = sums;
         result = result;
         within_limits = left.1;
         holds = given_holds within v left.0 (test_is within v left.0 ∙ left.2);
@@ -195,7 +195,7 @@ module _ (K : Partial) (xs : List Argument) (r : Row) (s : Spot) (h : IsReady K 
         (s.argument, place, q, at)
     result_of_place UnitTerm place = absurd place
 
-    pub scalar_left : IsPlaceOf (result_of r) s.argument → sums_leave K xs r ≡ false → (o : Option Value)
+    pub scalar_left : IsPlaceOf (result_of r) s.argument → is_beyond K xs r ≡ false → (o : Option Value)
         → IsLeft k (holds_with r K xs s.argument) o → IsOnlyValue K xs r s.variable o
     scalar_left place sums = is_left (ScalarOf k) shape (holds_with r K xs s.argument) scalar_test (result_of_place (result_of r) place) sums
 

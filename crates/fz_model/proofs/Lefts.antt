@@ -1,6 +1,5 @@
 -- From what a row says to what is left to its result.
-use Rattle.std.proofs.Common.{◌≡◌, ℕ, zero, suc, ℤ, Bool, true, nat_eq, List, [], ◌∷◌, Option, Some, None, refl, sym, ap, subst, ◌∙◌, ◌⊎◌, inl, inr, Contains, option_map, arith}
-use Rattle.std.specs.List.{list_any}
+use Rattle.std.proofs.Common.{◌≡◌, ℕ, zero, suc, ℤ, Bool, true, false, nat_eq, List, [], ◌∷◌, Option, Some, None, refl, sym, ap, subst, ◌∙◌, ◌⊎◌, inl, inr, Contains, option_map, arith}
 use Rattle.fz_base.specs.Sets.{NumberSet}
 use Rattle.fz_base.specs.declared.value.Value.{Value}
 use Rattle.fz_base.specs.declared.value.Value.TheVariants.{Int, Bool as Truth, Set}
@@ -12,12 +11,16 @@ use Rattle.fz_builtins.specs.of_meaning.Results.{Result, result_of}
 use Rattle.fz_builtins.specs.of_meaning.Results.Result.{NoResult, Places, UnitTerm}
 use Rattle.fz_builtins.specs.of_meaning.Meaning.{Argument, Partial}
 use Rattle.fz_builtins.proofs.of_meaning.Values.{no, bool_itself, set_itself}
-use Rattle.fz_builtins.specs.of_kernel.Given.{read_leave}
+use Rattle.fz_builtins.specs.Outcomes.{reads_beyond}
+use Rattle.fz_builtins.specs.declared.outcome.Outcome.{Outcome}
+use Rattle.fz_builtins.specs.declared.outcome.Outcome.TheVariants as outcome
+use Rattle.fz_builtins.proofs.of_meaning.Powers.{only_place}
 use Rattle.fz_builtins.specs.Said.{HasNone, HasResult, IsSaid, asked_place, is_result, row_with}
 use Rattle.fz_builtins.specs.declared.said.Said.{Said}
 use Rattle.fz_builtins.specs.declared.said.Said.TheVariants as said
 use Rattle.fz_builtins.proofs.Rows.{with_is}
-use Rattle.fz_model.specs.Left.{IsLeft, IsLeftAt, IsLeftNumber, IsLeftPlain, IsOfKind, IsPlaceOf, holds_with, is_too_large}
+use Rattle.fz_model.specs.Left.{IsLeft, IsLeftAt, IsLeftIfComputed, IsLeftNumber, IsLeftPlain, IsOfKind, IsPlaceOf, holds_with}
+use Rattle.fz_model.proofs.Reified.{told_nothing}
 
 -- ---- plain values as values
 
@@ -66,10 +69,6 @@ the_result same itself test None is = λ x passes. no (sym (is x) ∙ passes)
 
 -- ---- where the result is
 
-pub only_place : (n i : ℕ) → Contains (n ∷ []) i → i ≡ n
-only_place n i (zero, below, e) = sym e
-only_place n i (suc k, below, e) = absurd (omega arith)
-
 either_place : (m n i : ℕ) → Contains (m ∷ n ∷ []) i → (i ≡ m) ⊎ (i ≡ n)
 either_place m n i (zero, below, e) = inl (sym e)
 either_place m n i (suc zero, below, e) = inr (sym e)
@@ -96,48 +95,52 @@ module _ (r : Row) (K : Partial) (xs : List Argument) (i : ℕ) (place : IsPlace
   abbrev first : Bool
   first = nat_eq i 0
 
-  -- a row with a result adds no sum up
-  pub said_fits : (s : Said) → IsSaid r first K xs s → is_too_large r K xs ≡ true → ⊥
-  said_fits (said.Whether o) h large = none_there (result_of r) i h.1 place
-  said_fits (said.Number j o) h large = no (ap (list_any (read_leave K xs)) (sym h.0.2) ∙ large)
-  said_fits (said.Boolean j o) h large = no (ap (list_any (read_leave K xs)) (sym h.0.2) ∙ large)
-  said_fits (said.Set j s) h large = no (ap (list_any (read_leave K xs)) (sym h.0.2) ∙ large)
-  said_fits (said.Given j o) h large = no (ap (list_any (read_leave K xs)) (sym h.0.2) ∙ large)
+  -- what is left where each number can be computed
+  pub computed : (o : Option Value) → reads_beyond r K xs ≡ false → IsLeftAt r K xs i o
+      → IsLeftIfComputed r K xs i o
+  computed o fits left = record { left = λ _. left; beyond = λ large. no (sym fits ∙ large) }
 
-  shape_there : (j : ℕ) (k : Kind) → HasResult r first j k → IsOfKind r.shapes i k
+  -- a row with a result that tells no value of it has a number that can't be computed
+  pub nothing_said : (o : Outcome) → IsSaid r first K xs (said.Whether o)
+      → IsLeftIfComputed r K xs i None
+  nothing_said (outcome.Truth holds) h = absurd (none_there (result_of r) i h.1 place)
+  nothing_said outcome.TooLarge h = record { left = λ fits. no (sym fits ∙ told_nothing r K xs outcome.TooLarge (sym h.0) (λ t. t)); beyond = λ _. refl }
+  nothing_said outcome.Unknown h = record { left = λ fits. no (sym fits ∙ told_nothing r K xs outcome.Unknown (sym h.0) (λ t. t)); beyond = λ _. refl }
+
+  shape_there : (j : ℕ) (k : Kind) → HasResult r first K xs j k → IsOfKind r.shapes i k
   shape_there j k has = subst (λ n. IsOfKind r.shapes n k) (placed (result_of r) i j place has.0) has.1
 
   -- a value there, as it is put there and as it is read
-  value_there : (j : ℕ) (k : Kind) → HasResult r first j k → (v : Value)
+  value_there : (j : ℕ) (k : Kind) → HasResult r first K xs j k → (v : Value)
       → holds_with r K xs i v ≡ row_with r K xs j v
   value_there j k has v =
       sym (with_is K xs 0 r.shapes r.holds i k (shape_there j k has) v)
       ∙ ap (λ n. row_with r K xs n v) (sym (placed (result_of r) i j place has.0))
 
   pub number_said : (j : ℕ) (o p : Option ℤ) → IsSaid r first K xs (said.Number j o)
-      → IsLeftNumber (is_result ◌=ℤ◌ o) p → IsLeftAt r K xs i (option_map Int p)
-  number_said j o p h left = record {
+      → IsLeftNumber (is_result ◌=ℤ◌ o) p → IsLeftIfComputed r K xs i (option_map Int p)
+  number_said j o p h left = computed (option_map Int p) h.0.2 (record {
     kind = IntKind;
     shape = shape_there j IntKind h.0;
     left = number_left (holds_with r K xs i) p (same_numbers (is_result ◌=ℤ◌ o)
         (λ n. holds_with r K xs i (Int n)) p (λ n. value_there j IntKind h.0 (Int n) ∙ h.1 n) left);
-  }
+  })
 
   pub truth_said : (j : ℕ) (o : Option Bool) → IsSaid r first K xs (said.Boolean j o)
-      → IsLeftAt r K xs i (option_map Truth o)
-  truth_said j o h = record {
+      → IsLeftIfComputed r K xs i (option_map Truth o)
+  truth_said j o h = computed (option_map Truth o) h.0.2 (record {
     kind = BoolKind;
     shape = shape_there j BoolKind h.0;
     left = truth_left (holds_with r K xs i) o (the_result ◌=ᴮ◌ bool_itself
         (λ b. holds_with r K xs i (Truth b)) o (λ b. value_there j BoolKind h.0 (Truth b) ∙ h.1 b));
-  }
+  })
 
-  pub set_said : (j : ℕ) (o : Option NumberSet) → HasResult r first j SetKind
+  pub set_said : (j : ℕ) (o : Option NumberSet) → HasResult r first K xs j SetKind
       → ((s : NumberSet) → row_with r K xs j (Set s) ≡ is_result ◌=ˢ◌ o s)
-      → IsLeftAt r K xs i (option_map Set o)
-  set_said j o has is = record {
+      → IsLeftIfComputed r K xs i (option_map Set o)
+  set_said j o has is = computed (option_map Set o) has.2 (record {
     kind = SetKind;
     shape = shape_there j SetKind has;
     left = set_left (holds_with r K xs i) o (the_result ◌=ˢ◌ set_itself
         (λ s. holds_with r K xs i (Set s)) o (λ s. value_there j SetKind has (Set s) ∙ is s));
-  }
+  })

@@ -30,6 +30,7 @@ pub use Rattle.fz_builtins.proofs.of_meaning.Points
 pub use Rattle.fz_builtins.proofs.of_meaning.Numbers
 pub use Rattle.fz_builtins.proofs.of_meaning.Scope
 pub use Rattle.fz_builtins.proofs.of_meaning.States
+pub use Rattle.fz_builtins.proofs.of_meaning.Powers
 pub use Rattle.fz_builtins.proofs.of_meaning.Places
 pub use Rattle.fz_builtins.proofs.of_meaning.NamedKinds
 pub use Rattle.fz_builtins.proofs.of_meaning.Writing

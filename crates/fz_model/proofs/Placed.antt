@@ -10,7 +10,7 @@ use Rattle.fz_builtins.specs.of_meaning.Results.{result_of}
 use Rattle.fz_builtins.specs.of_meaning.Builtins.Shape.{ScalarOf, ArrayOf}
 use Rattle.fz_builtins.specs.of_meaning.Meaning as meaning
 use Rattle.fz_builtins.specs.of_meaning.Meaning.{Model, Partial, Posted, IsPartial, argument_values, give, value_at, has_shape, have_shapes, is_term_of, row_holds, row_of, terms_in}
-use Rattle.fz_builtins.specs.of_meaning.States.{sums_leave}
+use Rattle.fz_builtins.specs.of_meaning.States.{is_beyond}
 use Rattle.fz_builtins.specs.of_meaning.Meaning.Point.{ConstraintPoint}
 use Rattle.fz_builtins.specs.of_meaning.Steps.{Gives, IsResult, kind_at}
 use Rattle.fz_builtins.proofs.of_meaning.Values.{no, and_first, and_second}
@@ -67,7 +67,7 @@ module _ (m : Model) (K : Partial) (fits : IsPartial m K) (k : ℕ) (p : Posted)
   fills : (w : Value) → Gives m K (ConstraintPoint k p) n w → Fills K p.arguments r n w
   fills w g = record {
     only_open = g.only_open;
-    sums_fit = subst (λ o. IfSome o (λ q. IsFalse (sums_leave K p.arguments q))) row g.sums_fit;
+    numbers_fit = subst (λ o. IfSome o (λ q. IsFalse (is_beyond K p.arguments q))) row g.numbers_fit;
     result = subst (λ o. IsSomeAnd o (λ q. IsResult K p.arguments n (result_of q))) row g.target.1;
     within_limits = g.within_limits;
     holds = subst (λ o. IsSomeAnd o (λ q. IsSomeAnd (argument_values (give K n w) p.arguments) (λ vs. IsTrue (row_holds q vs)))) row g.then_holds;
@@ -80,7 +80,7 @@ module _ (m : Model) (K : Partial) (fits : IsPartial m K) (k : ℕ) (p : Posted)
     only_open = f.only_open;
     of_kind = kind;
     within_limits = f.within_limits;
-    sums_fit = subst (λ o. IfSome o (λ q. IsFalse (sums_leave K p.arguments q))) (sym row) f.sums_fit;
+    numbers_fit = subst (λ o. IfSome o (λ q. IsFalse (is_beyond K p.arguments q))) (sym row) f.numbers_fit;
     then_holds = intro (λ q. IsSomeAnd (argument_values (give K n w) p.arguments) (λ vs. IsTrue (row_holds q vs))) (row_of p) r row f.holds;
   }
 

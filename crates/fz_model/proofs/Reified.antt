@@ -1,5 +1,7 @@
 -- The Boolean that a reified form leaves: whether the base row holds.
-use Rattle.std.proofs.Common.{◌≡◌, ℕ, suc, Bool, true, false, List, [], ◌∷◌, ◌++◌, length, Some, refl, sym, ap, subst, ◌∙◌, slice_get, slice_set}
+use Rattle.std.proofs.Common.{◌≡◌, ℕ, suc, Bool, true, false, cond, List, [], ◌∷◌, ◌++◌, length, Some, refl, sym, ap, subst, ◌∙◌, slice_get, slice_set}
+use Rattle.std.specs.Prelude.{⊤}
+use Rattle.std.specs.List.{list_any}
 use Rattle.fz_base.specs.declared.value.Value.{Value}
 use Rattle.fz_base.specs.declared.value.Value.TheVariants.{Bool as Truth}
 use Rattle.fz_builtins.specs.of_meaning.declared.kind.Kind.TheVariants.{Bool as BoolKind}
@@ -15,13 +17,14 @@ use Rattle.fz_builtins.specs.of_meaning.declared.known.Form.TheVariants.{Reified
 use Rattle.fz_builtins.specs.of_meaning.declared.known.Known.{Known}
 use Rattle.fz_builtins.proofs.of_meaning.TableRows.{reified_holds}
 use Rattle.fz_builtins.proofs.of_meaning.WithTruth.{reified_result}
-use Rattle.fz_builtins.specs.of_kernel.Given.{given, given_from, given_values}
-use Rattle.fz_builtins.specs.Outcomes.{row_outcome, sum_outcome}
+use Rattle.fz_builtins.specs.of_kernel.Given.{given, given_from, given_values, read_unknown}
+use Rattle.fz_builtins.specs.Outcomes.{outcome_beyond, reads_beyond, row_outcome}
 use Rattle.fz_builtins.proofs.FormOutcomes.{all_read}
 use Rattle.fz_builtins.proofs.Rows.{outcome_is}
-use Rattle.fz_builtins.specs.declared.outcome.Outcome.TheVariants.{Truth as TruthOutcome, TooLarge}
-use Rattle.fz_model.specs.Left.{IsLeftAt, IsPlaceOf, holds_with, is_too_large}
-use Rattle.fz_model.proofs.Lefts.{only_place}
+use Rattle.fz_builtins.specs.declared.outcome.Outcome.TheVariants.{Truth as TruthOutcome, TooLarge, Unknown}
+use Rattle.fz_builtins.specs.declared.outcome.Outcome.{Outcome}
+use Rattle.fz_builtins.proofs.of_meaning.Powers.{only_place}
+use Rattle.fz_model.specs.Left.{IsLeftAt, IsPlaceOf, holds_with}
 
 module _ (K : Partial) (xs : List Argument) where
   with_truth : (ss : List Shape) (j : ℕ) (v : Value) → slice_set (given_from K xs j (with_bool ss))
@@ -48,22 +51,32 @@ module _ (K : Partial) (xs : List Argument) where
 
 -- ---- the outcome of a row
 
-told : (leaves holds t : Bool) → sum_outcome leaves holds ≡ TruthOutcome t
+told : (leaves unknown holds t : Bool)
+    → cond leaves (cond unknown Unknown TooLarge) (TruthOutcome holds) ≡ TruthOutcome t
     → (leaves ≡ false) × (t ≡ holds)
-told true holds t e = cc
-told false holds t e = (refl, let same : holds ≡ t = cc in sym same)
+told true true holds t e = cc
+told true false holds t e = cc
+told false unknown holds t e = (refl, let same : holds ≡ t = cc in sym same)
 
-large : (leaves holds : Bool) → sum_outcome leaves holds ≡ TooLarge → leaves ≡ true
-large true holds e = refl
-large false holds e = cc
+abbrev pub IsTold : Outcome → Type 0
+IsTold (TruthOutcome t) = ⊤
+IsTold TooLarge = ⊥
+IsTold Unknown = ⊥
+
+beyond : (leaves : Bool) (o : Outcome) (holds : Bool) (p : Outcome)
+    → cond leaves o (TruthOutcome holds) ≡ p → (IsTold p → ⊥) → leaves ≡ true
+beyond true o holds p e not_told = refl
+beyond false o holds p e not_told = absurd (not_told (subst IsTold e tt))
 
 module _ (r : Row) (K : Partial) (xs : List Argument) where
   pub told_truth : (t : Bool) → row_outcome r K xs ≡ TruthOutcome t
-      → (is_too_large r K xs ≡ false) × (t ≡ row_holds r (given_values K r.shapes xs))
-  told_truth t e = told (is_too_large r K xs) (row_holds r (given_values K r.shapes xs)) t (sym (outcome_is r K xs) ∙ e)
+      → (reads_beyond r K xs ≡ false) × (t ≡ row_holds r (given_values K r.shapes xs))
+  told_truth t e = told (reads_beyond r K xs) (list_any (read_unknown K xs) r.wide) (row_holds r (given_values K r.shapes xs)) t (sym (outcome_is r K xs) ∙ e)
 
-  pub told_large : row_outcome r K xs ≡ TooLarge → is_too_large r K xs ≡ true
-  told_large e = large (is_too_large r K xs) (row_holds r (given_values K r.shapes xs)) (sym (outcome_is r K xs) ∙ e)
+  -- an outcome that doesn't tell whether the row holds
+  pub told_nothing : (o : Outcome) → row_outcome r K xs ≡ o → (IsTold o → ⊥)
+      → reads_beyond r K xs ≡ true
+  told_nothing o e not_told = beyond (reads_beyond r K xs) (outcome_beyond r K xs) (row_holds r (given_values K r.shapes xs)) o (sym (outcome_is r K xs) ∙ e) not_told
 
 -- ---- a known row that is a reified form
 

@@ -65,7 +65,7 @@ module _ (m : Model) (K : Partial) (fits : IsPartial m K) where
     only_open = ap (λ o. cond (is_none o) (Var n ∷ []) []) none;
     of_kind = own ∙ ap Some int;
     within_limits = range;
-    sums_fit = tt;
+    numbers_fit = tt;
     then_holds = intro (λ v. IsTrue (inside x.domain v)) (value_at (give K n (Int k)) n) (Int k) (value_at_new K n (Int k) (has_place m K n x.kind fits own)) ((only k).1 refl);
   }
 
@@ -84,7 +84,7 @@ module _ (m : Model) (K : Partial) (fits : IsPartial m K) where
           only_open = only;
           of_kind = fit.2;
           within_limits = fit.1;
-          sums_fit = tt;
+          numbers_fit = tt;
           then_holds = intro (λ v. IsSomeAnd (value (give K y w) e) (λ u. v ≡ u)) (value_at (give K y w) n) w both.0 inner;
         })
     side_forced None fit = nothing

@@ -1,4 +1,4 @@
--- What the rows of the table have in common: which rows add sums up, and which one fills an element.
+-- What the rows of the table have in common: with what they compute, and which one fills an element.
 use Rattle.std.proofs.Common.{◌≡◌, Bool, true, false, cond, ◌&&◌, List, [], ◌∷◌, find, Some, refl, sym, subst}
 use Rattle.std.specs.List.{list_all}
 use Rattle.fz_builtins.specs.of_meaning.declared.kind.Kind.TheVariants.{Int as IntKind}
@@ -7,7 +7,7 @@ use Rattle.fz_builtins.specs.of_meaning.Results.{result_of}
 use Rattle.fz_builtins.specs.of_meaning.Builtins.Shape.{ScalarOf, ArrayOf}
 use Rattle.fz_builtins.specs.of_meaning.Results.Result.{UnitTerm}
 use Rattle.fz_builtins.specs.of_meaning.Meaning.{Argument, Partial, fits, have_shapes}
-use Rattle.fz_builtins.specs.of_meaning.States.{sums_leave}
+use Rattle.fz_builtins.specs.of_meaning.States.{is_beyond}
 use Rattle.fz_builtins.proofs.of_meaning.Values.{and_first, and_second}
 use Rattle.fz_builtins.specs.of_meaning.declared.builtin.Builtin.{Builtin}
 use Rattle.fz_builtins.specs.of_meaning.declared.builtin.Builtin.TheVariants.{IntLinEq}
@@ -15,8 +15,9 @@ use Rattle.fz_builtins.specs.of_meaning.declared.known.Known.{Known}
 use Rattle.fz_builtins.specs.of_meaning.Known.{form_at, known_row}
 use Rattle.fz_builtins.specs.of_meaning.declared.known.Form.{Form}
 use Rattle.fz_builtins.specs.of_meaning.declared.known.Form.TheVariants.{Base, Reified, Implied}
-use Rattle.fz_builtins.proofs.of_kernel.Sums.{are_ints, sums_leave_are}
-use Rattle.fz_model.specs.Left.{is_too_large}
+use Rattle.fz_builtins.proofs.of_kernel.Sums.{are_ints, leave_are}
+use Rattle.fz_builtins.specs.of_meaning.declared.row.Wide.TheVariants.{Products}
+use Rattle.fz_builtins.specs.Outcomes.{reads_beyond}
 use Rattle.fz_model.specs.Forced.{IsRow}
 
 -- what is asked of each row holds of the one that is found
@@ -32,16 +33,16 @@ found_all q t (y ∷ ys) x h e =
 of_row : (q : Row → Bool) → list_all q rows ≡ true → (r : Row) → IsRow r → q r ≡ true
 of_row q h r (p, e) = found_all q (λ r. is_named p.name r && fits r p.arguments) rows r h e
 
--- ---- a row adds products of arrays of numbers
+-- ---- a row computes with numbers
 
-all_sum_ints : list_all (λ r. list_all (are_ints r.shapes) r.sums) rows ≡ true
+all_ints : list_all (λ r. list_all (are_ints r.shapes) r.wide) rows ≡ true
 unfolding rows row_at builtins
-all_sum_ints = refl
+all_ints = refl
 
--- what leaves 128 bits, as it is read and as it is defined
-pub same_sums : (K : Partial) (xs : List Argument) (r : Row) → IsRow r
-    → have_shapes r.shapes xs ≡ true → is_too_large r K xs ≡ sums_leave K xs r
-same_sums K xs r row h = sym (sums_leave_are K r.shapes xs r.sums (of_row (λ r. list_all (are_ints r.shapes) r.sums) all_sum_ints r row) h)
+-- what can't be computed, as it is read and as it is defined
+pub same_numbers : (K : Partial) (xs : List Argument) (r : Row) → IsRow r
+    → have_shapes r.shapes xs ≡ true → reads_beyond r K xs ≡ is_beyond K xs r
+same_numbers K xs r row h = sym (leave_are K r.shapes xs h r.wide (of_row (λ r. list_all (are_ints r.shapes) r.wide) all_ints r row))
 
 -- ---- the row that fills an element
 
@@ -65,6 +66,6 @@ pub unit_shapes : (row_at IntLinEq).shapes
 unfolding row_at
 unit_shapes = refl
 
-pub unit_sums : (row_at IntLinEq).sums ≡ (0, 1) ∷ []
+pub unit_wide : (row_at IntLinEq).wide ≡ Products 0 1 ∷ []
 unfolding row_at
-unit_sums = refl
+unit_wide = refl

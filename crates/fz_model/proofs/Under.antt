@@ -1,10 +1,10 @@
 -- Where one partial assignment has each value of another; and a point that fails at some values fails
 -- under each assignment that has them.
-use Rattle.std.proofs.Common.{◌≡◌, ℕ, zero, suc, Bool, true, false, not, ◌||◌, cond, List, [], ◌∷◌, Option, Some, None, refl, sym, ap, subst, ◌∙◌, option_map, slice_get, IsTrue, ◌⊎◌, inl, inr, IsSomeAnd}
+use Rattle.std.proofs.Common.{◌≡◌, ℕ, zero, suc, Bool, true, false, not, ◌||◌, cond, List, [], ◌∷◌, Option, Some, None, refl, sym, ap, subst, ◌∙◌, option_and_then, option_map, slice_get, IsTrue, ◌⊎◌, inl, inr, IsSomeAnd}
 use Rattle.std.specs.List.{AllByRecursion, list_any}
 use Rattle.std.specs.Option.{option_map_or}
 use Rattle.fz_base.specs.declared.value.Value.{Value}
-use Rattle.fz_builtins.specs.of_meaning.declared.state.State.TheVariants.{Fails}
+use Rattle.fz_builtins.specs.of_meaning.declared.state.State.TheVariants.{Fails, Unknown}
 use Rattle.fz_builtins.specs.of_meaning.declared.term.Term.{Term}
 use Rattle.fz_builtins.specs.of_meaning.declared.term.Term.TheVariants.{Var, Fixed}
 use Rattle.fz_builtins.specs.of_meaning.declared.term.Domain.{Domain}
@@ -17,6 +17,7 @@ use Rattle.fz_builtins.specs.of_meaning.Meaning.Place.{Scalar, Array}
 use Rattle.fz_builtins.specs.of_meaning.Meaning.Argument.{One, ListOf}
 use Rattle.fz_builtins.specs.of_meaning.Meaning.Point.{DomainPoint, DefinitionPoint, ArrayPoint, ConstraintPoint}
 use Rattle.fz_builtins.specs.of_meaning.States.{HoldsIfKnown, both, is_outside, judged_by, state, state_of_row}
+use Rattle.fz_builtins.proofs.of_meaning.Powers.{fails_computed, none_unknown, same_unknown, unknown_by}
 use Rattle.fz_builtins.proofs.of_meaning.States.{both_some, judged_fails, row_state_fails}
 use Rattle.fz_builtins.proofs.of_meaning.Steps.{map_some, option_cons_parts, some_of}
 use Rattle.fz_builtins.proofs.of_meaning.Values.{no, no', value_itself}
@@ -62,6 +63,19 @@ module _ (K L : Partial) (under : HasEach K L) where
       let (a, bs, is, are, cons) = option_cons_parts (argument_value K x) (argument_values K xs) as' e in
       (λ i. option_cons (argument_under x a is i) (arguments_under xs bs are i)) ∙ ap Some (sym cons)
 
+  -- the argument at an index, where all have values
+  pub argument_at_under : (xs : List Argument) (as' : List ArgValue)
+      → argument_values K xs ≡ Some as' → (j : ℕ)
+      → option_and_then (argument_value K) (slice_get xs j)
+      ≡ option_and_then (argument_value L) (slice_get xs j)
+  argument_at_under [] as' e j = refl
+  argument_at_under (x ∷ xs) as' e zero =
+      let (a, bs, is, are, cons) = option_cons_parts (argument_value K x) (argument_values K xs) as' e in
+      is ∙ sym (argument_under x a is)
+  argument_at_under (x ∷ xs) as' e (suc j) =
+      let (a, bs, is, are, cons) = option_cons_parts (argument_value K x) (argument_values K xs) as' e in
+      argument_at_under xs bs are j
+
 -- ---- no point fails
 
 pub some_same : {A : Type 0} (o : Option A) (a b : A) → o ≡ Some a → o ≡ Some b → a ≡ b
@@ -104,13 +118,17 @@ never_fails A F (ArrayPoint name d ts) under h s =
     let (vs, are, each) = some_of (λ vs. AllByRecursion (λ v. IsTrue (inside d v)) vs) (values (whole A) ts) h in
     outside_not F (whole A) under d ts vs are each (array_not_fails (list_any (is_outside F d) ts) (values F ts) s)
 never_fails A F (ConstraintPoint k p) under h s =
-    (elim (row_of p) as (λ o. (o ≡ None) ⊎ IsSomeAnd o (λ r. IsSomeAnd (argument_values (whole A) p.arguments) (λ vs. IsTrue (row_holds r vs))) → state_of_row F p.arguments o ≡ Fails → ⊥) [
+    (elim (row_of p) as (λ o. (state_of_row (whole A) p.arguments o ≡ Unknown) ⊎ IsSomeAnd o (λ r. IsSomeAnd (argument_values (whole A) p.arguments) (λ vs. IsTrue (row_holds r vs))) → state_of_row F p.arguments o ≡ Fails → ⊥) [
       | None ↦ λ _ s. cc
-      | Some r ↦ λ h s. elim h [
-        | inl e ↦ cc
-        | inr h ↦
-            let (vs, are, fail) = row_state_fails F p.arguments r (argument_values F p.arguments) s in
-            let pass : row_holds r vs ≡ true = some_and (λ vs. IsTrue (row_holds r vs)) (argument_values (whole A) p.arguments) vs h (arguments_under F (whole A) under p.arguments vs are) in
-            no' (sym pass ∙ fail)
-      ]
+      | Some r ↦ λ h s.
+          let (vs, are, fail) = row_state_fails F p.arguments r (argument_values F p.arguments) s in
+          elim h [
+            | inl unknown ↦
+                let fit = fails_computed F p.arguments r (argument_values F p.arguments) s in
+                let same = same_unknown F (whole A) p.arguments r.wide (argument_at_under F (whole A) under p.arguments vs are) in
+                no' (sym (unknown_by (whole A) p.arguments r unknown) ∙ sym same ∙ none_unknown F p.arguments r fit)
+            | inr h ↦
+                let pass : row_holds r vs ≡ true = some_and (λ vs. IsTrue (row_holds r vs)) (argument_values (whole A) p.arguments) vs h (arguments_under F (whole A) under p.arguments vs are) in
+                no' (sym pass ∙ fail)
+          ]
     ]) h s

@@ -14,14 +14,16 @@ use Rattle.fz_builtins.specs.of_meaning.Builtins.Shape.{ScalarOf, ArrayOf}
 use Rattle.fz_builtins.specs.of_meaning.Builtins.ArgValue.{ManyValues}
 use Rattle.fz_builtins.specs.of_meaning.Results.Result.{UnitTerm}
 use Rattle.fz_builtins.specs.of_meaning.Meaning.{Argument, Partial, value, value_at, give, row_holds, terms_in}
-use Rattle.fz_builtins.specs.of_meaning.States.{sums_leave, terms_at_argument}
+use Rattle.fz_builtins.specs.of_meaning.States.{is_beyond, terms_at_argument}
 use Rattle.fz_builtins.specs.of_meaning.Steps.{IsResult, open_terms}
 use Rattle.fz_builtins.proofs.of_meaning.States.{intro}
 use Rattle.fz_builtins.proofs.of_meaning.Steps.{is_open, term_keeps, some_of, as_number_of}
 use Rattle.fz_builtins.specs.of_meaning.declared.builtin.Builtin.TheVariants.{IntLinEq}
-use Rattle.fz_builtins.specs.of_kernel.Given.{slots_at, int_in, ints_of, ints_at, given, given_values, read_leave}
+use Rattle.fz_builtins.specs.of_kernel.Given.{slots_at, int_in, ints_of, ints_at, given, given_values, read_leaves}
 use Rattle.fz_builtins.proofs.of_kernel.Sums.{slots_terms}
-use Rattle.fz_model.specs.Left.{HasUnit, IsLeft, IsReadAsNone, IsUnit, holds_with_element, is_too_large, products_leave}
+use Rattle.fz_model.specs.Left.{HasUnit, IsLeft, IsReadAsNone, IsUnit, holds_with_element, products_leave}
+use Rattle.fz_builtins.specs.of_meaning.declared.row.Wide.TheVariants.{Products}
+use Rattle.fz_builtins.specs.Outcomes.{reads_beyond}
 use Rattle.fz_model.specs.declared.only.Spot.{Spot}
 use Rattle.fz_model.specs.Forced.{IsOnlyValue, IsReady}
 use Rattle.fz_model.proofs.Fits.{changes, new_value, open_first, open_behind, values_stay}
@@ -137,15 +139,15 @@ module _ (K : Partial) (xs : List Argument) (r : Row) (s : Spot) (h : IsReady K 
         (changes K s.variable (none K xs r s h) within w r.shapes xs 1 s.place (ArrayOf IntKind) h.shaped h.only_open stands_second (ap (λ ss. slice_get ss 1) shapes)
         ∙ ap (slice_set (given_values K r.shapes xs) 1) (given_element within w is))
 
-    pub element_left : r ≡ row_at IntLinEq → result_of r ≡ UnitTerm → r.sums ≡ (0, 1) ∷ []
-        → is_too_large r K xs ≡ sums_leave K xs r → HasUnit K xs s.place → (o : Option ℤ)
+    pub element_left : r ≡ row_at IntLinEq → result_of r ≡ UnitTerm → r.wide ≡ Products 0 1 ∷ []
+        → reads_beyond r K xs ≡ is_beyond K xs r → HasUnit K xs s.place → (o : Option ℤ)
         → (products_leave K xs ≡ false → IsLeft IntKind (holds_with_element (row_at IntLinEq) K xs s.place) (option_map Int o)) → (products_leave K xs ≡ true → o ≡ None)
         → IsOnlyValue K xs r s.variable (option_map Int o)
     element_left row result sums same unit o left too =
         elim (products_leave K xs) as (λ b. products_leave K xs ≡ b → IsOnlyValue K xs r s.variable (option_map Int o)) [
-          | true ↦ λ e. too_large K xs r s h (option_map Int o) (sym same ∙ ap (list_any (read_leave K xs)) sums ∙ ap (λ b. b || false) e) (ap (option_map Int) (too e))
+          | true ↦ λ e. too_large K xs r s h (option_map Int o) (sym same ∙ ap (list_any (read_leaves K xs)) sums ∙ ap (λ b. b || false) e) (ap (option_map Int) (too e))
           | false ↦ λ e.
               is_left K xs r s h (ArrayOf IntKind) (ap (slice_get r.shapes) second ∙ ap (λ ss. slice_get ss 1) shapes) (holds_with_element r K xs s.place) element_test
-              (subst (IsResult K xs s.variable) (sym result) (fills_element unit)) (sym same ∙ ap (list_any (read_leave K xs)) sums ∙ ap (λ b. b || false) e) (option_map Int o)
+              (subst (IsResult K xs s.variable) (sym result) (fills_element unit)) (sym same ∙ ap (list_any (read_leaves K xs)) sums ∙ ap (λ b. b || false) e) (option_map Int o)
               (subst (λ q. IsLeft IntKind (holds_with_element q K xs s.place) (option_map Int o)) (sym row) (left e))
         ] refl

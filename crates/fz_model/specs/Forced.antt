@@ -8,7 +8,7 @@ use Rattle.fz_builtins.specs.of_meaning.Builtins.{Row}
 use Rattle.fz_builtins.specs.of_meaning.Results.{result_of}
 use Rattle.fz_builtins.specs.of_meaning.declared.term.Term.TheVariants.{Var}
 use Rattle.fz_builtins.specs.of_meaning.Meaning.{Argument, Model, Point, Partial, Posted, admits, argument_values, give, have_shapes, row_holds, row_of, terms_in}
-use Rattle.fz_builtins.specs.of_meaning.States.{sums_leave, terms_at_argument}
+use Rattle.fz_builtins.specs.of_meaning.States.{is_beyond, terms_at_argument}
 use Rattle.fz_builtins.specs.of_meaning.Steps.{Gives, GivesNothing, HasOneNumber, IsResult, WithinLimits, kind_at, open_terms}
 use Rattle.fz_model.specs.Aimed.{GivesAny, GivesNone}
 use Rattle.fz_model.specs.declared.only.Spot.{Spot}
@@ -41,11 +41,11 @@ abbrev pub IsRow : Row → Type 0
 IsRow r = (p : Posted) × (row_of p ≡ Some r)
 
 -- With this value of the variable the row holds: the variable is in an argument that may be filled
--- and is the only open scalar, no sum that is needed leaves 128 bits, and the value is within the
+-- and is the only open scalar, each number that is needed can be computed, and the value is within the
 -- limits.
 pub record Fills (K : Partial) (xs : List Argument) (r : Row) (n : ℕ) (v : Value) : Type 0 where
   pub only_open : open_terms K (flat_map terms_in xs) ≡ Var n ∷ []
-  pub sums_fit : sums_leave K xs r ≡ false
+  pub numbers_fit : is_beyond K xs r ≡ false
   pub result : IsResult K xs n (result_of r)
   pub within_limits : WithinLimits v
   pub holds : IsSomeAnd (argument_values (give K n v) xs) (λ vs. IsTrue (row_holds r vs))

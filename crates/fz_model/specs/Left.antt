@@ -1,8 +1,7 @@
 -- What is left to a result: the value, of its kind and within the limits, with which the row holds
 -- (this project's profile).
-use Rattle.std.specs.Prelude.{◌≡◌, ℕ, ℤ, pos, negsuc, Bool, List, Option, Some, None, IsTrue, FitsSigned, map, slice_get, slice_set, Contains, IsSomeAnd, ◌⊎◌}
+use Rattle.std.specs.Prelude.{◌≡◌, ℕ, ℤ, pos, negsuc, Bool, true, false, List, Option, Some, None, IsTrue, FitsSigned, map, slice_get, slice_set, Contains, IsSomeAnd, ◌⊎◌}
 use Rattle.std.specs.Int.{w64}
-use Rattle.std.specs.List.{list_any}
 use Rattle.fz_base.specs.declared.value.Value.{Value}
 use Rattle.fz_base.specs.declared.value.Value.TheVariants.{Int}
 use Rattle.fz_builtins.specs.of_meaning.declared.kind.Kind.{Kind}
@@ -13,7 +12,9 @@ use Rattle.fz_builtins.specs.of_meaning.Builtins.Shape.{ScalarOf}
 use Rattle.fz_builtins.specs.of_meaning.Builtins.ArgValue.{OneValue, ManyValues}
 use Rattle.fz_builtins.specs.of_meaning.Results.Result.{NoResult, Places, UnitTerm}
 use Rattle.fz_builtins.specs.of_meaning.Meaning.{Argument, Partial, row_holds}
-use Rattle.fz_builtins.specs.of_kernel.Given.{given_values, ints_at, read_leave}
+use Rattle.fz_builtins.specs.of_kernel.Given.{given_values, ints_at, read_leaves}
+use Rattle.fz_builtins.specs.of_meaning.declared.row.Wide.TheVariants.{Products}
+use Rattle.fz_builtins.specs.Outcomes.{reads_beyond}
 use Rattle.fz_builtins.specs.of_meaning.Steps.{WithinLimits}
 
 -- a coefficient with which one element of a sum is determined
@@ -52,14 +53,15 @@ pub record IsLeftAt (r : Row) (K : Partial) (xs : List Argument) (i : ℕ) (o : 
   pub shape : IsOfKind r.shapes i kind
   pub left : IsLeft kind (holds_with r K xs i) o
 
+-- the same where each number of the row can be computed, and else nothing
+pub record IsLeftIfComputed (r : Row) (K : Partial) (xs : List Argument) (i : ℕ) (o : Option Value) : Type 0 where
+  pub left : reads_beyond r K xs ≡ false → IsLeftAt r K xs i o
+  pub beyond : reads_beyond r K xs ≡ true → o ≡ None
+
 -- A partial sum of the products of the first two arguments leaves 128 bits. An element without a
 -- value is read as 0, so it adds nothing.
 abbrev pub products_leave : Partial → List Argument → Bool
-products_leave K xs = read_leave K xs (0, 1)
-
--- a sum of the row that is added in 128 bits leaves them
-abbrev pub is_too_large : Row → Partial → List Argument → Bool
-is_too_large r K xs = list_any (read_leave K xs) r.sums
+products_leave K xs = read_leaves K xs (Products 0 1)
 
 -- element i of the first argument is 1 or -1
 abbrev pub HasUnit : Partial → List Argument → ℕ → Type 0

@@ -1,23 +1,24 @@
 //! Constraints.
 
-ghost use Rattle.std.specs.Prelude.{◌≡◌, IfOk, Some, true, map, option_map};
+ghost use Rattle.std.specs.Prelude.{◌≡◌, IfOk, Some, true, false, cond, map, option_map};
 ghost use Rattle.std.specs.List.{list_any};
 ghost use Rattle.fz_builtins.specs.of_meaning.Meaning.{have_shapes, row_of};
 ghost use Rattle.fz_builtins.specs.of_meaning.States.{state_of_row};
 ghost use Rattle.fz_builtins.specs.of_meaning.Known.{known_row};
 ghost use Rattle.fz_builtins.specs.of_data.Parts.{constraint_view};
-ghost use Rattle.fz_builtins.specs.of_kernel.Given.{are_read, read_leave};
+ghost use Rattle.fz_builtins.specs.of_kernel.Given.{are_read, read_unknown};
 ghost use Rattle.fz_builtins.specs.of_kernel.Views.{arguments_of, assigned};
-ghost use Rattle.fz_builtins.specs.Outcomes.{row_outcome};
+ghost use Rattle.fz_builtins.specs.Outcomes.{outcome_beyond, reads_beyond, row_outcome, told};
+ghost use Rattle.fz_builtins.specs.declared.outcome.Outcome.TheVariants.{Truth};
 
 use fz_builtins::fz_data::{ConstraintParts, Partial};
 use fz_builtins::fz_kernel::{ArgumentView, Readiness};
 use fz_builtins::fz_meaning::{Form, Known, State};
-use fz_builtins::{Outcome, control, of_builtin, products_leave};
+use fz_builtins::{Outcome, control, is_unknown, leaves, of_builtin};
 use std::alloc::{AllocError, Global};
 
 /// The state of a constraint: unknown without a row, whatever its values are; then without a value;
-/// then too large; then by its row.
+/// then unknown or too large where a number can't be computed; then by its row.
 #[inline(always)]
 pub(crate) fn of_constraint(
     alloc: Global,
@@ -42,11 +43,7 @@ fn of_view(alloc: Global, known: Known, view: &ArgumentView<'_, '_>) -> Result<S
 {
     match view.readiness(known.shapes()) {
         Readiness::Missing => Ok(State::NoValue),
-        Readiness::WrongKind => Ok(if is_too_large(known, view) {
-            State::TooLarge
-        } else {
-            State::Fails
-        }),
+        Readiness::WrongKind => Ok(of_wrong_kind(known, view)),
         Readiness::Ready => of_ready(alloc, known, view),
     }
 }
@@ -67,14 +64,37 @@ pub(crate) fn of_ready(
     Ok(of_known(alloc, known, view)?.told())
 }
 
-fn is_too_large(known: Known, view: &ArgumentView<'_, '_>) -> bool
-    ensures { result ≡ list_any (read_leave (assigned view.now) (arguments_of view.now))
-        (known_row known).sums }
+// The state of a constraint with a value of another kind than its row asks for.
+fn of_wrong_kind(known: Known, view: &ArgumentView<'_, '_>) -> State
+    ensures { result ≡ told (cond
+        (reads_beyond (known_row known) (assigned view.now) (arguments_of view.now))
+        (outcome_beyond (known_row known) (assigned view.now) (arguments_of view.now))
+        (Truth false)) }
 {
-    known
-        .sums()
-        .iter()
-        .any(|places| products_leave(view, places.0, places.1))
+    if is_beyond(known, view) {
+        if is_not_known(known, view) {
+            State::Unknown
+        } else {
+            State::TooLarge
+        }
+    } else {
+        State::Fails
+    }
+}
+
+// Whether a number of the row can't be computed.
+fn is_beyond(known: Known, view: &ArgumentView<'_, '_>) -> bool
+    ensures { result ≡ reads_beyond (known_row known) (assigned view.now) (arguments_of view.now) }
+{
+    known.wide().iter().any(|number| leaves(view, *number))
+}
+
+// Whether a power of the row isn't known.
+fn is_not_known(known: Known, view: &ArgumentView<'_, '_>) -> bool
+    ensures { result ≡ list_any (read_unknown (assigned view.now) (arguments_of view.now))
+        (known_row known).wide }
+{
+    known.wide().iter().any(|number| is_unknown(view, *number))
 }
 
 // The row's outcome: of a reified form, what it says of the outcome of the base row.

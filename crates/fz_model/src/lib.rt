@@ -38,8 +38,8 @@ pub use fz_builtins::fz_data::{
     kind_of, literal_kind, literal_value, load, load_text, part, same_kind, scalar_at,
 };
 pub use fz_builtins::fz_meaning::{
-    Builtin, Domain, Filled, Form, Kind, Known, ModelError, Shape, State, Term, located_is_bare,
-    numbers_agree, steps_are_forced, unknown_is_not_known,
+    Builtin, Domain, Filled, Form, Kind, Known, ModelError, Shape, State, Term, Wide,
+    located_is_bare, numbers_agree, steps_are_forced, unknown_is_not_known,
 };
 pub use holding::{all_hold, is_held};
 pub use only::{Opening, Spot, opening_of};

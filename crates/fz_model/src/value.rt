@@ -1,13 +1,13 @@
 //! The value that a row leaves, whatever its kind.
 
-ghost use Rattle.std.specs.Prelude.{◌≡◌, ℕ, List, length, nat_eq, None, IfOk, IsFalse, IsTrue, option_map};
+ghost use Rattle.std.specs.Prelude.{◌≡◌, ℕ, List, length, nat_eq, IfOk, option_map};
 ghost use Rattle.fz_builtins.specs.of_meaning.Builtins.{Row, reified, row_at};
 ghost use Rattle.fz_builtins.specs.of_meaning.Known.{known_row};
 ghost use Rattle.fz_builtins.specs.of_meaning.Meaning.{Argument, Partial};
 ghost use Rattle.fz_builtins.specs.of_meaning.Results.{result_of};
 ghost use Rattle.fz_builtins.specs.of_kernel.Views.{arguments_of, assigned};
 ghost use Rattle.fz_builtins.specs.Said.{IsSaid};
-ghost use Rattle.fz_model.specs.Left.{IsLeftAt, IsPlaceOf, is_too_large};
+ghost use Rattle.fz_model.specs.Left.{IsLeftIfComputed, IsPlaceOf};
 
 use crate::numbers::narrowed;
 use fz_base::{IntSet, SetError, Value};
@@ -17,8 +17,8 @@ use fz_builtins::{Outcome, Said, of_builtin, said_of};
 use std::alloc::{AllocError, Global};
 
 /// The value that a row leaves to the argument at an index that `defines_var` may name, by the
-/// values of the other arguments. None where a partial sum of the row leaves 128 bits. It refuses
-/// only where memory runs out.
+/// values of the other arguments. None where a number of the row can't be computed. It refuses only
+/// where memory runs out.
 pub(crate) fn left_value(
     alloc: Global,
     known: Known,
@@ -26,11 +26,8 @@ pub(crate) fn left_value(
     view: &ArgumentView<'_, '_>,
 ) -> Result<Option<Value>, AllocError>
     requires result { IsPlaceOf (result_of (known_row known)) place }
-    ensures left { IsFalse (is_too_large (known_row known) (assigned view.now)
-        (arguments_of view.now)) → IfOk result
-        (IsLeftAt (known_row known) (assigned view.now) (arguments_of view.now) place) }
-    ensures too_large { IsTrue (is_too_large (known_row known) (assigned view.now)
-        (arguments_of view.now)) → IfOk result (λ left. left ≡ None) }
+    ensures { IfOk result (IsLeftIfComputed (known_row known) (assigned view.now)
+        (arguments_of view.now) place) }
 {
     match known.form {
         Form::Base => left_base(alloc, known.builtin, place, view),
@@ -47,15 +44,12 @@ fn left_form(
     view: &ArgumentView<'_, '_>,
 ) -> Result<Option<Value>, AllocError>
     requires { place ≡ length (row_at builtin).shapes }
-    ensures left { IsFalse (is_too_large (row_at builtin) (assigned view.now)
-        (arguments_of view.now)) → IfOk result
-        (IsLeftAt (reified (row_at builtin)) (assigned view.now) (arguments_of view.now) place) }
-    ensures too_large { IsTrue (is_too_large (row_at builtin) (assigned view.now)
-        (arguments_of view.now)) → IfOk result (λ left. left ≡ None) }
+    ensures { IfOk result (IsLeftIfComputed (reified (row_at builtin)) (assigned view.now)
+        (arguments_of view.now) place) }
 {
     match of_builtin(alloc, builtin, view)? {
         Outcome::Truth(truth) => Ok(Some(Value::Bool(truth))),
-        Outcome::TooLarge => Ok(None),
+        Outcome::TooLarge | Outcome::Unknown => Ok(None),
     }
 }
 
@@ -68,10 +62,8 @@ fn left_base(
     view: &ArgumentView<'_, '_>,
 ) -> Result<Option<Value>, AllocError>
     requires { IsPlaceOf (result_of (row_at builtin)) place }
-    ensures left { IfOk result
-        (IsLeftAt (row_at builtin) (assigned view.now) (arguments_of view.now) place) }
-    ensures too_large { IsTrue (is_too_large (row_at builtin) (assigned view.now)
-        (arguments_of view.now)) → IfOk result (λ left. left ≡ None) }
+    ensures { IfOk result (IsLeftIfComputed (row_at builtin) (assigned view.now)
+        (arguments_of view.now) place) }
 {
     match said_of(alloc, builtin, place == 0, view) {
         Ok(said) => left_by(alloc, said),
@@ -82,7 +74,7 @@ fn left_base(
 // What a row leaves to its result that says this. It is no value for a number past 64 bits.
 fn left_by(alloc: Global, said: Said<'_>) -> Result<Option<Value>, AllocError>
     ensures { (r : Row) (K : Partial) (xs : List Argument) (i : ℕ) → IsPlaceOf (result_of r) i
-        → IsSaid r (nat_eq i 0) K xs said.entry → IfOk result (IsLeftAt r K xs i) }
+        → IsSaid r (nat_eq i 0) K xs said.entry → IfOk result (IsLeftIfComputed r K xs i) }
 {
     match said {
         Said::Whether(_) => Ok(None),

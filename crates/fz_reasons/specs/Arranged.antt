@@ -2,13 +2,13 @@
 -- kind of reason belongs to the rows that are listed with it; of another row it says nothing that
 -- can be so.
 use Rattle.std.specs.Prelude.{◌≡◌, pos, false, List, [], ◌∷◌, length}
-use Rattle.std.specs.List.{list_any}
 use Rattle.fz_builtins.specs.of_meaning.declared.builtin.Builtin.{Builtin}
 use Rattle.fz_builtins.specs.of_meaning.declared.builtin.Builtin.TheVariants as builtin
 use Rattle.fz_builtins.specs.of_meaning.Builtins.{row_at}
 use Rattle.fz_builtins.specs.of_meaning.Meaning.{Argument, Partial}
 use Rattle.fz_builtins.specs.of_meaning.Relations.{as_places, marks}
-use Rattle.fz_builtins.specs.of_kernel.Given.{int_at, ints_at, read_leave, set_at, sets_at}
+use Rattle.fz_builtins.specs.Outcomes.{reads_beyond}
+use Rattle.fz_builtins.specs.of_kernel.Given.{int_at, ints_at, set_at, sets_at}
 use Rattle.fz_reasons.specs.Loads.{HasOtherLoad, IsOtherRun, IsOtherTotal}
 use Rattle.fz_reasons.specs.Places.{IsNoIndex}
 use Rattle.fz_reasons.specs.Tours.{IsShortRing, LeavesOut}
@@ -44,7 +44,7 @@ HasLoad b K xs l = ⊥
 
 -- no sum of the row leaves 128 bits
 abbrev pub AddsUp : Builtin → Partial → List Argument → Type 0
-AddsUp b K xs = list_any (read_leave K xs) (row_at b).sums ≡ false
+AddsUp b K xs = reads_beyond (row_at b) K xs ≡ false
 
 abbrev pub HasWeight : Builtin → Partial → List Argument → Total → Type 0
 HasWeight builtin.FznKnapsack K xs t =

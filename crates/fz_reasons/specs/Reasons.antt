@@ -67,14 +67,14 @@ pub record Unlike (b : Builtin) (K : Partial) (xs : List Argument) (s : Sides) :
 -- the argument has the value, and the row holds just with the one that is wanted
 pub record HasOtherNumber (b : Builtin) (K : Partial) (xs : List Argument) (o : OtherNumber)
     : Type 0 where
-  pub result : HasResult (row_at b) false o.argument IntKind
+  pub result : HasResult (row_at b) false K xs o.argument IntKind
   pub value : int_at K xs o.argument ≡ o.value
   pub holds_with : (v : ℤ) → row_with (row_at b) K xs o.argument (Int v) ≡ is_result ◌=ℤ◌ o.wanted v
   pub other : is_result ◌=ℤ◌ o.wanted o.value ≡ false
 
 pub record HasOtherTruth (b : Builtin) (K : Partial) (xs : List Argument) (o : OtherTruth)
     : Type 0 where
-  pub result : HasResult (row_at b) false o.argument BoolKind
+  pub result : HasResult (row_at b) false K xs o.argument BoolKind
   pub value : bool_at K xs o.argument ≡ o.value
   pub holds_with : (v : Bool)
       → row_with (row_at b) K xs o.argument (Truth v) ≡ is_result ◌=ᴮ◌ o.wanted v

@@ -13,8 +13,8 @@ use crate::places::{lies_between, no_index};
 use crate::readings::number_count;
 use crate::rings::{ring_of_moved, short_ring};
 use fz_builtins::fz_kernel::ArgumentView;
-use fz_builtins::fz_meaning::Builtin;
-use fz_builtins::products_leave;
+use fz_builtins::fz_meaning::{Builtin, Wide};
+use fz_builtins::leaves;
 
 /// Why a row over a tour, bins with given loads, a knapsack or runs of neighbours fails. None of
 /// another row.
@@ -117,7 +117,7 @@ pub(crate) fn adds_up(view: &ArgumentView<'_, '_>) -> bool
     ensures { IsTrue result
         → AddsUp builtin.FznKnapsack (assigned view.now) (arguments_of view.now) }
 {
-    if products_leave(view, 0, 2) || products_leave(view, 1, 2) {
+    if leaves(view, Wide::Products(0, 2)) || leaves(view, Wide::Products(1, 2)) {
         return false;
     }
     true

@@ -102,7 +102,7 @@ pub fn holds(
 {
     match of_builtin(alloc, builtin, view)? {
         Outcome::Truth(holds) => Ok(holds),
-        Outcome::TooLarge => Ok(false),
+        Outcome::TooLarge | Outcome::Unknown => Ok(false),
     }
 }
 

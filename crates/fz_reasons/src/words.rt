@@ -305,6 +305,8 @@ fn term_text(
         Builtin::IntAbs => format!(in alloc; "|{a}| = "),
         Builtin::IntDiv => format!(in alloc; "{a} div {b} = "),
         Builtin::IntMod => format!(in alloc; "{a} mod {b} = "),
+        Builtin::IntPow if a < 0 => format!(in alloc; "({a})^{b} = "),
+        Builtin::IntPow => format!(in alloc; "{a}^{b} = "),
         Builtin::ArrayIntElement | Builtin::ArrayBoolElement => format!(in alloc; "element {a} = "),
         Builtin::ArrayIntMaximum => String::from_str(alloc, "the greatest element is "),
         Builtin::ArrayIntMinimum => String::from_str(alloc, "the least element is "),

@@ -1,4 +1,6 @@
-use Rattle.std.proofs.Common.{◌≡◌, rules}
+use Rattle.std.proofs.Common.{◌≡◌, rules, true, sym, ◌∙◌}
+use Rattle.fz_model.specs.declared.Builtin.TheVariants.{IntPow}
+use Rattle.fz_model.proofs.Values.{no}
 use Rattle.fz_bounds.specs.declared.limits.Limits.{Limits}
 use Rattle.fz_bounds.specs.declared.outlook.Outlook.TheVariants.{Never}
 use Rattle.fz_bounds.specs.Within.{AreKnown}
@@ -11,4 +13,5 @@ returns-then-are_known c = λ is_never.
     let s : Limits = record { parts = c.args.parts.now; lowest = c.lowest.result; highest = c.highest.result } in
     let at : AreKnown s (known_row c.in-Some.known).shapes = search rules in
     let never : c.form_foretold.result ≡ Never = search rules in
-    row_never s c.args.bounds.now c.args.parts.now.number c.args.parts.now.posted.now.known c.in-Some.known c.form_foretold.result c.lowest.ensures c.highest.ensures c.requires.known c.in-Some.is at c.form_foretold.ensures never
+    let other : c.in-Some.known.builtin ≡ IntPow → ⊥ = λ e. let same : c.eq.result ≡ true = rw e at c.eq.ensures in no (sym c.if-eq.false ∙ same) in
+    row_never s c.args.bounds.now c.args.parts.now.number c.args.parts.now.posted.now.known c.in-Some.known c.form_foretold.result c.lowest.ensures c.highest.ensures c.requires.known c.in-Some.is other at c.form_foretold.ensures never

@@ -7,7 +7,7 @@ use Rattle.fz_globals.specs.of_kernel.Views.{arguments_of, assigned}
 use Rattle.fz_builtins.specs.declared.outcome.Outcome.TheVariants.{Truth}
 use Rattle.fz_builtins.specs.Outcomes.{row_outcome}
 use Rattle.fz_builtins.specs.Said.{is_result}
-use Rattle.fz_builtins.proofs.Rows.{element_is, number_is, one_sum, said_at, same_bool_either_way, same_int_either_way, same_set_either_way, two_sums, value_is}
+use Rattle.fz_builtins.proofs.Rows.{element_is, none_told, number_is, one_sum, said_at, same_bool_either_way, same_int_either_way, same_set_either_way, two_sums, value_is}
 use Rattle.fz_builtins.proofs.builtins.said_of.Goals as goal
 
 pub returns-in-IntEq : goal.returns-in-IntEq
@@ -35,15 +35,15 @@ returns-in-IntGt c = rw c.in-IntGt.is (ap Truth (search rules), tt)
 
 pub returns-in-IntLinEq : goal.returns-in-IntLinEq
 unfolding row_outcome row_at result_of
-returns-in-IntLinEq c = rw c.in-IntLinEq.is (c.int_lin_eq.ensures ∙ one_sum _ _, tt)
+returns-in-IntLinEq c = rw c.in-IntLinEq.is (c.int_lin_eq.ensures ∙ one_sum _ _, none_told _ _ tt)
 
 pub returns-in-IntLinNe : goal.returns-in-IntLinNe
 unfolding row_outcome row_at result_of
-returns-in-IntLinNe c = rw c.in-IntLinNe.is (c.int_lin_ne.ensures ∙ one_sum _ _, tt)
+returns-in-IntLinNe c = rw c.in-IntLinNe.is (c.int_lin_ne.ensures ∙ one_sum _ _, none_told _ _ tt)
 
 pub returns-in-IntLinLe : goal.returns-in-IntLinLe
 unfolding row_outcome row_at result_of
-returns-in-IntLinLe c = rw c.in-IntLinLe.is (c.int_lin_le.ensures ∙ one_sum _ _, tt)
+returns-in-IntLinLe c = rw c.in-IntLinLe.is (c.int_lin_le.ensures ∙ one_sum _ _, none_told _ _ tt)
 
 pub returns-in-IntPlus : goal.returns-in-IntPlus
 unfolding result_of row_at
@@ -80,6 +80,9 @@ returns-in-IntDiv c = rw c.in-IntDiv.is ((refl, refl, refl), search rules)
 pub returns-in-IntMod : goal.returns-in-IntMod
 unfolding result_of row_at
 returns-in-IntMod c = rw c.in-IntMod.is ((refl, refl, refl), search rules)
+
+pub returns-in-IntPow : goal.returns-in-IntPow
+returns-in-IntPow c = rw c.in-IntPow.is c.int_pow.ensures
 
 pub returns-in-ArrayIntElement : goal.returns-in-ArrayIntElement
 unfolding result_of row_at
@@ -462,7 +465,7 @@ returns-in-GecodeMaximumArgBoolOffset c = rw c.in-GecodeMaximumArgBoolOffset.is 
 
 pub returns-in-FznKnapsack : goal.returns-in-FznKnapsack
 unfolding row_outcome row_at result_of
-returns-in-FznKnapsack c = rw c.in-FznKnapsack.is (c.knapsack.ensures ∙ two_sums _ _ _, tt)
+returns-in-FznKnapsack c = rw c.in-FznKnapsack.is (c.knapsack.ensures ∙ two_sums _ _ _, none_told _ _ tt)
 
 pub returns-in-FznSlidingSum : goal.returns-in-FznSlidingSum
 unfolding row_outcome row_at result_of

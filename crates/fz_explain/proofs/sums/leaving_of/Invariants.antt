@@ -3,5 +3,5 @@ use Rattle.fz_judge.specs.of_model.Parts.{constraint_view}
 use Rattle.fz_explain.specs.Leaving.{leaving_of}
 use Rattle.fz_explain.proofs.sums.leaving_of.Given as goal
 
-abbrev pub invariant-loop-first : goal.invariant-loop-first
-invariant-loop-first l = leaving_of l.filling (constraint_view l.parts).arguments l.sums ≡ leaving_of l.filling (constraint_view l.parts).arguments (drop l.first-index l.sums)
+abbrev pub invariant-loop-number : goal.invariant-loop-number
+invariant-loop-number l = leaving_of l.filling (constraint_view l.parts).arguments l.numbers ≡ leaving_of l.filling (constraint_view l.parts).arguments (drop l.number-index l.numbers)

@@ -4,5 +4,5 @@ use Rattle.fz_model.proofs.value.left_value.Goals as goal
 pub left_form-requires : goal.left_form-requires
 left_form-requires c = reified_place c.args.known c.args.place c.in-Reified.is c.requires.result
 
-pub returns-in-Implied-clause-left : goal.returns-in-Implied-clause-left
-returns-in-Implied-clause-left c = absurd (no_implied c.args.known c.args.place c.in-Implied.is c.requires.result)
+pub returns-in-Implied : goal.returns-in-Implied
+returns-in-Implied c = absurd (no_implied c.args.known c.args.place c.in-Implied.is c.requires.result)
