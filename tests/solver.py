@@ -297,6 +297,8 @@ def run_blocks(place, page, statuses):
 
 def main():
     program = os.path.abspath(sys.argv[1])
+    # What a shell starts with `&` ignores this signal, and so would the scripts here.
+    signal.signal(signal.SIGINT, signal.default_int_handler)
     with tempfile.TemporaryDirectory() as folder:
         place = Place(os.path.join(folder, "a place"), program)
         streams(place)
