@@ -15,16 +15,12 @@ import subprocess
 import sys
 import time
 
-ROOT = os.path.dirname(os.path.dirname(os.path.abspath(__file__)))
+from sources import PARTS, ROOT, sum_of_sources, text_of, toolchain
+
 ROOM = f"{ROOT}/build/prove"
 MEMORY = 5_000_000  # kilobytes for each crate at a time
 USAGE_STATUS = 5  # `rt run` runs the program, here on no words: this is what it answers
-PARTS = ("src", "specs", "proofs")
-
-
-def text_of(path):
-    with open(path, encoding="utf-8", errors="replace") as file:
-        return file.read()
+VERDICT = re.compile(r"^logic=proved ", re.M)
 
 
 def link(source, target):
@@ -58,6 +54,7 @@ class Crate:
                 link(f"{it.folder}/{part}", f"{self.tree}/crates/{it.name}/{part}")
         with open(f"{self.tree}/crates.txt", "w", encoding="utf-8") as file:
             file.writelines(f"{it.line}\n" for it in (*self.below, self))
+        self.sources = sum_of_sources(self.room)
         os.makedirs(f"{self.tree}/.git")  # where the repository of this tree ends
         os.makedirs(f"{self.folder}/out", exist_ok=True)
         os.rename(f"{self.folder}/out", f"{self.room}/out")
@@ -72,6 +69,19 @@ class Crate:
         if os.path.isdir(f"{self.room}/out"):
             shutil.rmtree(f"{self.folder}/out", ignore_errors=True)
             os.rename(f"{self.room}/out", f"{self.folder}/out")
+
+    def said(self, prover):
+        """What `rt` said, or where it had nothing to prove any more, what it said as it proved the
+        same sources: that is kept beside what it built."""
+        said, kept = text_of(self.log), f"{self.folder}/out/said"
+        head = "".join(f"sources {it.name} {it.sources}\n" for it in (*self.below, self))
+        head = f"toolchain {prover}\n{head}"
+        if VERDICT.search(said):
+            with open(kept, "w", encoding="utf-8") as file:
+                file.write(head + said)
+        elif os.path.exists(kept) and text_of(kept).startswith(head):
+            said += text_of(kept)[len(head):]
+        return said
 
     def is_proved(self):
         return self.process.returncode == (USAGE_STATUS if self.is_program else 0)
@@ -100,7 +110,7 @@ def crates_of(program):
 
 class Build:
     def __init__(self, crates, jobs):
-        self.crates, self.jobs = crates, jobs
+        self.crates, self.jobs, self.toolchain = crates, jobs, toolchain()
         self.running, self.proved, self.began = [], [], time.monotonic()
         self.behind = {}  # the functions of the longest chain of crates that begins with a crate
         for it in reversed(crates):
@@ -121,8 +131,9 @@ class Build:
     def end(self, crate, log):
         self.running.remove(crate)
         crate.put_back()
-        said = text_of(crate.log)
-        print(f"== {crate.name}\n{said}", end="", file=log, flush=True)
+        said = crate.said(self.toolchain) if crate.is_proved() else text_of(crate.log)
+        head = f"== {crate.name}\nsources {crate.name} {crate.sources}\n"
+        print(f"{head}{said}", end="", file=log, flush=True)
         if not crate.is_proved():
             sys.exit(f"\n{said}{crate.name} isn't proved")
         shutil.rmtree(crate.tree)
@@ -153,6 +164,7 @@ class Build:
             print(f"\r{line[:columns]}\x1b[K", end=ending, file=sys.stderr, flush=True)
 
     def run(self, log):
+        print(f"toolchain {self.toolchain}", file=log, flush=True)
         memory = re.search(r"MemAvailable: +(\d+)", text_of("/proc/meminfo"))
         lanes = max(min(self.jobs, int(memory[1]) // MEMORY), 1)
         while len(self.proved) < len(self.crates):
@@ -161,6 +173,7 @@ class Build:
             time.sleep(0.2)
             for crate in [it for it in self.running if it.process.poll() is not None]:
                 self.end(crate, log)
+        print("proved by tools/prove.py, with rt lib and rt run", file=log)
         self.show("proved", "\n")
 
 

@@ -1,0 +1,26 @@
+# What bash offers behind `fzcheck`. Installed as share/bash-completion/completions/fzcheck, where
+# bash-completion finds it; without that: source completions/fzcheck.bash
+_fzcheck() {
+  local word=${COMP_WORDS[COMP_CWORD]} before=${COMP_WORDS[COMP_CWORD - 1]} command=${COMP_WORDS[1]}
+  local offered='-h --help'
+  # The shell splits --explain=all at the =.
+  if [[ $word == '=' ]]; then
+    word='' before='='
+  fi
+  if ((COMP_CWORD == 1)); then
+    offered+=' check show help -V --version'
+  elif [[ $before == '=' ]]; then
+    offered='answer all'
+  elif [[ $command == help ]]; then
+    offered='check show'
+  elif [[ $before == --known || $before == --names || $word != -* ]]; then
+    offered='' # a file: where nothing is offered here, the shell offers files
+  elif [[ $command == check ]]; then
+    offered+=' --large --complete --cut --claims --known --explain --explain=all --names --json'
+  elif [[ $command == show ]]; then
+    offered+=' --large --print-all'
+  fi
+  # shellcheck disable=SC2207
+  COMPREPLY=($(compgen -W "$offered" -- "$word"))
+}
+complete -o default -F _fzcheck fzcheck

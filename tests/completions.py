@@ -1,0 +1,69 @@
+#!/usr/bin/env python3
+"""Compares what bash and zsh offer behind `fzcheck` with the words that the program has.
+
+    tests/completions.py PROGRAM
+
+Which words there are is read from the crate that asks `clap` for them, and which of them a command
+takes is asked of the program. What bash offers is asked of bash; of zsh the file is read."""
+import os
+import re
+import subprocess
+import sys
+
+ROOT = os.path.dirname(os.path.dirname(os.path.abspath(__file__)))
+ASK = """source "$0"; COMP_WORDS=("$@"); COMP_CWORD=$(($# - 1)); _fzcheck
+echo "${COMPREPLY[@]}" """
+passed = failed = 0
+
+
+def expect(what, wanted, got):
+    global passed, failed
+    passed, failed = passed + (wanted == got), failed + (wanted != got)
+    if wanted != got:
+        print(f"failed: {what}: {sorted(wanted)} wanted, {sorted(got)} found")
+
+
+def read(path):
+    with open(os.path.join(ROOT, path)) as file:
+        return file.read()
+
+
+def said(*words):
+    """What a command says, on either stream."""
+    return subprocess.run(words, text=True, stdin=subprocess.DEVNULL, stdout=subprocess.PIPE,
+                          stderr=subprocess.STDOUT, timeout=60).stdout
+
+
+def by_bash(*words):
+    """What bash offers where the last of the words is being written."""
+    file = f"{ROOT}/completions/fzcheck.bash"
+    return set(said("bash", "-c", ASK, file, "fzcheck", *words).split())
+
+
+def main(program):
+    words, zsh = read("crates/fz_command/src/words.rt"), read("completions/fzcheck.zsh")
+    options = set(re.findall(r'(?:\.long\(|flag\(alloc, )"([\w-]+)"', words))
+    commands = set(re.search(r"\[subcommands: (.*)\]", said(program))[1].split(", "))
+    expect("commands, by bash", commands, {it for it in by_bash("") if not it.startswith("-")})
+    expect("commands, by zsh", commands, set(re.findall(r"(\w+)\\:", zsh)))
+    for command in commands - {"help"}:
+        taken = {f"--{it}" for it in options
+                 if "unexpected argument" not in said(program, command, f"--{it}")}
+        expect(f"{command}, by bash", taken | {"--help"},
+               {it.split("=")[0] for it in by_bash(command, "--")})
+        branch = re.search(rf"^  {command}\)\n(.*?);;", zsh, re.M | re.S)[1]
+        expect(f"{command}, by zsh", taken, set(re.findall(r"(--[\w-]+)", branch)))
+        expect(f"a file behind {command}", set(), by_bash(command, "m"))
+    explained = set(re.findall(r'"(\w+)"', re.search(r"EXPLAINED.*= (.*);", words)[1]))
+    expect("--explain=, by bash", explained, by_bash("check", "--explain", "="))
+    expect("--explain=a, by bash", {it for it in explained if it.startswith("al")},
+           by_bash("check", "--explain", "=", "al"))
+    expect("--explain=, by zsh", explained, set(re.search(r"what:\((.*)\)", zsh)[1].split()))
+    expect("a file behind --names", set(), by_bash("check", "--names", "m"))
+    expect("commands behind help, by bash", commands - {"help"}, by_bash("help", ""))
+    expect("options, by bash", {"-h", "--help", "-V", "--version"}, by_bash("-"))
+    print(f"{passed} passed, {failed} failed")
+    sys.exit(failed != 0)
+
+
+main(*sys.argv[1:])

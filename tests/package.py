@@ -1,0 +1,229 @@
+#!/usr/bin/env python3
+"""Packs the program as `make dist` does, unpacks it, runs it with an empty environment, and
+compares the receipt with the sources as they are, and with changed ones.
+
+    tests/package.py PROGRAM [LOG]
+
+That is done in a copy of this checkout, where a script stands in for the toolchain, so that nothing
+is proved. With LOG, what was proved here, this checkout is packed too."""
+import glob
+import os
+import re
+import shutil
+import subprocess
+import sys
+import tempfile
+
+ROOT = os.path.dirname(os.path.dirname(os.path.abspath(__file__)))
+PARTS = """Makefile README.md CHANGELOG.md CONTRIBUTING.md LICENSE crates.txt crates tools
+companions completions minizinc docs examples""".split()
+RT = """#!/bin/sh
+case $1 in
+version) echo "some toolchain" ;;
+lib) mkdir out/rlib 2>/dev/null && echo "logic=proved of=$(basename "$PWD")" || true ;;
+run) echo "logic=proved of=fzcheck"; cp "$PROGRAM" out/fzcheck; exit 5 ;;
+esac
+"""
+# As `rt ci` tells of a crate that was proved, of one that was proved before, and of the others.
+OF_CI = """== fz_lex
+fn f: proved
+logic=proved of=fz_lex by=ci
+rt: fz_lex proved
+rt: fz_base is kept: an earlier run proved it
+== fz_lex: its tests
+logic=proved tests=1
+proved by rt ci
+"""
+GIT = ("git", "-c", "user.name=-", "-c", "user.email=-", "-c", "commit.gpgsign=false")
+with open(f"{ROOT}/crates.txt") as listed:  # the program stands on all but fz_hostile
+    CRATES = len(re.findall(r"^\w+:", listed.read(), re.M)) - 1
+passed = failed = 0
+
+
+def expect(what, wanted, got):
+    global passed, failed
+    passed, failed = passed + (wanted == got), failed + (wanted != got)
+    if wanted != got:
+        print(f"failed: {what}: {wanted!r:.900} wanted, {got!r:.900} found")
+
+
+def expect_parts(what, status, parts, ran):
+    """Expects a status, and parts of what is told."""
+    left = [part for part in parts if part not in ran.stdout]
+    expect(f"{what}\n{ran.stdout}", (status, []), (ran.returncode, left))
+
+
+def read(path, mode="r"):
+    with open(path, mode) as file:
+        return file.read()
+
+
+def run(*words, cwd=ROOT, **variables):
+    return subprocess.run(words, cwd=cwd, env={**os.environ, **variables}, text=True,
+                          stdin=subprocess.DEVNULL, stdout=subprocess.PIPE,
+                          stderr=subprocess.STDOUT, timeout=600)
+
+
+class Checkout:
+    """A checkout that is packed, and where what it packed is unpacked."""
+
+    def __init__(self, folder, unpacked, **variables):
+        self.folder, self.unpacked, self.variables = folder, unpacked, variables
+        self.packages = []
+
+    def run(self, *words):
+        return run(*words, cwd=self.folder, **self.variables)
+
+    def packed(self, *options):
+        """The bytes of both packages."""
+        ran = self.run("make", *options, "dist")
+        expect(f"make dist\n{ran.stdout}", 0, ran.returncode)
+        self.packages = [f"{self.folder}/{path}"
+                         for path in re.findall("^wrote (.*)$", ran.stdout, re.M)]
+        expect("packages", ["-x86_64-linux.tar.gz", "_amd64.deb"],
+               [re.sub(r".*/fzcheck.[\d.]+(?=[_-])", "", path) for path in self.packages])
+        return [read(path, "rb") for path in self.packages]
+
+    def unpack(self):
+        shutil.rmtree(self.unpacked, ignore_errors=True)
+        os.makedirs(self.unpacked)
+        run("tar", "-xzf", self.packages[0], "-C", self.unpacked)
+        top, = glob.glob(f"{self.unpacked}/fzcheck-*-x86_64-linux")
+        return top, f"{top}/share/doc/fzcheck"
+
+    def runs(self):
+        """Runs what was unpacked with an empty environment."""
+        top, documents = self.unpack()
+        ran = run("env", "-i", f"{top}/bin/fzcheck", "check", "first.fzn", "first.out",
+                  cwd=f"{documents}/examples")
+        expect("the first example", (0, "block 1: satisfied\naccepted: blocks 1\n"),
+               (ran.returncode, ran.stdout))
+        for path in glob.glob(f"{ROOT}/companions/fzcheck-*"):
+            # A link that is broken, or a module that is missing, would be told otherwise.
+            script = f"{top}/bin/{os.path.basename(path)}"
+            expect(script, read(path), read(script))
+            ran = run("env", "-i", sys.executable, script, "--help")
+            expect(f"{script}: {ran.stdout}", False, "Traceback" in ran.stdout)
+        for path in glob.glob(f"{ROOT}/docs/*.1"):
+            expect(path, read(path), read(f"{top}/share/man/man1/{os.path.basename(path)}"))
+        return f"{documents}/RECEIPT"
+
+    def compared(self, *words):
+        return self.run("tools/receipt.py", *words)
+
+
+def packs_and_compares(copy, commit):
+    first = copy.packed()
+    log = read(f"{copy.folder}/build/log").splitlines()
+    os.remove(f"{copy.folder}/build/fzcheck")
+    expect("the same bytes", True, first == copy.packed())
+    expect("what was said of crates that weren't proved again", sorted(log),
+           sorted(read(f"{copy.folder}/build/log").splitlines()))
+    receipt = copy.runs()
+    verdicts = re.findall(r"^crate: (\w+):.*\nsources: \w{64}\nverdict: logic=proved of=(.*)$",
+                          read(receipt), re.M)
+    expect("verdicts", (CRATES, []), (len(verdicts), [it for it in verdicts if it[0] != it[1]]))
+    every = f"{CRATES} of {CRATES} crates"
+    expect_parts("a receipt", 0,
+                 [f"commit {commit}", f"sources: {every} agree", ": the one of the receipt",
+                  f"{every} have the prover's line", "Not proved by it:"], copy.compared(receipt))
+    expect_parts("another program", 1, ["/bin/sh: NOT the one of the receipt"],
+                 copy.compared(receipt, "/bin/sh"))
+    expect_parts("no receipt", 2, ["it isn't a receipt"], copy.compared("README.md"))
+    if shutil.which("dpkg-deb"):
+        run("dpkg-deb", "-x", copy.packages[1], copy.unpacked)
+        expect("the program in Debian's package", read(f"{copy.folder}/build/fzcheck", "rb"),
+               read(f"{copy.unpacked}/usr/bin/fzcheck", "rb"))
+    return receipt
+
+
+def tells_of_changes(copy, receipt, has_git):
+    """Changes a source, and a line of crates.txt, and the program."""
+    changes = {"crates/fz_base/specs/Lib.antt": "\n", "crates.txt": "fz_lex: fz_base\n"}
+    for path, more in changes.items():
+        with open(f"{copy.folder}/{path}", "a") as file:
+            file.write(more)
+    place = "\n    crates/fz_base/specs/Lib.antt\n" if has_git else "\n"
+    expect_parts("changed sources", 1,
+                 [f"sources: {CRATES - 2} of {CRATES} crates agree",
+                  f"  fz_base: other sources{place}  fz_lex: stands on other crates"],
+                 copy.compared(receipt))
+    expect_parts("changed sources, packed", 2, ["the sources of fz_base aren't those"],
+                 copy.run("make", "-o", "build/fzcheck", "dist"))
+    for path, more in changes.items():
+        text = read(f"{copy.folder}/{path}")
+        with open(f"{copy.folder}/{path}", "w") as file:
+            file.write(text[: -len(more)])
+    with open(f"{copy.folder}/build/fzcheck", "a") as file:
+        file.write("\n")
+    expect_parts("a changed program, packed", 2, ["isn't the program that the log tells of"],
+                 copy.run("make", "-o", "build/fzcheck", "dist"))
+
+
+def takes_log_of_ci(copy, receipt):
+    with open(f"{copy.folder}/build/log", "w") as file:
+        file.write(copy.run("tools/sources.py").stdout + OF_CI
+                   + copy.run("sha256sum", "build/fzcheck").stdout)
+    copy.packed("-o", "build/fzcheck")
+    copy.unpack()
+    verdicts = dict(re.findall(r"^crate: (\w+):.*\nsources: .*\nverdict: (.*)$",
+                               read(receipt), re.M))
+    expect("verdicts of the gate",
+           ["is kept: an earlier run proved it", "logic=proved of=fz_lex by=ci", "none:"],
+           [verdicts["fz_base"], verdicts["fz_lex"], verdicts["fz_tree"][:5]])
+    expect_parts("the gate's receipt", 0,
+                 [f"by rt ci: 1 of {CRATES} crates", "\n  fz_base: is kept: "],
+                 copy.compared(receipt))
+
+
+def copied(folder):
+    """Copies what is packed of this checkout, with few of the sources, and returns its commit."""
+    os.makedirs(folder)
+    for part in PARTS:
+        if os.path.isdir(f"{ROOT}/{part}"):
+            shutil.copytree(f"{ROOT}/{part}", f"{folder}/{part}", ignore=shutil.ignore_patterns(
+                "out", "__pycache__", "proofs", "must-fail"))
+        else:
+            shutil.copy(f"{ROOT}/{part}", folder)
+    if not shutil.which("git"):
+        return "unknown"
+    for words in (("init", "-q"), ("add", "."), ("commit", "-qm", "all")):
+        run(*GIT, *words, cwd=folder)
+    return run("git", "rev-parse", "HEAD", cwd=folder).stdout.strip()
+
+
+def try_copy(folder, program):
+    os.makedirs(f"{folder}/bin")
+    with open(f"{folder}/bin/rt", "w") as file:
+        file.write(RT)
+    os.chmod(f"{folder}/bin/rt", 0o755)
+    commit = copied(f"{folder}/copy")
+    copy = Checkout(f"{folder}/copy", f"{folder}/unpacked", PROGRAM=os.path.abspath(program),
+                    PATH=f"{folder}/bin:{os.environ['PATH']}")
+    receipt = packs_and_compares(copy, commit)
+    tells_of_changes(copy, receipt, commit != "unknown")
+    takes_log_of_ci(copy, receipt)
+
+
+def try_this(folder):
+    """Packs this checkout, by the log of what was proved here; nothing is proved for that."""
+    this = Checkout(ROOT, folder)
+    this.packed("-o", "build/fzcheck")
+    receipt = this.runs()
+    expect_parts("the receipt", 0, [f"sources: {CRATES} of {CRATES} crates agree",
+                                    ": the one of the receipt"], this.compared(receipt))
+    strange = [verdict for verdict in re.findall("^verdict: (.*)$", read(receipt), re.M)
+               if not verdict.startswith(("logic=proved ", "is kept: "))]
+    expect("verdicts", [], strange)
+
+
+def main(program, log=None):
+    with tempfile.TemporaryDirectory(prefix="fzcheck") as folder:
+        try_copy(f"{folder}/one", program)
+        if log:
+            try_this(f"{folder}/this")
+    print(f"{passed} passed, {failed} failed")
+    sys.exit(failed != 0)
+
+
+main(*sys.argv[1:])
