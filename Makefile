@@ -1,31 +1,40 @@
 # make             proves the program with all that it stands on, builds it: build/fzcheck. It goes
 #                  on where it was stopped, and uses JOBS processors (all)
-# make test        the gate: every proof from nothing, the must-fail edits, the tests, the program
+# make test        the gate: every proof from nothing, the must-fail edits, the tests, the program;
+#                  ANEW=--anew takes nothing of what an earlier run on this machine passed
 # make corpus      runs the built program over tests/corpus and examples, beside the second checker
-#                  (tests/corpus/slow.py) on random models, and with minizinc/, and inside MiniZinc,
-#                  where that is installed
+#                  (tests/corpus/slow.py) on random models, and with minizinc/, inside MiniZinc, and
+#                  on plans of it, where that is installed; and inside a bare Debian, where
+#                  debootstrap is
 # make fuzz        runs it beside that checker on random broken texts, for SECONDS (600), and on
 #                  20,000 damaged blocks of random models, by SEED
+# make wrong       tries the wrong bodies of tests/wrong, of the crates in ONLY (all): the prover
+#                  has to refuse each. It begins with what make kept
 # make bench       measures the built program beside the plain program in plain/ (some minutes), or
 #                  with SIZE=500 on models of 500 MB
 # make quick       judges examples/first.fzn with NO proof, or MODEL=FILE [STREAM=FILE], with the
 #                  program's OPTIONS='--complete --explain'; with a MODEL and no STREAM it reads
 #                  standard input; it tells the program's status
-# make install     puts the program, its manual page and minizinc/ in place, below PREFIX
-#                  (/usr/local)
+# make install     puts the program, its companions, manual pages, completions, minizinc/, documents
+#                  and examples in place, below PREFIX (/usr/local)
+# make dist        packs all that, with a receipt of what was proved, as a tar and as a package for
+#                  Debian 12, in build/
 # make fmt         lays out the sources
 # make clean       drops what was built
 
 CRATES := $(notdir $(wildcard crates/*))
 SOURCES := crates.txt $(shell find crates -type d -name out -prune -o -type f -print)
+COMPANIONS := $(wildcard companions/fzcheck-*)
 PREFIX ?= /usr/local
+SHARE = $(DESTDIR)$(PREFIX)/share
+ZSH_FUNCTIONS ?= $(PREFIX)/share/zsh/site-functions
 JOBS ?= $(shell nproc)
 SECONDS ?= 600
 SEED ?= $(shell date +%s)
 NEEDS_RT = command -v rt >/dev/null || { echo "This needs the Rattle toolchain:" \
   "put its folder bin, which has rt, on the PATH." >&2; exit 1; }
 
-.PHONY: all test corpus fuzz bench quick install fmt clean
+.PHONY: all test corpus fuzz wrong bench quick install dist fmt clean
 
 all: build/fzcheck
 
@@ -34,19 +43,28 @@ build/fzcheck: $(SOURCES)
 	@mkdir -p build
 	tools/prove.py fzcheck build/log $(JOBS)
 	cp crates/fzcheck/out/fzcheck build/fzcheck
+	sha256sum build/fzcheck >>build/log
 
 # The gate proves and builds the program too, so nothing is proved twice here.
 test:
 	@$(NEEDS_RT)
-	@rm -rf build/prove
-	rt ci
+	@rm -rf build/prove build/wrong
 	@mkdir -p build
+	tools/sources.py >build/log
+	{ rt ci $(ANEW) 2>&1 && echo "proved by rt ci"; } | tee -a build/log
+	@tail -n 1 build/log | grep -q "^proved by"
 	cp crates/fzcheck/out/fzcheck build/fzcheck
+	sha256sum build/fzcheck >>build/log
 	tests/documents.py
 	tests/headline.py
 	tests/program.sh build/fzcheck
 	tests/as_json.py build/fzcheck
 	tests/solver.py build/fzcheck
+	tests/completions.py build/fzcheck
+	tests/package.py build/fzcheck build/log
+	tests/batch.py build/fzcheck
+	tests/plan.py build/fzcheck
+	tests/fuzz.py build/fzcheck
 	tests/broken/run.py build/fzcheck
 	tests/cases/run.py build/fzcheck crates/fz_hostile/out/fz_hostile
 	tests/corpus/run.py build/fzcheck tests/corpus examples
@@ -61,10 +79,16 @@ corpus: build/fzcheck
 	tests/corpus/reasons.py build/fzcheck 10000
 	tests/minizinc.py build/fzcheck
 	tests/inside.py build/fzcheck
+	tests/plans.py build/fzcheck
+	tools/dist.py
+	tests/debian.py build
 
 fuzz: build/fzcheck
 	tests/hostile/fuzz.py build/fzcheck $(SECONDS) $(SEED)
 	tests/corpus/damaged.py build/fzcheck 20000 $(SEED)
+
+wrong: build/fzcheck
+	tests/wrong.py $(ONLY)
 
 # Cargo builds the plain program, from its own sources alone; build/bench has the files to measure.
 bench: build/fzcheck
@@ -82,10 +106,22 @@ quick:
 	@tests/quick.sh "$(MODEL)" "$(STREAM)" $(OPTIONS)
 
 install: build/fzcheck
-	install -D -t $(DESTDIR)$(PREFIX)/bin build/fzcheck minizinc/fzcheck-*
-	install -D -m 644 docs/fzcheck.1 $(DESTDIR)$(PREFIX)/share/man/man1/fzcheck.1
-	install -D -m 644 -t $(DESTDIR)$(PREFIX)/share/fzcheck minizinc/fzcheck.msc
-	install -D -m 644 -t $(DESTDIR)$(PREFIX)/share/fzcheck/fzcheck minizinc/fzcheck/*.mzn
+	install -D -t $(DESTDIR)$(PREFIX)/bin build/fzcheck
+	install -D -t $(SHARE)/fzcheck $(COMPANIONS)
+	install -m 644 -t $(SHARE)/fzcheck companions/fzcheck_*
+	for it in $(notdir $(COMPANIONS)); do \
+	  ln -sf ../share/fzcheck/$$it $(DESTDIR)$(PREFIX)/bin/$$it; done
+	install -D -m 644 -t $(SHARE)/man/man1 docs/*.1
+	install -D -m 644 completions/fzcheck.bash $(SHARE)/bash-completion/completions/fzcheck
+	install -D -m 644 completions/fzcheck.zsh $(DESTDIR)$(ZSH_FUNCTIONS)/_fzcheck
+	install -D -m 644 -t $(SHARE)/fzcheck minizinc/fzcheck.msc
+	install -D -m 644 -t $(SHARE)/fzcheck/fzcheck minizinc/fzcheck/*.mzn
+	install -D -m 644 -t $(SHARE)/doc/fzcheck README.md CHANGELOG.md CONTRIBUTING.md LICENSE
+	cp -R docs examples $(SHARE)/doc/fzcheck
+	chmod -R u=rwX,go=rX $(SHARE)/doc/fzcheck
+
+dist: build/fzcheck
+	tools/dist.py
 
 fmt:
 	for crate in $(CRATES); do (cd crates/$$crate && rt fmt); done

@@ -1,7 +1,8 @@
 #!/usr/bin/env python3
 """Compares what documents say of the sources with these: the table of docs/THEOREM.md, "What each
 crate promises", with the contracts in crates/, and the number of paths in docs/ARCHITECTURE.md with
-crates.txt.
+crates.txt, and the table of docs/TESTING.md, "What the prover refuses", with the edits of the gate.
+Those of tests/wrong, which the gate doesn't try, must still fit their files.
 
 Each clause that a row names must stand at one of the row's calls, and each call must have one of
 them; where a row names none, each call must have an `ensures`. A call is looked for in the crates
@@ -60,6 +61,24 @@ def paths(crate):
     return 1 + sum(paths(name) for name in BELOW[crate].split() if name in BELOW)
 
 
+def refused():
+    """Whether the table has each edit of the gate and no other, each behind its crate."""
+    table = (ROOT / "docs" / "TESTING.md").read_text().split("\n## What the prover refuses\n")[1]
+    told = re.findall(r"^\| `(\w+)` \| `(\w+)` \|", table.split("\n## ")[0], re.M)
+    edits = [path.parts[-3::2] for path in ROOT.glob("crates/*/must-fail/*.edit")]
+    return sorted(told) == sorted((crate, edit[: -len(".edit")]) for crate, edit in edits)
+
+
+def old_texts(edit):
+    """The texts that an edit replaces, each with the file that has to have it once."""
+    for line in edit.read_text().splitlines():
+        word, _, rest = line.partition(": ")
+        if word == "file":
+            source = ROOT / "crates" / edit.parent.name / rest
+        elif word == "old":
+            yield source.read_text(), rest
+
+
 def wrong():
     for crates, calls, clauses in rows():
         if not is_so(crates, calls, clauses):
@@ -68,10 +87,16 @@ def wrong():
     told = re.search(r"there\s+are\s+(\d+)\s+paths", architecture)
     if not paths("fzcheck") == int(told[1]) <= 165:
         yield f"there are {paths('fzcheck')} paths below fzcheck"
+    if not refused():
+        yield "the table of docs/TESTING.md isn't that of the edits in crates/*/must-fail"
+    for edit in sorted(ROOT.glob("tests/wrong/*/*.edit")):
+        if any(text.count(old) != 1 for text, old in old_texts(edit)):
+            yield f"{edit.relative_to(ROOT)} doesn't fit its file"
 
 
+CHECKS = len(list(rows())) + 2 + len(list(ROOT.glob("tests/wrong/*/*.edit")))
 faults = list(wrong())
 for fault in faults:
     print(f"failed: {fault}")
-print(f"{len(list(rows())) + 1 - len(faults)} passed, {len(faults)} failed")
+print(f"{CHECKS - len(faults)} passed, {len(faults)} failed")
 sys.exit(bool(faults))

@@ -28,14 +28,12 @@ VALUE = re.compile(r"\b(?:\d+|true|false)\b(?![.(])")
 PAGES = {
     "README.md": "\naccepted: ",
     "docs/MINIZINC.md": "\naccepted: ",
-    "docs/ORGANISERS.md": "NAME.json +accepted ",
+    "docs/ORGANISERS.md": "\nno solver is wrong\n",
     "docs/SOLVER_AUTHORS.md": "column = ",
 }
-PREPARED = """mkdir models streams
+PREPARED = """mkdir -p models streams/gecode
 minizinc -G std -c model.mzn data.dzn --fzn models/NAME.fzn --no-output-ozn
-fzn-gecode models/NAME.fzn > streams/NAME.out
-cp streams/NAME.out streams/NAME.one.out
-cp streams/NAME.out streams/NAME.other.out
+fzn-gecode models/NAME.fzn > streams/gecode/NAME.out
 """
 FILES = {
     "data.dzn": "n = 6;\n",
@@ -141,8 +139,8 @@ def faults_of_page(program, page, folder):
     """What goes wrong with a page's commands, in a folder that has what they name."""
     os.mkdir(os.path.join(folder, "bin"))
     os.symlink(program, os.path.join(folder, "bin", "fzcheck"))
-    for name in ("fzcheck-solver", "fzcheck-configure"):
-        os.symlink(os.path.join(ROOT, "minizinc", name), os.path.join(folder, "bin", name))
+    for name in ("fzcheck-solver", "fzcheck-configure", "fzcheck-batch", "fzcheck-mzn"):
+        os.symlink(os.path.join(ROOT, "companions", name), os.path.join(folder, "bin", name))
     for name in ("minizinc", "examples"):
         os.symlink(os.path.join(ROOT, name), os.path.join(folder, name))
     for name, text in FILES.items():

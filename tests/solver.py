@@ -1,15 +1,16 @@
 #!/usr/bin/env python3
-"""Runs minizinc/fzcheck-solver and fzcheck-configure, with scripts in the place of a solver, of the
+"""Runs companions/fzcheck-solver and fzcheck-configure, with scripts in the place of a solver, of the
 checker and of MiniZinc, so that none of them has to be there.
 
     tests/solver.py PROGRAM
 
-The commands of two pages that need no MiniZinc are run too. tests/inside.py runs both scripts
+The commands of a page that need no MiniZinc are run too. tests/inside.py runs both scripts
 inside MiniZinc itself, and tests/minizinc.py all commands of the pages."""
 import glob
 import json
 import os
 import re
+import shlex
 import shutil
 import signal
 import subprocess
@@ -20,12 +21,13 @@ import time
 from minizinc import blocks
 
 ROOT = os.path.dirname(os.path.dirname(os.path.abspath(__file__)))
-SOLVER, CONFIGURE = (os.path.join(ROOT, "minizinc", name)
+SOLVER, CONFIGURE = (os.path.join(ROOT, "companions", name)
                      for name in ("fzcheck-solver", "fzcheck-configure"))
 MODEL = "var 0..9: x :: output_var;\nconstraint int_le(x,5);\nsolve satisfy;\n"
 UNKNOWN, FLOAT = MODEL.replace("int_le", "my_own"), MODEL.replace("0..9", "0.0..9.5")
 GOOD, BAD, CLAIM = "x = 3;\n----------\n", "x = 9;\n----------\n", "==========\n"
 COMMENT = '%%%mzn-stat: fzcheck="VIOLATED"\n%%%mzn-stat-end\n'
+ONE, NOTHING = "fzcheck: accepted: blocks 1\n", "fzcheck: nothing was checked: "
 PRINTS = 'cat "$FOLDER/stream"; exit ${STATUS:-0}'
 ONE_THEN_SLEEPS = f'printf "{GOOD}"; exec sleep 60'.replace("\n", "\\n")
 COUNTS = """trap 'echo got >>"$FOLDER/signals"' INT
@@ -91,12 +93,14 @@ class Place:
         return process.returncode, out, told
 
     def checked(self, what, stream, status, out, told, **variables):
-        """What comes of a stream: the status, the output, and words that are told, or nothing."""
+        """What comes of a stream: the status, the output, and words that are told, or a whole."""
         self.file("stream", stream)
         got = self.run(**variables)
         expect(what, (status, out), got[:2])
+        if isinstance(told, str):
+            return expect(f"{what}, told", told, got[2])
         left = [word for word in told if word not in got[2]]
-        expect(f"{what}, told", ([], bool(told)), (left, got[2] != ""))
+        expect(f"{what}, told", [], left)
 
     def processes(self):
         """Those that have this folder in their environment."""
@@ -127,52 +131,103 @@ def read(path):
 
 def streams(place):
     rejected = ("block 2: violated: constraint 1 int_le\n", "x = 9, printed\n",
-                "\nfzcheck: VIOLATED\n")
-    place.checked("all is well", GOOD + CLAIM, 0, GOOD + CLAIM, ())
-    place.checked("all is told", GOOD, 0, GOOD, ("block 1: satisfied",), FZCHECK_VERBOSE="1")
-    place.checked("nothing is printed", "", 0, "", ())
+                "\nfzcheck: rejected: block 2\nfzcheck: VIOLATED\n")
+    place.checked("all is well", GOOD + CLAIM, 0, GOOD + CLAIM, ONE)
+    place.checked("all is told", GOOD, 0, GOOD, "fzcheck: block 1: satisfied\n" + ONE,
+                  FZCHECK_VERBOSE="1")
+    place.checked("nothing is printed", "", 0, "", NOTHING + "no blocks\n")
     place.checked("violated", GOOD + BAD, 1, GOOD + BAD + COMMENT, rejected)
     place.checked("violated, then cut", GOOD + BAD + "x", 1, GOOD + BAD + "x\n" + COMMENT, rejected)
     place.checked("violated, status 3", GOOD + BAD, 1, GOOD + BAD + COMMENT, rejected, STATUS="3")
-    place.checked("the solver's status", GOOD, 3, GOOD, (), STATUS="3")
+    place.checked("the solver's status", GOOD, 3, GOOD, ONE, STATUS="3")
     place.checked("held", GOOD + BAD + "% more\n" + GOOD + CLAIM, 1,
                   GOOD + "% more\n" + GOOD + CLAIM + COMMENT, rejected, FZCHECK_HOLD="1")
-    place.checked("cut off", GOOD + "x = 1", 0, GOOD + "x = 1", ())
-    place.checked("cut off, held", GOOD + "x = 1", 0, GOOD, (), FZCHECK_HOLD="1")
+    place.checked("cut off", GOOD + "x = 1", 0, GOOD + "x = 1", ONE)
+    place.checked("cut off, held", GOOD + "x = 1", 0, GOOD, ONE, FZCHECK_HOLD="1")
     place.checked("each explained", BAD + BAD, 1, BAD + BAD + COMMENT, ("in block 2",),
                   FZCHECK_OPTIONS="--explain=all")
-    place.checked("an option once more", GOOD, 0, GOOD, (), FZCHECK_OPTIONS="--complete")
-    place.checked("a wrong option", GOOD, 0, GOOD, ("--wrong", "nothing was checked"),
-                  FZCHECK_OPTIONS="--wrong")
+    place.checked("an option once more", GOOD, 0, GOOD, ONE, FZCHECK_OPTIONS="--complete")
     place.checked("JSON can't be told", GOOD, 5, "", ("--json",), FZCHECK_OPTIONS="--json")
     place.checked("a broken option", GOOD, 5, "", ("quotation",), FZCHECK_OPTIONS="'")
     place.checked("no solver", GOOD, 127, "", ("none: No such file",), FZCHECK_SOLVER="none")
-    place.file("model.fzn", UNKNOWN)
-    place.checked("undecided", GOOD, 0, GOOD, ("undecided: constraint 1 my_own not known",))
-    place.checked("undecided, held", GOOD, 0, GOOD, ("my_own",), FZCHECK_HOLD="1")
-    place.file("model.fzn", FLOAT)
-    place.checked("floats", GOOD, 0, GOOD, ("model: Float", "fzcheck: nothing was checked"))
-    place.checked("floats, held", GOOD, 1, "", ("has no verdict was held",), FZCHECK_HOLD="1")
-    place.file("model.fzn", MODEL)
     place.script("a solver", PRINTS.replace("exit", "kill -SEGV $$; exit"))
-    place.checked("a crash", GOOD, 128 + signal.SIGSEGV, GOOD, ())
+    place.checked("a crash", GOOD, 128 + signal.SIGSEGV, GOOD, ONE)
+    place.script("a solver", PRINTS)
+
+
+def unproved(place):
+    """What isn't accepted passes, and is told last; with FZCHECK_STRICT the status is 1."""
+    def strictly(what, stream, told, status=1, **variables):
+        place.checked(what, stream, 0, stream, (told,), **variables)
+        place.checked(f"{what}, strictly", stream, status, stream, (told,), FZCHECK_STRICT="1",
+                      **variables)
+
+    strictly("satisfied", GOOD, ONE, 0)
+    strictly("no block", CLAIM, NOTHING + "no blocks\n")
+    strictly("a wrong option", GOOD, NOTHING + "the checker's options are wrong\n",
+             FZCHECK_OPTIONS="--wrong")
+    rest = "fzcheck: nothing from block 2 on was checked: the stream is refused\n"
+    strictly("a name that isn't declared", GOOD + GOOD.replace("x", "z"), rest)
+    strictly("a warning in a block", GOOD + "WARNING: slow\n" + GOOD, rest)
+    place.checked("a solver's status, strictly", GOOD, 3, GOOD, ONE, FZCHECK_STRICT="1", STATUS="3")
+    for model, last in ((UNKNOWN, "fzcheck: undecided: block 1\n"),
+                        (FLOAT, NOTHING + "the model has floats\n"),
+                        (MODEL + "solve", NOTHING + "the model is refused\n")):
+        place.file("model.fzn", model)
+        strictly(last, GOOD, "\n" + last)
+    place.checked("floats, held", GOOD, 1, "", ("has no verdict was held",), FZCHECK_HOLD="1")
+    place.file("model.fzn", UNKNOWN)
+    place.checked("undecided, held", GOOD, 0, GOOD, ("my_own",), FZCHECK_HOLD="1")
+    place.file("model.fzn", MODEL.replace("satisfy", "minimize x"))
+    place.file("known.out", GOOD.replace("3", "2"))
+    known = f"--claims --known {shlex.quote(place.path('known.out'))}"
+    place.checked("a false optimum", GOOD + CLAIM, 1, GOOD + CLAIM + COMMENT,
+                  ("claim: ========== refuted by known block 1\n",
+                   "fzcheck: rejected: claim after block 1\nfzcheck: VIOLATED\n"),
+                  FZCHECK_OPTIONS=known)
+    place.file("model.fzn", MODEL)
+
+
+def tables(place):
+    """The compiler's table, which MiniZinc names behind the model, gives names; the model's own
+    file, which MiniZinc removes, is not named."""
+    place.file("names", "x\ttime\t\n")
+    place.file("stream", BAD)
+    place.script("a solver", 'echo "% $*"\n' + PRINTS)
+    words = (SOLVER, "-a", place.path("model.fzn"), "--paths", place.path("names"))
+    for wants, given in (("", words[1:3]), ("1", words[1:])):
+        status, out, told = place.run(*words, FZCHECK_PATHS=wants)
+        expect("a table of names", (1, f"% {' '.join(given)}\n{BAD}{COMMENT}"), (status, out))
+        expect("a table of names, told", (True, True, False),
+               ("fzcheck: FlatZinc:2:12: " in told, "time (x) = 9, printed\n" in told,
+                place.folder in told))
     place.script("a solver", PRINTS)
 
 
 def checkers(place, program):
     """What befalls the checker doesn't befall the solver's output."""
-    unchecked = ("fzcheck: nothing was checked\n",)
-    long = GOOD * 20000  # more than a pipe holds
-    place.checked("a long stream", long, 0, long, ())
-    place.checked("a long stream, held", long, 0, long, (), FZCHECK_HOLD="1")
+    long = GOOD * 8000  # more than two pipes hold
+    all_well = "fzcheck: accepted: blocks 8000\n"
+    place.checked("a long stream", long, 0, long, all_well)
+    place.checked("a long stream, held", long, 0, long, all_well, FZCHECK_HOLD="1")
     place.script("bin/fzcheck", f'ulimit -v 5000; exec "{program}" "$@"')
     place.file("model.fzn", "".join(f"var 0..9: y{n};\n" for n in range(40000)) + MODEL)
-    place.checked("out of memory", long, 0, long, ("refused: memory\n", *unchecked))
+    place.checked("out of memory", long, 0, long,
+                  ("refused: memory\n", NOTHING + "out of memory\n"))
     place.file("model.fzn", MODEL)
     place.script("bin/fzcheck", "head -c 100 >/dev/null; echo block 1: satisfied; exit 7")
-    place.checked("a checker that ends", long, 0, long, ("nothing from block 2 on was checked",))
+    place.checked("a checker that ends", long, 0, long,
+                  ("nothing from block 2 on was checked: the checker has ended\n",))
+    # Blocks that come together are judged together: no verdict of one is waited for before the next
+    # is fed.
+    place.script("bin/fzcheck", f"head -c {len(2 * GOOD)} >/dev/null\n"
+                 "printf 'block 1: satisfied\\nblock 2: satisfied\\naccepted: blocks 2\\n'")
+    place.checked("two blocks at once, held", 2 * GOOD, 0, 2 * GOOD,
+                  "fzcheck: accepted: blocks 2\n", FZCHECK_HOLD="1")
     os.remove(place.path("bin/fzcheck"))
-    place.checked("no checker", GOOD, 0, GOOD, unchecked)
+    unchecked = (NOTHING + "the checker can't be run\n",)
+    for strict, status in (("", 0), ("1", 1)):
+        place.checked("no checker", GOOD, status, GOOD, unchecked, FZCHECK_STRICT=strict)
     place.checked("no checker, held", GOOD, 1, "", unchecked, FZCHECK_HOLD="1")
     os.symlink(program, place.path("bin/fzcheck"))
 
@@ -185,7 +240,8 @@ def signals(place):
         process = place.start(words, FZCHECK_HOLD=hold)
         expect("a block at once", GOOD, process.stdout.readline() + process.stdout.readline())
         process.terminate()
-        expect("ended alone", ("", ""), process.communicate(timeout=200))
+        rest, told = process.communicate(timeout=200)
+        expect("ended alone", ("", True), (rest, told.endswith(ONE)))
         expect("ended alone, the status", 128 + signal.SIGTERM, process.returncode)
         place.script("a solver", COUNTS)
         process = place.start(words, FZCHECK_HOLD=hold)
@@ -205,6 +261,33 @@ def signals(place):
         os.killpg(process.pid, signal.SIGKILL)
         process.wait()
         expect("nothing stays", True, place.is_deserted())
+        # The solver of a script too, where `ps` shows whose it is.
+        word = "" if shutil.which("ps") else "exec"
+        place.script("a solver", ONE_THEN_SLEEPS.replace("exec", word))
+        process = place.start(words, FZCHECK_HOLD=hold)
+        process.stdout.readline()
+        process.kill()
+        process.wait()
+        expect("the script alone is killed, and nothing stays", True, place.is_deserted())
+    place.script("a solver", PRINTS)
+
+
+def slow(place, program):
+    """A checker that a signal finds at work has said how far it came before all is killed."""
+    place.script("bin/slow", "echo block 1: satisfied; exec sleep 60")
+    os.remove(place.path("bin/fzcheck"))
+    os.symlink(place.path("bin/slow"), place.path("bin/fzcheck"))
+    place.script("a solver", ONE_THEN_SLEEPS)
+    process = place.start((SOLVER, place.path("model.fzn")), FZCHECK_VERBOSE="1")
+    process.stderr.readline()
+    os.killpg(process.pid, signal.SIGTERM)
+    expect("as far as it came", "fzcheck: so far: blocks 1, satisfied 1\n",
+           process.stderr.readline())
+    process.kill()
+    process.communicate()
+    expect("a checker at work ends too", True, place.is_deserted())
+    os.remove(place.path("bin/fzcheck"))
+    os.symlink(program, place.path("bin/fzcheck"))
     place.script("a solver", PRINTS)
 
 
@@ -224,11 +307,15 @@ def configuration(place, program):
     expect("its id", "org.some.other-checked", written["id"])
     expect("its library", "/usr/share/other lib", written["mznlib"])
     expect("its flags", OTHER["extraFlags"], written["extraFlags"])
+    expect("its table of names", True, written["needsPathsFile"])
     place.file("stream", GOOD + BAD)
     expect("run as configured", (1, GOOD + BAD + COMMENT),
            place.run(written["executable"], place.path("model.fzn"))[:2])
     library(place, f"{own}/other-checked-library")
-    expect("configured anew", 0, place.run(CONFIGURE, "org.some.other")[0])
+    expect("configured anew", 0, place.run(CONFIGURE, "--strict", "org.some.other")[0])
+    place.file("stream", CLAIM)
+    expect("run as configured, strictly", (1, CLAIM, NOTHING + "no blocks\n"),
+           place.run(written["executable"], place.path("model.fzn")))
     expect("removed", 0, place.run(CONFIGURE, "--remove", "other")[0])
     expect("all is removed", [], os.listdir(own))
     expect("nothing to remove", 1, place.run(CONFIGURE, "--remove", "other")[0])
@@ -242,6 +329,11 @@ def library(place, program):
     """The solver's own FlatZinc allows a 9, and ours doesn't."""
     place.file("ours.fzn", MODEL)
     place.file("model.fzn", MODEL.replace(",5", ",9"))
+    script = MINIZINC.replace("case $* in", "case $* in *nothing.mzn) ;;")
+    place.script("bin/minizinc", script)
+    for strict, wanted in (("", 0), ("1", 1)):
+        expect("MiniZinc runs no solver", (wanted, "", NOTHING + "MiniZinc ran no solver\n"),
+               place.run(program, "nothing.mzn", FZCHECK_STRICT=strict))
     status, out, told = place.run(program, "model.mzn", "-s")
     expect("against our library", (1, GOOD + BAD + COMMENT + "fzcheck: VIOLATED\n"), (status, out))
     expect("against our library, told", True, "block 2: violated: constraint 1 int_le" in told)
@@ -253,32 +345,24 @@ def library(place, program):
 
 
 def pages(place):
-    """What needs no MiniZinc of two pages, on two hundred pairs of the examples."""
-    for name in ("models", "streams", "printed"):
+    """What needs no MiniZinc of a page, on the examples."""
+    for name in ("models", "printed", "streams"):
         os.mkdir(place.path(name))
-    shutil.copytree(f"{ROOT}/examples", place.path("examples"))
+    shutil.copy(f"{ROOT}/examples/knapsack/stream.txt", place.path("streams/NAME.other.out"))
     os.symlink(SOLVER, place.path("bin/fzcheck-solver"))
     place.script("bin/fzn-gecode",
                  'for model; do :; done; cat "printed/$(basename "$model" .fzn).out"')
     examples = sorted(glob.glob(f"{ROOT}/examples/*/stream.txt"))
-    names = [f"{stream.split('/')[-2]}_{number}" for number in range(40) for stream in examples]
-    for name in ("NAME", *names[:199]):
+    names = [f"{stream.split('/')[-2]}_{number}" for number in range(2) for stream in examples]
+    for name in ("NAME", *names):
         example = os.path.join(ROOT, "examples", name.rpartition("_")[0] or "knapsack")
         shutil.copy(f"{example}/model.fzn", place.path(f"models/{name}.fzn"))
-        for kind in ("streams", "printed"):
-            shutil.copy(f"{example}/stream.txt", place.path(f"{kind}/{name}.out"))
-    for solver in ("one", "other"):
-        shutil.copy(place.path("streams/NAME.out"), place.path(f"streams/NAME.{solver}.out"))
-    _, table, explained, claims, _ = run_blocks(place, "docs/ORGANISERS.md", [0, 0, 0, 0, 0])
-    rows = re.findall(r"\.json +(?:accepted|rejected|undecided) ", table)
-    expect("each has a row", 200, len(rows))
-    expect("one is explained", True, explained.endswith("accepted: blocks 3\n"))
-    expect("claims of two solvers", 2, claims.count("accepted: blocks 3\n"))
+        shutil.copy(f"{example}/stream.txt", place.path(f"printed/{name}.out"))
     keep(place, "NAME|_1$")
-    _, job, _ = run_blocks(place, "docs/SOLVER_AUTHORS.md", [0, 1, 1])
+    _, job, _, _ = run_blocks(place, "docs/SOLVER_AUTHORS.md", [0, 1, 1, 0])
     expect("a job ends at the first violated block", 1, len(re.findall("jobs|teams", job)))
-    keep(place, "NAME|knapsack|tour")
-    run_blocks(place, "docs/SOLVER_AUTHORS.md", [0, 0, 0])
+    keep(place, "NAME|knapsack")
+    run_blocks(place, "docs/SOLVER_AUTHORS.md", [0, 0, 0, 0])
 
 
 def keep(place, names):
@@ -302,8 +386,11 @@ def main():
     with tempfile.TemporaryDirectory() as folder:
         place = Place(os.path.join(folder, "a place"), program)
         streams(place)
+        unproved(place)
+        tables(place)
         checkers(place, program)
         signals(place)
+        slow(place, program)
         configuration(place, program)
         pages(place)
     print(f"{passed} passed, {failed} failed")

@@ -3,8 +3,8 @@
 
     reasons.py PROGRAM [COUNT] [SEED]
 
-Each constraint stands alone in a model, over literals, and fails by the tests of slow.py and
-constraints.py beside this file. What `check --explain` tells as the reason is read here, and has to
+Each constraint stands alone in a model, over literals, and fails by the tests of
+companions/fzcheck_rows.py. What `check --explain` tells as the reason is read here, and has to
 be so of these literals. COUNT is how many have to fail, 10,000 where none is given. Prints what
 isn't so, how many had a reason, and ends with 'N passed, M failed'."""
 import collections
@@ -17,8 +17,8 @@ import subprocess
 import sys
 import tempfile
 
-import constraints
 import slow
+import fzcheck_relations as relations
 
 RELATIONS = {
     "": lambda a, b: a == b,
@@ -310,7 +310,7 @@ FORMS = {
     f"boxes (\\d+) and (\\d+) overlap: {STRETCH}, and {STRETCH}": lambda n, a, *p: boxes(n, a, *p),
     f"at ({NUMBER}) the tasks ([0-9, ]*) run and use ({NUMBER}), not ≤ ({NUMBER})": lambda n, a, *p: load(a, *p),
     f"in bin ({NUMBER}) lies ({NUMBER}), not ≤ ({NUMBER})": lambda n, a, b, w, m: (
-        constraints.load(a[1], a[2], int(b)) == int(w) > int(m) == a[0]),
+        relations.load(a[1], a[2], int(b)) == int(w) > int(m) == a[0]),
     r"the circle (.*) has (\d+) of (\d+)": lambda n, a, *p: circle(n, a, p),
     f"element (\\d+) of the (first|second) list is ({NUMBER}), which doesn't lead back": lambda n, a, k, l, v: (
         leads_nowhere(int(k), int(v), *(a if l == "first" else (a[2], a[3], a[0], a[1])))),
@@ -334,7 +334,7 @@ FORMS = {
         a[0] == int(v) and [int(l), int(h)] == [1, len(a[1])] and not int(l) <= int(v) <= int(h)),
     r"the circle (.*) leaves out others that are moved": lambda n, a, path: leaves_out(a, path),
     f"in bin ({NUMBER}) lies ({NUMBER}), not ({NUMBER})": lambda n, a, b, w, m: (
-        constraints.load(a[1], a[2], int(b)) == int(w) != int(m) == a[0][int(b) - a[3]]),
+        relations.load(a[1], a[2], int(b)) == int(w) != int(m) == a[0][int(b) - a[3]]),
     f"the weight is ({NUMBER}), not ({NUMBER})": lambda n, a, w, m: (
         slow.total(a[0], a[2]) == int(w) != int(m) == a[3]),
     f"the profit is ({NUMBER}), not ({NUMBER})": lambda n, a, w, m: (

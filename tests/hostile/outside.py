@@ -1,4 +1,5 @@
 """What stands around the program: its descriptors, its files, its stack and its memory."""
+import contextlib
 import os
 import shutil
 import subprocess
@@ -150,6 +151,17 @@ def little_stack(program):
     return tally
 
 
+def all_shown(terminal):
+    """What a terminal got until nobody writes to it any more: it may come in several pieces, and
+    its end is told as an error."""
+    shown = b""
+    with contextlib.suppress(OSError):
+        while piece := os.read(terminal, 1_000):
+            shown += piece
+    os.close(terminal)
+    return shown
+
+
 def waiting(program):
     """Where standard error is a terminal and standard output isn't, a line tells after two seconds
     how far the check is, and is gone at the end."""
@@ -167,12 +179,11 @@ def waiting(program):
         process.stdin.close()
         rest = process.stdout.read()
     os.close(err)
+    shown = all_shown(terminal)
     line = b"2 blocks, all satisfied so far"
     report = b"block 1: satisfied\nblock 2: satisfied\naccepted: blocks 2\n"
     tally.expect("a terminal: the report", first + rest, report)
-    shown = os.read(terminal, 1_000)
     tally.expect("a terminal: the line", shown, line + b"\r" + b" " * len(line) + b"\r")
-    os.close(terminal)
     return tally
 
 

@@ -1,6 +1,7 @@
 -- The bits of a word as a set of numbers.
-use Rattle.std.proofs.Common.{◌≡◌, ◌<◌, ◌^◌, ◌+◌, ◌-◌, ◌*◌, ◌/◌, ◌%◌, ℕ, zero, suc, min, max, ℤ, pos, negsuc, ◌≤ℤ◌, ◌-ℤ◌, nat_abs, Bool, true, false, not, ◌&&◌, ◌||◌, ◌==◌, ◌↔◌, ltb, List, ◌∷◌, cond, filter, length, refl, sym, ap, ◌∙◌, inl, inr, arith, bit_and, bit_or, bit_xor, count_ones, FitsSigned, w64, pow-suc}
+use Rattle.std.proofs.Common.{◌≡◌, ◌<◌, ◌^◌, ◌+◌, ◌-◌, ◌*◌, ◌/◌, ◌%◌, ℕ, zero, suc, min, max, ℤ, pos, negsuc, ◌≤ℤ◌, ◌-ℤ◌, nat_abs, Bool, true, false, not, ◌&&◌, ◌||◌, ◌==◌, ◌↔◌, ltb, List, [], ◌∷◌, cond, filter, length, refl, sym, ap, ◌∙◌, inl, inr, arith, bit_and, bit_or, bit_xor, count_ones, FitsSigned, w64, pow-suc}
 use Rattle.std.specs.Int.{bit_at}
+use Rattle.std.specs.List.{list_any}
 use Rattle.std.specs.Ordering.{int_eq}
 use Rattle.std.specs.Cmp.{int_cmp_total, both_ways}
 use Rattle.std.specs.FinSet.{contains, contains-from_list, len}
@@ -15,7 +16,6 @@ use Rattle.fz_base.specs.Bits.{has_bit, numbers_of_bits}
 use Rattle.fz_base.specs.Ranges.{is_between}
 use Rattle.fz_base.specs.Sets.{counting_from}
 use Rattle.fz_base.proofs.Covers.{and-false, and-true, between_yes}
-use Rattle.fz_base.proofs.Rows.{is_listed-filter}
 use Rattle.fz_base.proofs.Numbers.{list_any-counting_from, len-from_list, Rise-filter, Rise-counting_from}
 
 -- ---- one bit of what is made of two words
@@ -155,6 +155,27 @@ has_from k (pos n) h =
       ]
     ]
 has_from k (negsuc n) h = let outside : is_between (pos k) (pos 63) (negsuc n) ≡ false = grind (arith, ints) in sym outside
+
+-- ---- the numbers of a list that a test keeps
+
+-- whether x is listed
+abbrev is_listed : List ℤ → ℤ → Bool
+is_listed xs x = list_any (int_eq x) xs
+
+is_listed-filter : (p : ℤ → Bool) (xs : List ℤ) (q : ℤ)
+    → is_listed (filter p xs) q ≡ (is_listed xs q && p q)
+is_listed-filter p [] q = refl
+is_listed-filter p (x ∷ xs) q =
+    elim (p x) as (λ b. p x ≡ b → is_listed (cond b (x ∷ filter p xs) (filter p xs)) q ≡ ((int_eq q x || is_listed xs q) && p q)) [
+      | true ↦ λ passes. elim (int_eq q x) as (λ e. int_eq q x ≡ e → (e || is_listed (filter p xs) q) ≡ ((e || is_listed xs q) && p q)) [
+        | true ↦ λ same. sym (ap p ((Decides-int_eq q x).0 same) ∙ passes)
+        | false ↦ λ _. is_listed-filter p xs q
+      ] refl
+      | false ↦ λ fails. elim (int_eq q x) as (λ e. int_eq q x ≡ e → is_listed (filter p xs) q ≡ ((e || is_listed xs q) && p q)) [
+        | true ↦ λ same. let out : p q ≡ false = ap p ((Decides-int_eq q x).0 same) ∙ fails in is_listed-filter p xs q ∙ rw out (and-false (is_listed xs q))
+        | false ↦ λ _. is_listed-filter p xs q
+      ] refl
+    ] refl
 
 -- ---- the set of a word
 

@@ -1,6 +1,6 @@
 pub mod Giving
 pub mod Inside
-pub mod Known
+pub mod Beginnings
 pub mod Numbers
 pub mod Between
 pub mod Truths

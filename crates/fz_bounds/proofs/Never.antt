@@ -17,7 +17,7 @@ use Rattle.fz_model.proofs.Steps.{some_of}
 use Rattle.fz_model.specs.of_builtins.of_kernel.Given.{are_read, given_from, given_values}
 use Rattle.fz_model.proofs.of_builtins.of_kernel.Ready.{ready_values, wrong_kind}
 use Rattle.fz_model.specs.of_builtins.Outcomes.{argument_at, test_from}
-use Rattle.fz_model.proofs.of_builtins.Rows.{reads}
+use Rattle.fz_model.proofs.of_builtins.RowTests.{reads}
 use Rattle.fz_model.proofs.ConstraintStates.{row_fits}
 use Rattle.fz_bounds.specs.Bounds.{IsInside, NeverHolds, Ranges}
 use Rattle.fz_bounds.specs.Between.{AreBetween}

@@ -30,6 +30,12 @@ mod tightening;
 
 pub use bounds::Bounds;
 pub use ends::Ends;
-pub use fz_model;
+pub use fz_model::{
+    Argument, Builtin, ConstraintParts, Domain, Form, Goal, Kind, Known, LoadError, Model,
+    ModelError, Opening, Overview, Partial, Point, PointParts, Posted, Scalar, Scalars, Slot,
+    State, Term, Variable, What, Wide, all_hold, forced, forced_any, is_held, kind_of,
+    literal_kind, literal_value, load, load_text, only_number, opening_of, part, same_kind,
+    scalar_at, state,
+};
 pub use refuting::cannot_hold;
 pub use tightening::Tightened;

@@ -10,9 +10,7 @@ ghost use Rattle.fz_bounds.specs.Within.{NumberLies, TruthLies, TruthsLie, given
 
 use crate::outlook::Outlook;
 use crate::range::Range;
-use fz_model::fz_builtins::fz_kernel::ArgumentView;
-use fz_model::fz_builtins::fz_kernel::arrays::{all_true, any_false, any_true};
-use fz_model::{ConstraintParts, Partial};
+use fz_model::{ArgumentView, ConstraintParts, Partial, all_true, any_false, any_true};
 
 /// A constraint with the least and the greatest values of variables.
 #[derive(Clone, Copy)]

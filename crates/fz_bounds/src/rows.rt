@@ -14,9 +14,7 @@ use crate::bounds::Bounds;
 use crate::builtins::foretold;
 use crate::limits::Limits;
 use crate::outlook::Outlook;
-use fz_model::fz_builtins::control_index;
-use fz_model::fz_builtins::fz_kernel::Readiness;
-use fz_model::{Builtin, ConstraintParts, Form, Known};
+use fz_model::{Builtin, ConstraintParts, Form, Known, Readiness, control_index};
 
 /// Whether a constraint is found to hold under no assignment inside the bounds. Each of its scalars
 /// has to have bounds.

@@ -18,7 +18,7 @@ use std::alloc::{AllocError, Global};
 const TRIED: i64 = 1_000;
 
 /// What a point takes from the bounds of a variable.
-#[derive(Clone, Copy, Debug, PartialEq, Eq)]
+#[derive(Clone, Copy, PartialEq, Eq)]
 pub enum Tightened {
     /// The bounds are as narrow as was asked.
     Narrowed,

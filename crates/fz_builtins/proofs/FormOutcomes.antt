@@ -14,7 +14,7 @@ use Rattle.fz_builtins.proofs.of_meaning.TableRows.{AreRead, implied_holds, reif
 use Rattle.fz_builtins.specs.of_kernel.Given.{given, given_from, given_values, bool_at, read_unknown}
 use Rattle.fz_builtins.specs.declared.outcome.Outcome.TheVariants.{Truth, TooLarge, Unknown}
 use Rattle.fz_builtins.specs.Outcomes.{compared, implied_by, outcome_beyond, reads_beyond, row_outcome}
-use Rattle.fz_builtins.proofs.Rows.{outcome_is, reads}
+use Rattle.fz_builtins.proofs.RowTests.{outcome_is, reads}
 
 -- the values that are given are read as they are
 given_read : (K : Partial) (xs : List Argument) (i : ℕ) (s : Shape)

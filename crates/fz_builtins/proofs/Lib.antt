@@ -1,4 +1,4 @@
-pub mod Rows
+pub mod RowTests
 pub mod ElementReadings
 pub mod FormOutcomes
 pub use Rattle.fz_globals.proofs.of_kernel

@@ -7,11 +7,9 @@ ghost use Rattle.fz_builtins.specs.Readings.{int, ints, sets_of, truths};
 ghost use Rattle.fz_builtins.specs.Said.{is_result};
 
 use fz_base::IntSet;
-use fz_globals::fz_kernel;
-use fz_globals::fz_kernel::ArgumentView;
-use fz_globals::fz_kernel::arrays::{
-    all_elements_different, all_true, any_false, any_true, maximum, minimum, odd_number_true,
-    sum_where_true,
+use fz_globals::{
+    ArgumentView, all_elements_different, all_true, any_false, any_true, maximum, minimum,
+    odd_number_true, sum_where_true,
 };
 use std::alloc::{AllocError, Global};
 
@@ -19,7 +17,7 @@ use std::alloc::{AllocError, Global};
 pub(crate) fn int_element(view: &ArgumentView<'_, '_>) -> Option<i64>
     ensures { result ≡ element_at (ints view.now 1) (int view.now 0) }
 {
-    fz_scheduling::fz_kernel::arrays::int_element(view.int(0), &view.elements(1))
+    fz_globals::int_element(view.int(0), &view.elements(1))
 }
 
 /// The greatest element.
@@ -84,7 +82,7 @@ pub(crate) fn bool_odd(view: &ArgumentView<'_, '_>) -> bool
 pub(crate) fn bool_element(view: &ArgumentView<'_, '_>) -> Option<bool>
     ensures { result ≡ element_at (truths view.now 1) (int view.now 0) }
 {
-    fz_scheduling::fz_kernel::arrays::bool_element(view.int(0), &view.elements(1))
+    fz_globals::bool_element(view.int(0), &view.elements(1))
 }
 
 /// Whether an element of the first is true, or one of the second false.
@@ -107,5 +105,5 @@ pub(crate) fn bool_sum(view: &ArgumentView<'_, '_>) -> i128
 pub(crate) fn set_element<'s>(view: &ArgumentView<'s, '_>) -> Option<&'s IntSet>
     ensures { option_map (λ s. s.now) result ≡ element_at (sets_of view.now 1) (int view.now 0) }
 {
-    fz_scheduling::fz_kernel::arrays::set_element(view.int(0), &view.elements(1))
+    fz_globals::set_element(view.int(0), &view.elements(1))
 }

@@ -15,10 +15,7 @@ use crate::said::{Said, outcome_of};
 use crate::scalars::{implies, is_below};
 use crate::{arrays, counting, covers, flags, ordering, places, scalars, scheduling, sums};
 use fz_base::SetError;
-use fz_globals::fz_kernel::ArgumentView;
-use fz_globals::fz_kernel::numbers::{absolute, product, quotient, remainder, sum};
-use fz_globals::fz_kernel::sets::same_set;
-use fz_globals::fz_meaning::Builtin;
+use fz_globals::{ArgumentView, Builtin, absolute, product, quotient, remainder, same_set, sum};
 use std::alloc::{AllocError, Global};
 
 /// The outcome of a builtin's row at the values that the argument view gives. It refuses only where

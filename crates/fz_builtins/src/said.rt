@@ -9,8 +9,7 @@ ghost use Rattle.fz_builtins.specs.Said.{IsSaid, is_result};
 
 use crate::outcome::Outcome;
 use fz_base::IntSet;
-use fz_globals::fz_kernel::ArgumentView;
-use fz_globals::fz_kernel::sets::same_set;
+use fz_globals::{ArgumentView, same_set};
 
 /// What a row says by the values of its arguments. Where it has a result, the argument at the index
 /// that comes with it, that argument isn't looked at: the row holds where its value is the one that

@@ -9,10 +9,7 @@ ghost use Rattle.fz_builtins.specs.Outcomes.{sum_outcome};
 ghost use Rattle.fz_builtins.specs.Readings.{int, ints};
 
 use crate::outcome::Outcome;
-use fz_globals::fz_kernel::ArgumentView;
-use fz_globals::fz_kernel::arrays::sum_of_products;
-use fz_globals::fz_kernel::numbers::power;
-use fz_globals::fz_meaning::Wide;
+use fz_globals::{ArgumentView, Wide, power, sum_of_products};
 use fz_scheduling::packed::is_knapsack;
 
 /// Whether the sum of products is the third argument.

@@ -1,4 +1,3 @@
-mod Rows
 pub mod Appending
 pub mod WritingLemmas
 pub mod EventLemmas

@@ -22,10 +22,10 @@ use crate::error::{CheckError, stream_refusal};
 use crate::jury::Jury;
 use crate::outputs::print_all;
 use crate::report::{Entry, Report};
-use fz_judge::Completion;
-use fz_judge::fz_model::{LoadError, Model, ModelError, load, load_text};
-use fz_judge::fz_stream::{Block, Claim, Stream, blocks};
-use fz_judge::fz_syntax::{Ast, Limits, SyntaxError, parse_within, to_text};
+use fz_judge::{
+    Ast, Block, Claim, Completion, Limits, LoadError, Model, ModelError, Stream, SyntaxError,
+    blocks, load, load_text, parse_within, to_text,
+};
 use std::alloc::{AllocError, Global};
 
 /// The model of a text that is within the limits.

@@ -4,8 +4,7 @@ ghost use Rattle.std.specs.Prelude.{◌≡◌, None};
 ghost use Rattle.fz_judge.specs.of_model.Parts.{goal_view};
 ghost use Rattle.fz_check.specs.Claims.{is_better, known_refuter, known_with, refutes, saying};
 
-use fz_judge::fz_model::Goal;
-use fz_judge::fz_stream::ClaimKind;
+use fz_judge::{ClaimKind, Goal};
 
 /// What a claim says of a model's solutions, as far as a solution can refute it.
 #[derive(Clone, Copy)]

@@ -1,5 +1,5 @@
 /// What becomes of a stream that ends inside a block, such as that of a solver that was killed.
-#[derive(Clone, Copy, Debug, PartialEq, Eq)]
+#[derive(Clone, Copy, PartialEq, Eq)]
 pub enum Ending {
     /// It is refused.
     Whole,

@@ -3,10 +3,7 @@
 ghost use Rattle.std.specs.Prelude.{◌≡◌};
 ghost use Rattle.fz_check.specs.Telling.{stream_refusal};
 
-use fz_judge::BlockError;
-use fz_judge::fz_model::ModelError;
-use fz_judge::fz_stream::StreamError;
-use fz_judge::fz_syntax::SyntaxError;
+use fz_judge::{BlockError, ModelError, StreamError, SyntaxError};
 use std::alloc::{AllocError, AllocFailed};
 use thiserror::Error;
 

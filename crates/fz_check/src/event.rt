@@ -8,9 +8,7 @@ use crate::claims::Refutation;
 use crate::line::{push_answer, push_block, push_claim, push_cut, push_refutation};
 use crate::tally::Answer;
 use fz_base::Span;
-use fz_judge::Verdict;
-use fz_judge::fz_model::Model;
-use fz_judge::fz_stream::{Block, ClaimKind};
+use fz_judge::{Block, ClaimKind, Model, Verdict};
 use std::alloc::AllocError;
 
 /// A block that was judged.
@@ -53,7 +51,7 @@ pub trait Taker {
 }
 
 /// The report as text: a line for each event.
-#[derive(Clone, Copy, Debug)]
+#[derive(Clone, Copy)]
 pub struct TextTaker;
 
 impl Taker for TextTaker {

@@ -12,9 +12,7 @@ use crate::claims::{Claims, Refutation, Statement};
 use crate::error::CheckError;
 use crate::ledger::Ledger;
 use crate::tally::{Answer, Tally, is_satisfied};
-use fz_judge::fz_model::Model;
-use fz_judge::fz_stream::{Block, ClaimKind};
-use fz_judge::{BlockError, Completion, Judge, Verdict};
+use fz_judge::{Block, BlockError, ClaimKind, Completion, Judge, Model, Verdict};
 use std::alloc::Global;
 
 /// A judge of a model's blocks, a count of the verdicts that it gave, and what is known of claims.

@@ -11,10 +11,7 @@ use crate::ending::Ending;
 use crate::error::CheckError;
 use crate::pieces::ReadFailed;
 use crate::reader::{PartReader, Step};
-use fz_judge::fz_model::Model;
-use fz_judge::fz_stream::{Block, Part};
-use fz_judge::fz_syntax::Limits;
-use fz_judge::{BlockError, Completion, Judge, Verdict};
+use fz_judge::{Block, BlockError, Completion, Judge, Limits, Model, Part, Verdict};
 use std::alloc::Global;
 use std::io::Read;
 

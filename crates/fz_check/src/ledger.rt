@@ -6,8 +6,7 @@ ghost use Rattle.fz_check.specs.Claims.{behind_block, behind_claim, claim_refuta
 
 use crate::claims::{Claims, Known, Refutation, Refuter, Saying, Statement, refutes, said_by};
 use crate::tally::first;
-use fz_judge::fz_model::Goal;
-use fz_judge::fz_stream::ClaimKind;
+use fz_judge::{ClaimKind, Goal};
 
 /// What is known behind the parts of a stream.
 #[derive(Clone, Copy)]

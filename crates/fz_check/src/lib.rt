@@ -35,10 +35,10 @@ pub use ending::Ending;
 pub use error::CheckError;
 pub use event::{Event, Judged, Taker, TextTaker};
 pub use fz_base::Span;
-pub use fz_judge::fz_model::{Model, ModelError};
-pub use fz_judge::fz_stream::{ClaimKind, StreamError};
-pub use fz_judge::fz_syntax::{Limits, SyntaxError};
-pub use fz_judge::{BlockError, Completion, Fault, Judge, Reason, Verdict, fill, fill_with_steps};
+pub use fz_judge::{
+    BlockError, ClaimKind, Completion, Fault, Judge, Limits, Model, ModelError, Reason,
+    StreamError, SyntaxError, Verdict, fill, fill_with_steps,
+};
 pub use learning::{Listener, learn};
 pub use line::{block_text, claim_text};
 pub use refusal::{Told, refusal_fault, refusal_text, status};

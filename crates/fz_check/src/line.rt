@@ -10,8 +10,7 @@ use crate::claims::{Refutation, Refuter};
 use crate::tally::Answer;
 use crate::text::{push_bytes, push_count, push_fault, push_reason};
 use fz_base::Span;
-use fz_judge::Verdict;
-use fz_judge::fz_stream::ClaimKind;
+use fz_judge::{ClaimKind, Verdict};
 use std::alloc::{AllocError, Global};
 
 /// A claim's line in a stream, without blanks at its ends.

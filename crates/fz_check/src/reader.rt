@@ -10,14 +10,13 @@ use crate::ending::Ending;
 use crate::error::{CheckError, stream_refusal};
 use crate::pieces::{Pieces, ReadFailed};
 use fz_base::Span;
-use fz_judge::fz_stream::{Part, Splitter, StreamError};
-use fz_judge::fz_syntax::Limits;
+use fz_judge::{Limits, Part, Splitter, StreamError};
 use std::alloc::Global;
 use std::io::Read;
 use std::marker::Model;
 
 /// What there is to do next with a stream.
-#[derive(Clone, Copy, Debug, PartialEq, Eq)]
+#[derive(Clone, Copy, PartialEq, Eq)]
 pub(crate) enum Step {
     /// A further part has ended, and waits to be read.
     Part,

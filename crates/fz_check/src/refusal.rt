@@ -7,10 +7,7 @@ use crate::error::CheckError;
 use crate::tally::Answer;
 use crate::text::{push_bytes, push_count};
 use fz_base::Span;
-use fz_judge::BlockError;
-use fz_judge::fz_model::ModelError;
-use fz_judge::fz_stream::StreamError;
-use fz_judge::fz_syntax::SyntaxError;
+use fz_judge::{BlockError, ModelError, StreamError, SyntaxError};
 use std::alloc::{AllocError, Global};
 
 /// The name of a fault, and its byte range where it has one.

@@ -6,8 +6,7 @@ ghost use Rattle.fz_check.specs.View.{entry_view, report_view};
 
 use crate::line::{push_answer, push_block, push_claim};
 use crate::tally::Answer;
-use fz_judge::Verdict;
-use fz_judge::fz_stream::ClaimKind;
+use fz_judge::{ClaimKind, Verdict};
 use std::alloc::{AllocError, Global};
 
 /// A block, by its number from 1, with its verdict; or a claim.

@@ -21,8 +21,7 @@ use crate::reader::{PartReader, Step};
 use crate::tally::Answer;
 use crate::telling::{gather, tell_end, tell_next};
 use crate::writing::{WriteFailed, write_lines};
-use fz_judge::Completion;
-use fz_judge::fz_syntax::Limits;
+use fz_judge::{Completion, Limits};
 use std::alloc::Global;
 use std::io::{Read, Write};
 

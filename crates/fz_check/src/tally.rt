@@ -24,7 +24,7 @@ pub enum Answer {
 
 /// How many blocks were judged, and the numbers of the first violated and of the first undecided
 /// one, from 1.
-#[derive(Clone, Copy, Debug)]
+#[derive(Clone, Copy)]
 pub(crate) struct Tally {
     pub(crate) blocks: usize,
     violated: Option<usize>,

@@ -21,7 +21,7 @@ use crate::reader::PartReader;
 use crate::tally::Answer;
 use crate::writing::{WriteFailed, write_lines};
 use fz_base::Span;
-use fz_judge::fz_stream::Part;
+use fz_judge::Part;
 use std::alloc::{AllocError, Global};
 use std::io::Write;
 

@@ -34,7 +34,7 @@ pub enum Printing {
 }
 
 /// How large a model, and a block of a stream, may be.
-#[derive(Clone, Copy, Debug, PartialEq, Eq)]
+#[derive(Clone, Copy, PartialEq, Eq)]
 pub enum Size {
     Standard,
     Large,
@@ -55,7 +55,7 @@ pub struct CheckOptions {
 }
 
 /// What the report is written as.
-#[derive(Clone, Copy, Debug, PartialEq, Eq)]
+#[derive(Clone, Copy, PartialEq, Eq)]
 pub enum Form {
     Text,
     /// A JSON object on each line.
@@ -63,7 +63,7 @@ pub enum Form {
 }
 
 /// What is explained.
-#[derive(Clone, Copy, Debug, PartialEq, Eq)]
+#[derive(Clone, Copy, PartialEq, Eq)]
 pub enum Explaining {
     Nothing,
     /// The block that the answer names, or a refusal.

@@ -13,7 +13,7 @@ use crate::parts::{Array, Variable};
 use crate::scope::{Item, Scope, scalars_of, term_of};
 use crate::values::{base_kind, domain_of, literal_kind, literal_value, same_kind};
 use fz_base::Value;
-use fz_names::fz_meaning::{Kind, ModelError, Term};
+use fz_names::{Kind, ModelError, Term};
 use fz_tree::{Basic, Decl, Expr};
 use std::alloc::Global;
 use std::slice;

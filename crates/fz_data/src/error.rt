@@ -3,11 +3,11 @@
 ghost use Rattle.std.specs.Prelude.{◌≡◌};
 ghost use Rattle.fz_data.specs.declared.error.LoadError.TheVariants.{Names, Text};
 
-use fz_names::fz_meaning::ModelError;
-use fz_tree::fz_lex::SyntaxError;
+use fz_names::ModelError;
+use fz_tree::SyntaxError;
 
 /// Why the text of a model isn't loaded: it is a text of no tree, or the tree's names have a fault.
-#[derive(Clone, Copy, Debug)]
+#[derive(Clone, Copy)]
 pub enum LoadError {
     Text(SyntaxError),
     Names(ModelError),

@@ -6,7 +6,7 @@ ghost use Rattle.fz_data.specs.Shown.{scalar_terms};
 
 use crate::store::{Scalar, Slot, scalar_at};
 use fz_base::Value;
-use fz_names::fz_meaning::Kind;
+use fz_names::Kind;
 
 /// A list of scalars, as slots.
 #[derive(Clone, Copy)]

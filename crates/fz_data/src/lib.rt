@@ -23,7 +23,9 @@ mod values;
 
 pub use error::LoadError;
 pub use found::{Found, Scalars, What};
-pub use fz_names::fz_meaning;
+pub use fz_names::{
+    Builtin, Domain, Filled, Form, Kind, Known, ModelError, Shape, State, Term, Wide,
+};
 pub use loading::load;
 pub use model::Model;
 pub use partial::{Partial, number_of, truth_of};

@@ -14,8 +14,7 @@ use crate::model::Model;
 use crate::posting::{all_posted, goal_of};
 use crate::scope::{Scope, add};
 use crate::store::Store;
-use fz_names::Names;
-use fz_names::fz_meaning::ModelError;
+use fz_names::{ModelError, Names};
 use fz_tree::{Ast, Decl};
 use std::alloc::Global;
 

@@ -7,7 +7,7 @@ ghost use Rattle.fz_data.specs.Partial.{nothing_for, number_in, truth_in, unset_
 
 use crate::model::Model;
 use fz_base::{IntSet, Value};
-use fz_names::fz_meaning::Term;
+use fz_names::Term;
 use std::alloc::{AllocError, Global};
 use std::mem;
 

@@ -6,7 +6,7 @@ ghost use Rattle.fz_data.specs.Slots.{is_scalar};
 
 use crate::store::{Segment, Slot};
 use fz_base::Value;
-use fz_names::fz_meaning::{Domain, Kind, Known, Term};
+use fz_names::{Domain, Kind, Known, Term};
 
 /// A scalar variable: its name, its kind, and the values that its declaration admits.
 #[derive(Debug, Drop)]
@@ -19,7 +19,7 @@ pub struct Variable<'a> {
 }
 
 /// A declared array, of variables or of parameters, with its elements.
-#[derive(Debug, Drop)]
+#[derive(Drop)]
 pub struct Array<'a> {
     pub name: &'a [u8],
     pub(crate) is_variable: bool,
@@ -29,7 +29,7 @@ pub struct Array<'a> {
 }
 
 /// A list of scalars, with the values that don't fit in a slot.
-#[derive(Debug, Drop)]
+#[derive(Drop)]
 pub struct ScalarList {
     pub slots: Vec<Slot>,
     pub constants: Vec<Value>,
@@ -57,7 +57,7 @@ pub enum Goal {
 
 /// A point of a declaration: the domain of a variable, its definition, or the domain of an array's
 /// elements, by the number of the variable or the array.
-#[derive(Clone, Copy, Debug)]
+#[derive(Clone, Copy)]
 pub enum DeclaredPoint {
     Domain(usize),
     Definition(usize),

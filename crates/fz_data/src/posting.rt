@@ -20,8 +20,7 @@ use crate::scope::{Scope, term_of};
 use crate::store::{Argument, Segment, Slot, Store, narrow, part, slot_of, value_slot};
 use crate::values::{copied, literal_value};
 use fz_base::Value;
-use fz_names::Standing;
-use fz_names::fz_meaning::{Kind, ModelError, Term, same_text};
+use fz_names::{Kind, ModelError, Standing, Term, same_text};
 use fz_tree::{Basic, Constraint, Expr, Goal as TreeGoal, Name, Note, NoteArg, NoteBasic};
 use std::alloc::Global;
 

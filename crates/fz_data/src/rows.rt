@@ -14,7 +14,7 @@ use crate::parts::{Array, Variable};
 use crate::store::{Argument, Slot, Store, part};
 use crate::values::{kind_of, same_kind};
 use fz_base::Value;
-use fz_names::fz_meaning::{Kind, Known, Matrix, Shape, Term};
+use fz_names::{Kind, Known, Matrix, Shape, Term};
 
 /// What constraints cite: the variables, their kinds, and the arrays. The kinds have a list of
 /// their own, a byte each, so that they stay in a near cache while constraints are loaded.

@@ -16,8 +16,7 @@ use crate::rows::{Cited, term_kind, variable_kind};
 use crate::store::slot_of;
 use crate::values::{copied, literal_kind, literal_value, same_kind};
 use fz_base::Value;
-use fz_names::fz_meaning::{Domain, Kind, ModelError, Term};
-use fz_names::{Names, Standing};
+use fz_names::{Domain, Kind, ModelError, Names, Standing, Term};
 use fz_tree::{Basic, Literal, Name};
 use std::alloc::{AllocError, Global};
 

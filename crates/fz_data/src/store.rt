@@ -6,12 +6,12 @@ ghost use Rattle.fz_names.specs.of_meaning.declared.term.Term.TheVariants.{Fixed
 ghost use Rattle.fz_data.specs.Slots.{IsGrown, IsSlotOf, constant_at, scalar_term, segment, slot_term};
 
 use fz_base::{IntSet, Value};
-use fz_names::fz_meaning::Term;
+use fz_names::Term;
 use std::alloc::{AllocError, Global};
 
 /// A scalar, or a declared array. It is the number of a variable, an integer, a Boolean, the index
 /// of a value among the constants, or the number of an array.
-#[derive(Clone, Copy, Debug)]
+#[derive(Clone, Copy)]
 pub enum Slot {
     Variable(u32),
     Number(i32),
@@ -28,7 +28,7 @@ pub struct Segment {
 }
 
 /// An argument of a constraint: one literal or name, or the slots of a list in brackets.
-#[derive(Clone, Copy, Debug)]
+#[derive(Clone, Copy)]
 pub enum Argument {
     One(Slot),
     List(Segment),
@@ -44,7 +44,7 @@ pub struct Store {
 }
 
 /// A scalar as it is read: the number of a variable, or a value.
-#[derive(Clone, Copy, Debug)]
+#[derive(Clone, Copy)]
 pub enum Scalar<'m> {
     Variable(usize),
     Number(i64),

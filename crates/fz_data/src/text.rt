@@ -23,10 +23,8 @@ use crate::parts::Posted;
 use crate::posting::{goal_of, post};
 use crate::scope::Scope;
 use crate::store::Store;
-use fz_names::fz_meaning::ModelError;
-use fz_names::fz_meaning::fz_syntax::{ConstraintItems, DeclItems, Offer, PredicateItems};
-use fz_tree::fz_lex::{Limits, SyntaxError};
-use fz_tree::{Constraint, Decl, Solve};
+use fz_names::{ConstraintItems, DeclItems, ModelError, Offer, PredicateItems};
+use fz_tree::{Constraint, Decl, Limits, Solve, SyntaxError};
 use std::alloc::Global;
 
 /// The items after the predicates. A predicate adds nothing to a model.

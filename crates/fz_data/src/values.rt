@@ -6,7 +6,7 @@ ghost use Rattle.fz_names.specs.of_meaning.Relations.{kind_of, same_kind};
 ghost use Rattle.fz_tree.specs.View.{bare_base, bare_bounds, bare_literal_kind};
 
 use fz_base::{IntSet, Value};
-use fz_names::fz_meaning::{Domain, Kind, Term};
+use fz_names::{Domain, Kind, Term};
 use fz_tree::{Base, Literal, LiteralKind};
 use std::alloc::{AllocError, Global};
 

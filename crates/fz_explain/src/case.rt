@@ -2,11 +2,9 @@
 
 use crate::message::{Message, Text};
 use crate::verdict::{Reading, verdict_message, verdict_place};
-use fz_judge::fz_model::Model;
-use fz_judge::fz_stream::Block;
-use fz_judge::fz_syntax::{Ast, Limits, parse_within};
-use fz_judge::{Completion, Verdict, fill_with_steps};
+use fz_judge::{Block, Completion, Limits, Model, Verdict, fill_with_steps, parse_within};
 use fz_places::NameTable;
+use fz_tree::Ast;
 use std::alloc::{AllocError, Global};
 
 /// A block with its number, the verdict on it and its text, which is a part of the stream's.

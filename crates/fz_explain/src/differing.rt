@@ -8,8 +8,8 @@ ghost use Rattle.fz_judge.specs.of_syntax.View.{bare_literal};
 ghost use Rattle.fz_explain.specs.Differing.{first_differing, has_value};
 
 use fz_base::Value;
-use fz_judge::fz_model::{Partial, Scalar, Scalars, literal_value, scalar_at};
-use fz_judge::fz_syntax::Literal;
+use fz_judge::{Partial, Scalar, Scalars, literal_value, scalar_at};
+use fz_tree::Literal;
 use std::alloc::{AllocError, Global};
 
 /// Whether a scalar has a value, and it is that of the literal.

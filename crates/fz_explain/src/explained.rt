@@ -7,8 +7,7 @@ ghost use Rattle.fz_explain.specs.Explained.{IsTold, shortened};
 
 use crate::source::{Source, source_of};
 use fz_base::Value;
-use fz_judge::Giver;
-use fz_judge::fz_model::Partial;
+use fz_judge::{Giver, Partial};
 use std::alloc::{AllocError, Global};
 
 /// The most variables of an explanation.
@@ -18,7 +17,7 @@ pub(crate) const MOST_VARIABLES: usize = 12;
 pub(crate) const FIRST_VARIABLES: usize = 8;
 
 /// A variable's number, its value where it has one, and where that comes from.
-#[derive(Debug, Drop)]
+#[derive(Drop)]
 pub struct Explained {
     pub variable: usize,
     pub value: Option<Value>,
@@ -26,7 +25,7 @@ pub struct Explained {
 }
 
 /// Variables in their order, and how many are left out behind the first eight.
-#[derive(Debug, Drop)]
+#[derive(Drop)]
 pub struct Explanation {
     pub variables: Vec<Explained>,
     pub left_out: usize,

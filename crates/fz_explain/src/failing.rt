@@ -6,11 +6,11 @@ ghost use Rattle.fz_judge.specs.of_model.States.{state};
 ghost use Rattle.fz_explain.specs.Firsts.{IsFirst, NoPoint};
 ghost use Rattle.fz_explain.specs.Told.{IsSought, is_sought};
 
-use fz_judge::fz_model::{Model, Partial, State, state};
+use fz_judge::{Model, Partial, State, state};
 use std::alloc::{AllocError, Global};
 
 /// What kind of point is looked for.
-#[derive(Clone, Copy, Debug, PartialEq, Eq)]
+#[derive(Clone, Copy, PartialEq, Eq)]
 pub enum Sought {
     /// One that fails.
     Failing,

@@ -6,11 +6,11 @@ ghost use Rattle.fz_judge.specs.of_model.Slots.{scalar_term, slot_term};
 ghost use Rattle.fz_explain.specs.Fixings.{fixed_value, fixed_values, fixing, fixing_view};
 
 use fz_base::Value;
-use fz_judge::fz_model::{Model, Scalar, Scalars, What, scalar_at};
+use fz_judge::{Model, Scalar, Scalars, What, scalar_at};
 use std::alloc::{AllocError, Global};
 
 /// What a name stands for: of a parameter the only value, of an array those of its elements.
-#[derive(Debug, Drop)]
+#[derive(Drop)]
 pub struct Fixing {
     pub is_array: bool,
     pub values: Vec<Value>,

@@ -2,8 +2,8 @@
 
 use crate::excerpt::shown_text;
 use crate::verdict::Reading;
-use fz_judge::fz_syntax::Ast;
 use fz_places::{Element, element_of};
+use fz_tree::Ast;
 use std::alloc::{AllocError, Global};
 
 /// The name in the MiniZinc model of what has this name, where it is another one: by the table of

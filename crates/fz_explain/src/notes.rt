@@ -11,9 +11,9 @@ use crate::remarks::{Remarks, remarks_on};
 use crate::source::Source;
 use crate::verdict::Reading;
 use fz_base::{IntSet, Range, Value};
-use fz_judge::fz_model::{Domain, Model, Point};
-use fz_judge::fz_syntax::{Basic, Constraint, Expr};
+use fz_judge::{Domain, Model, Point};
 use fz_places::spot_of;
+use fz_tree::{Basic, Constraint, Expr};
 use std::alloc::{AllocError, Global};
 
 /// The most ranges of a set that are shown.

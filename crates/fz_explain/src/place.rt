@@ -7,8 +7,8 @@ ghost use Rattle.fz_judge.specs.of_syntax.View.{bare_notes};
 ghost use Rattle.fz_explain.specs.Spots.{point_notes, point_place};
 
 use fz_base::Span;
-use fz_judge::fz_model::Point;
-use fz_judge::fz_syntax::{Ast, Constraint, Decl, Note};
+use fz_judge::Point;
+use fz_tree::{Ast, Constraint, Decl, Note};
 
 /// The constraint with this number, from 1.
 pub(crate) fn constraint_of<'t, 'a>(ast: &'t Ast<'a>, number: usize) -> Option<&'t Constraint<'a>>

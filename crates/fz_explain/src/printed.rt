@@ -9,9 +9,9 @@ use crate::notes::{note_variables, value_text};
 use crate::place::declaration_of;
 use crate::verdict::Reading;
 use fz_base::{Span, Value};
-use fz_judge::fz_model::{Scalar, Scalars, What, literal_value};
-use fz_judge::fz_syntax::{Literal, Printed, PrintedValue};
+use fz_judge::{Scalar, Scalars, What, literal_value};
 use fz_places::indices_of;
+use fz_tree::{Literal, Printed, PrintedValue};
 use std::alloc::{AllocError, Global};
 
 /// The item of a name that the block of a case prints.

@@ -7,8 +7,7 @@ use crate::message::Message;
 use crate::notes::{note_variables, told_name};
 use crate::variables::variables_of;
 use crate::verdict::Reading;
-use fz_judge::fz_model::Kind;
-use fz_judge::{Found, Left, search};
+use fz_judge::{Found, Kind, Left, search};
 use std::alloc::{AllocError, Global};
 
 /// What is said behind the bounds.

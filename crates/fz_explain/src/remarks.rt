@@ -4,9 +4,9 @@
 use crate::excerpt::{cut_text, shown_text};
 use crate::place::point_notes;
 use crate::verdict::Reading;
-use fz_judge::fz_model::Point;
-use fz_judge::fz_syntax::Note;
+use fz_judge::Point;
 use fz_places::{ModelPlace, NameLine, NameTable, model_place, text_of};
+use fz_tree::Note;
 use std::alloc::{AllocError, Global};
 
 /// What the compiler wrote at a point.

@@ -7,7 +7,7 @@ ghost use Rattle.fz_judge.specs.of_model.Parts.{argument_view, constraint_view, 
 ghost use Rattle.fz_judge.specs.of_model.Slots.{scalar_term, slot_term};
 
 use fz_base::Value;
-use fz_judge::fz_model::{Argument, ConstraintParts, Scalar, Slot, part, scalar_at};
+use fz_judge::{Argument, ConstraintParts, Scalar, Slot, part, scalar_at};
 use std::alloc::{AllocError, Global};
 
 /// Adds the scalars of a list of slots.

@@ -4,11 +4,10 @@ ghost use Rattle.std.specs.Prelude.{◌≡◌, map};
 ghost use Rattle.fz_judge.specs.Givers.{giver_view};
 ghost use Rattle.fz_explain.specs.Sources.{SourcesAreEarlier, giver_of, source_of};
 
-use fz_judge::Giver;
-use fz_judge::fz_model::Partial;
+use fz_judge::{Giver, Partial};
 
 /// Where the value of a variable comes from.
-#[derive(Clone, Copy, Debug, PartialEq, Eq)]
+#[derive(Clone, Copy, PartialEq, Eq)]
 pub enum Source {
     /// It is printed.
     Printed,

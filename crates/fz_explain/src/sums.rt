@@ -9,7 +9,7 @@ ghost use Rattle.fz_explain.specs.Leaving.{first_leaving, leaving_in, leaving_of
 
 use crate::scalars::scalars_at;
 use fz_base::Value;
-use fz_judge::fz_model::{ConstraintParts, Model, Partial, PointParts, Scalar, Wide};
+use fz_judge::{ConstraintParts, Model, Partial, PointParts, Scalar, Wide};
 use std::alloc::{AllocError, Global};
 
 /// The integer value of a scalar: of a literal, or of a variable that has a value.

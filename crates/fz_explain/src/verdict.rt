@@ -19,11 +19,10 @@ use crate::sentence::sentence;
 use crate::sums::too_large_at;
 use crate::variables::variables_of;
 use fz_base::Span;
-use fz_judge::fz_model::{Goal, Model, Partial, Point, Term};
-use fz_judge::fz_syntax::{Ast, Basic, Goal as GoalItem};
-use fz_judge::{Completion, Fault, Giver, Reason, Verdict};
+use fz_judge::{Completion, Fault, Giver, Goal, Model, Partial, Point, Reason, Term, Verdict};
 use fz_places::NameTable;
 use fz_reasons::reason_at;
+use fz_tree::{Ast, Basic, Goal as GoalItem};
 use std::alloc::{AllocError, Global};
 
 /// A case with the model's text, tree and table of names, and the block's filling with its steps.

@@ -10,7 +10,7 @@ use std::io::Read;
 const PIECE: usize = 16_384;
 
 /// Why a reader's bytes can't be had.
-#[derive(Clone, Copy, Debug, PartialEq, Eq)]
+#[derive(Clone, Copy, PartialEq, Eq)]
 pub enum ReadError {
     /// A read failed.
     Failed,

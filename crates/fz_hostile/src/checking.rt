@@ -2,9 +2,10 @@
 
 use crate::outside::{file, is_given, tell, tell_error, tell_text};
 use fz_check::{
-    CheckError, Limits, Report, check, refusal_fault, refusal_text, report_text, show,
-    show_printing_all, status,
+    CheckError, Report, check, refusal_fault, refusal_text, report_text, show, show_printing_all,
+    status,
 };
+use fz_syntax::Limits;
 
 /// Makes a call on the text of a model and, where it takes one, on a stream.
 pub fn make_call(rt: &HostRuntime, call: &str, operands: &[String]) -> Option<()> {

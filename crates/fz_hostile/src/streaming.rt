@@ -1,7 +1,8 @@
 //! Checks over a reader and a writer, either of which may fail.
 
 use crate::outside::{file, number, tell};
-use fz_check::{Answer, CheckError, Claims, Completion, Limits, check_stream, check_stream_up_to};
+use fz_check::{Answer, CheckError, Claims, Completion, check_stream, check_stream_up_to};
+use fz_syntax::Limits;
 use std::alloc::Global;
 use std::io::{self, ErrorKind, Read, Stdout, Write};
 

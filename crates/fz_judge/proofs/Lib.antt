@@ -3,7 +3,6 @@ pub mod Printing
 pub mod Starting
 pub mod Verdicts
 pub mod Refusing
-mod Rows
 pub mod Chains
 pub mod Unique
 pub mod Accepted

@@ -2,9 +2,9 @@
 -- target.
 use Rattle.std.proofs.Common.{◌≡◌, ℕ, zero, suc, ◌+◌, ◌-◌, ◌≤◌, true, false, List, [], ◌∷◌, ◌++◌, map, flat_map, length, Option, Some, None, is_some, slice_get, refl, sym, ap, subst, ◌∙◌, arith}
 use Rattle.std.proofs.lemmas.List.{length-append, length-map}
-use Rattle.fz_search.specs.of_model.declared.Array.{Array}
+use Rattle.fz_search.specs.of_model.of_builtins.of_data.declared.parts.Array.{Array}
 use Rattle.fz_search.specs.of_model.declared.Posted.{Posted}
-use Rattle.fz_search.specs.of_model.declared.Store.{Store}
+use Rattle.fz_search.specs.of_model.of_builtins.of_data.declared.Store.{Store}
 use Rattle.fz_search.specs.of_model.declared.Variable.{Variable}
 use Rattle.fz_search.specs.of_model.Meaning as meaning
 use Rattle.fz_search.specs.of_model.Meaning.{Model, Partial, Point, constraint_points, declared_points, numbered, points, value_at}

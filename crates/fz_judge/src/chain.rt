@@ -10,7 +10,7 @@ ghost use Rattle.fz_judge.specs.declared.completion.Completion.TheVariants.{Off}
 use crate::course::Course;
 use crate::retrace::retrace;
 use crate::steps::{Giver, advance, fill_on};
-use fz_search::fz_model::{Model, Partial};
+use fz_search::{Model, Partial};
 use std::alloc::{AllocError, Global};
 
 /// Takes the steps of the filling before again, and then those that are left.

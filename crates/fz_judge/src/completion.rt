@@ -1,5 +1,5 @@
 /// Whether values that a solver left out, and that nothing forces, are looked for.
-#[derive(Clone, Copy, Debug, PartialEq, Eq)]
+#[derive(Clone, Copy, PartialEq, Eq)]
 pub enum Completion {
     /// A block is judged by what follows from its printed values alone.
     Off,

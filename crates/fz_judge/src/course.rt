@@ -4,7 +4,7 @@ ghost use Rattle.std.specs.Prelude.{IfOk};
 ghost use Rattle.fz_judge.specs.Courses.{IsCourse};
 
 use crate::lone::are_lone;
-use fz_search::fz_model::Model;
+use fz_search::Model;
 use std::alloc::{AllocError, Global};
 
 /// The points that gave steps, in the order in which they gave them.

@@ -13,8 +13,8 @@ ghost use Rattle.fz_judge.specs.BlockView.{located_printed_value};
 ghost use Rattle.fz_judge.specs.Judged.{refusal};
 
 use crate::error::BlockError;
-use fz_search::fz_model::{Kind, Scalar, Scalars, Variable, What, literal_kind, same_kind};
-use fz_stream::fz_syntax::{Literal, Name, PrintedValue};
+use fz_search::{Kind, Scalar, Scalars, Variable, What, literal_kind, same_kind};
+use fz_stream::{Literal, Name, PrintedValue};
 
 /// A literal of another kind.
 fn literal_fault(kind: Kind, literal: &Literal) -> Option<BlockError>

@@ -22,8 +22,7 @@ use crate::further::further;
 use crate::start::{nothing_proposed, start};
 use crate::steps::Giver;
 use fz_base::Span;
-use fz_search::Search;
-use fz_search::fz_model::{Model, Partial};
+use fz_search::{Model, Partial, Search};
 use fz_stream::Block;
 use std::alloc::Global;
 

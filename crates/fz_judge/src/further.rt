@@ -12,8 +12,7 @@ ghost use Rattle.fz_judge.specs.Givers.{AddsSteps};
 ghost use Rattle.fz_judge.specs.Stepping.{GivesNoneAt};
 
 use crate::steps::Giver;
-use fz_search::fz_model::{Model, Partial, forced_any};
-use fz_search::{Place, Search, known_of};
+use fz_search::{Model, Partial, Place, Search, forced_any, known_of};
 use std::alloc::{AllocError, Global};
 
 /// Takes the step that the point of a number gives, and tells whether there was one.

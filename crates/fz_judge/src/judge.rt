@@ -21,8 +21,7 @@ use crate::filling::filled;
 use crate::points::{fault_named, objective, objective_fails, points_verdict};
 use crate::printed::printed_fails;
 use crate::verdict::{Fault, Reason, Verdict};
-use fz_search::fz_model::{Model, Overview, Partial};
-use fz_search::{Found, Search, search};
+use fz_search::{Found, Model, Overview, Partial, Search, search};
 use fz_stream::Block;
 use std::alloc::{AllocError, Global};
 

@@ -5,8 +5,7 @@
 //! whichever result a row has. An internal crate of `fz_check`.
 //!
 //! What a verdict or an accepted stream means for solutions is defined in `specs/`, and told by the
-//! laws in `laws.rt`. The definitions are computed on worked blocks in `proofs/Rows.antt`; worked
-//! cases of the code that meets them are in `tests/cases`.
+//! laws in `laws.rt`. Worked cases are in `tests/cases`.
 #![tactic(auto)]
 
 mod chain;
@@ -32,9 +31,15 @@ mod watch;
 pub use completion::Completion;
 pub use error::BlockError;
 pub use filling::{fill, fill_with_steps};
-pub use fz_search::{Found, Left, Refutation, fz_model, search};
-pub use fz_stream;
-pub use fz_stream::fz_syntax;
+pub use fz_search::{
+    Argument, ConstraintParts, Domain, Found, Goal, Kind, Left, LoadError, Model, ModelError,
+    Partial, Point, PointParts, Refutation, Scalar, Scalars, Slot, State, Term, What, Wide,
+    literal_value, load, load_text, part, scalar_at, search, state,
+};
+pub use fz_stream::{
+    Ast, Block, Claim, ClaimKind, Decl, Limits, Name, Note, Part, Splitter, Stream, StreamError,
+    SyntaxError, blocks, parse_within, to_text,
+};
 pub use judge::Judge;
 pub use laws::{
     accepted_are_judged, accepted_have_solutions, blocks_are_bare, completed_keep_verdicts,

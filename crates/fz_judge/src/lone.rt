@@ -5,7 +5,7 @@ ghost use Rattle.fz_search.specs.of_model.Shown.{point_view};
 ghost use Rattle.fz_judge.specs.Courses.{AreKept, IsNoted};
 ghost use Rattle.fz_judge.specs.Runs.{AreLone};
 
-use fz_search::fz_model::{Model, PointParts, Term, only_number};
+use fz_search::{Model, PointParts, Term, only_number};
 use std::alloc::{AllocError, Global};
 
 /// Stores that a point can give a variable a value; `true` where it is the only one so far. The

@@ -7,7 +7,7 @@ ghost use Rattle.fz_search.specs.of_model.Parts.{constraint_view, kept_row};
 ghost use Rattle.fz_search.specs.of_model.Shown.{IfConstraint, point_view};
 ghost use Rattle.fz_judge.specs.Outlooks.{IsOutlook, open_variable};
 
-use fz_search::fz_model::{ConstraintParts, Opening, Partial, PointParts, Term, opening_of};
+use fz_search::{ConstraintParts, Opening, Partial, PointParts, Term, opening_of};
 
 /// What a point that gives nothing waits for.
 #[derive(Clone, Copy)]

@@ -11,7 +11,7 @@ ghost use Rattle.fz_judge.specs.Working.{is_failed, reason_named};
 
 use crate::verdict::{Fault, Reason, Verdict};
 use fz_base::Value;
-use fz_search::fz_model::{
+use fz_search::{
     Goal, Model, Overview, Partial, Point, State, Term, Variable, all_hold, is_held, state,
 };
 use std::alloc::{AllocError, Global};

@@ -18,8 +18,8 @@ ghost use Rattle.fz_judge.specs.Working.{has_value, have_values};
 
 use crate::values::{is_number, is_of_literal, is_set, is_truth};
 use crate::verdict::Fault;
-use fz_search::fz_model::{Model, Partial, Scalar, Scalars, What, scalar_at};
-use fz_stream::fz_syntax::{Literal, Printed, PrintedValue};
+use fz_search::{Model, Partial, Scalar, Scalars, What, scalar_at};
+use fz_stream::{Literal, Printed, PrintedValue};
 use std::alloc::{AllocError, Global};
 
 /// Whether the variable of a number has the value of the literal.

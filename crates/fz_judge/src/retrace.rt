@@ -5,7 +5,7 @@ ghost use Rattle.fz_search.specs.of_model.Meaning.{IsPartial};
 ghost use Rattle.fz_judge.specs.Runs.{Run};
 
 use crate::course::Trail;
-use fz_search::fz_model::{Model, Partial, forced};
+use fz_search::{Model, Partial, forced};
 use std::alloc::{AllocError, Global};
 
 /// Takes the step that the point of a number gives, if there is one.

@@ -19,8 +19,8 @@ ghost use Rattle.fz_judge.specs.Working.{HasRoom, IsWithin, element_pairs, item_
 use crate::error::BlockError;
 use crate::faults::value_fault;
 use fz_base::Value;
-use fz_search::fz_model::{Model, Partial, Scalar, Scalars, What, literal_value, scalar_at};
-use fz_stream::fz_syntax::{Literal, LiteralKind, Printed, PrintedValue};
+use fz_search::{Model, Partial, Scalar, Scalars, What, literal_value, scalar_at};
+use fz_stream::{Literal, LiteralKind, Printed, PrintedValue};
 use std::alloc::{AllocError, Global};
 
 /// Gives a variable without a value that of a literal. A number or a Boolean is set with no copy on

@@ -15,7 +15,7 @@ use crate::course::Trail;
 use crate::outlook::{Outlook, Waiting, outlook_of};
 use crate::watch::Watch;
 use fz_base::Value;
-use fz_search::fz_model::{Model, Partial, Posted, forced};
+use fz_search::{Model, Partial, Posted, forced};
 use std::alloc::{AllocError, Global};
 
 /// A forced step: the number of the point that gives it, the variable's number, and the value.

@@ -7,8 +7,8 @@ ghost use Rattle.fz_search.specs.of_model.Relations.{same_value};
 ghost use Rattle.fz_stream.specs.of_syntax.View.{bare_literal_kind};
 
 use fz_base::{IntSet, Value};
-use fz_search::fz_model::literal_value;
-use fz_stream::fz_syntax::LiteralKind;
+use fz_search::literal_value;
+use fz_stream::LiteralKind;
 use std::alloc::{AllocError, Global};
 
 /// Whether a number is the literal's value.

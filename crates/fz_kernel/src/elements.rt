@@ -2,8 +2,7 @@
 
 use crate::slots::{slot_int, slot_set, slot_truth, slots_are_read};
 use fz_base::{IntSet, Value};
-use fz_data::fz_meaning::Kind;
-use fz_data::{Partial, Slot};
+use fz_data::{Kind, Partial, Slot};
 
 /// The elements of an array argument. Where one has no value of the kind that is asked for, a
 /// reading gives 0, false or the empty set.

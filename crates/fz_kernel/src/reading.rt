@@ -9,7 +9,7 @@ use fz_data::{number_of, truth_of};
 
 /// Whether the arguments of a constraint can be read as its row asks: each scalar has a value of
 /// the kind; or each has a value, but one is of another kind; or one has none.
-#[derive(Clone, Copy, Debug, PartialEq, Eq)]
+#[derive(Clone, Copy, PartialEq, Eq)]
 pub enum Readiness {
     Ready,
     WrongKind,

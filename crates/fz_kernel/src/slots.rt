@@ -10,8 +10,7 @@ ghost use Rattle.fz_kernel.specs.Views.{slot_read};
 
 use crate::reading::{bool_in, int_in, set_in};
 use fz_base::{IntSet, Value};
-use fz_data::fz_meaning::Kind;
-use fz_data::{Partial, Slot, kind_of, same_kind};
+use fz_data::{Kind, Partial, Slot, kind_of, same_kind};
 
 /// The number of a constant.
 #[inline(always)]

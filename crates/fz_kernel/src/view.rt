@@ -4,8 +4,7 @@ use crate::elements::Elements;
 use crate::reading::Readiness;
 use crate::slots::{slot_int, slot_is_read, slot_set, slot_truth};
 use fz_base::{IntSet, Value};
-use fz_data::fz_meaning::Shape;
-use fz_data::{Argument, ConstraintParts, Partial, Slot, part};
+use fz_data::{Argument, ConstraintParts, Partial, Shape, Slot, part};
 
 /// A constraint's arguments under a partial assignment.
 #[derive(Clone, Copy)]

@@ -9,7 +9,6 @@ pub mod Lexed
 pub mod Next
 pub mod Numbers
 pub mod Printed
-pub mod Rows
 pub mod Runs
 pub mod Short
 pub mod Spelled

@@ -32,7 +32,7 @@ pub struct Tokens<'a> {
 }
 
 /// A token, and the byte range of the comma right after it.
-#[derive(Clone, Copy, Debug)]
+#[derive(Clone, Copy)]
 pub struct Listed<'a> {
     pub token: Token<'a>,
     pub comma: Span,

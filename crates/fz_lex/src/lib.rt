@@ -14,7 +14,7 @@ mod word;
 
 pub use ahead::{Listed, Tokens};
 pub use error::SyntaxError;
-pub use fz_base;
+pub use fz_base::Span;
 pub use lexer::lex;
 pub use limits::Limits;
 pub use token::{Mark, Token, TokenKind};

@@ -5,7 +5,7 @@ ghost use Rattle.std.specs.Prelude.{◌≡◌};
 /// The most bytes of a text, elements of one list in brackets or braces and levels of annotations
 /// in one another, and the greatest length of an array. There are two such values: what no call is
 /// given limits for is read under `STANDARD`.
-#[derive(Clone, Copy, Debug)]
+#[derive(Clone, Copy)]
 pub struct Limits {
     bytes: usize,
     elements: usize,

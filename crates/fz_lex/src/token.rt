@@ -29,7 +29,7 @@ pub enum TokenKind {
 }
 
 /// A token, its byte range in its source, and its text: the slice of the source at that range.
-#[derive(Clone, Copy, Debug)]
+#[derive(Clone, Copy)]
 pub struct Token<'a> {
     pub kind: TokenKind,
     pub span: Span,

@@ -11,7 +11,6 @@ pub mod States
 pub mod Powers
 pub mod Places
 pub mod NamedKinds
-pub mod Writing
 pub mod Named
 pub mod FoundRows
 pub mod TableRows

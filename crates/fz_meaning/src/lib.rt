@@ -7,8 +7,7 @@
 //! numbers are computed in 128 bits, and which arguments may be filled. When a row holds is in the
 //! definitions alone (`specs/Builtins.antt`).
 //!
-//! Its definitions are computed on worked rows in `proofs/Rows.antt`; the worked cases of the table
-//! are in `tests/cases` (`builtins.txt`).
+//! The worked cases of the table are in `tests/cases` (`builtins.txt`).
 #![tactic(auto)]
 
 mod builtin;
@@ -24,7 +23,7 @@ ghost use Rattle.fz_meaning.specs.Laws.{LocatedIsBare, NumbersAgree, StepsAreFor
 
 pub use builtin::Builtin;
 pub use error::ModelError;
-pub use fz_syntax;
+pub use fz_syntax::{ConstraintItems, DeclItems, Offer, PredicateItems};
 pub use kind::Kind;
 pub use known::{Form, Known};
 pub use row::{Filled, Matrix, Shape, Wide};

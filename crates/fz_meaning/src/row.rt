@@ -7,14 +7,14 @@ use crate::builtin::Builtin;
 use crate::kind::Kind;
 
 /// What an argument is: a scalar of a kind, or an array of such.
-#[derive(Clone, Copy, Debug, PartialEq, Eq)]
+#[derive(Clone, Copy, PartialEq, Eq)]
 pub enum Shape {
     Scalar(Kind),
     Array(Kind),
 }
 
 /// Which arguments `defines_var` may name, by their indices, counted from 0.
-#[derive(Clone, Copy, Debug, PartialEq, Eq)]
+#[derive(Clone, Copy, PartialEq, Eq)]
 pub enum Filled {
     Nothing,
     /// The one at this index.
@@ -27,7 +27,7 @@ pub enum Filled {
 
 /// An array that was a matrix, and is written row by row: how long its rows are. Arguments are told
 /// by their indices, counted from 0.
-#[derive(Clone, Copy, Debug, PartialEq, Eq)]
+#[derive(Clone, Copy, PartialEq, Eq)]
 pub enum Matrix {
     /// No array was one.
     Absent,
@@ -39,7 +39,7 @@ pub enum Matrix {
 }
 
 /// A number that a row computes in signed 128 bits, by the indices of arguments, counted from 0.
-#[derive(Clone, Copy, Debug, PartialEq, Eq)]
+#[derive(Clone, Copy, PartialEq, Eq)]
 pub enum Wide {
     /// The sum of the products of two arrays.
     Products(usize, usize),

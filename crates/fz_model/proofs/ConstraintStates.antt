@@ -19,7 +19,7 @@ use Rattle.fz_builtins.proofs.of_kernel.Ready.{ready_values, values_given, value
 use Rattle.fz_builtins.proofs.of_kernel.Sums.{are_ints, leave_are, numbers_with_bool, unknown_are}
 use Rattle.fz_builtins.specs.declared.outcome.Outcome.TheVariants as outcome
 use Rattle.fz_builtins.specs.Outcomes.{outcome_beyond, reads_beyond, row_outcome, told}
-use Rattle.fz_builtins.proofs.Rows.{outcome_is}
+use Rattle.fz_builtins.proofs.RowTests.{outcome_is}
 
 -- ---- a row computes with numbers
 

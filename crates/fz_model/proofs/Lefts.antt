@@ -18,7 +18,7 @@ use Rattle.fz_builtins.proofs.of_meaning.Powers.{only_place}
 use Rattle.fz_builtins.specs.Said.{HasNone, HasResult, IsSaid, asked_place, is_result, row_with}
 use Rattle.fz_builtins.specs.declared.said.Said.{Said}
 use Rattle.fz_builtins.specs.declared.said.Said.TheVariants as said
-use Rattle.fz_builtins.proofs.Rows.{with_is}
+use Rattle.fz_builtins.proofs.RowTests.{with_is}
 use Rattle.fz_model.specs.Left.{IsLeft, IsLeftAt, IsLeftIfComputed, IsLeftNumber, IsLeftPlain, IsOfKind, IsPlaceOf, holds_with}
 use Rattle.fz_model.proofs.Reified.{told_nothing}
 

@@ -33,6 +33,5 @@ pub use Rattle.fz_builtins.proofs.of_meaning.States
 pub use Rattle.fz_builtins.proofs.of_meaning.Powers
 pub use Rattle.fz_builtins.proofs.of_meaning.Places
 pub use Rattle.fz_builtins.proofs.of_meaning.NamedKinds
-pub use Rattle.fz_builtins.proofs.of_meaning.Writing
 pub use Rattle.fz_builtins.proofs.of_data.Tabled
 pub use Rattle.fz_builtins.proofs as of_builtins

@@ -20,7 +20,7 @@ use Rattle.fz_builtins.proofs.of_meaning.WithTruth.{reified_result}
 use Rattle.fz_builtins.specs.of_kernel.Given.{given, given_from, given_values, read_unknown}
 use Rattle.fz_builtins.specs.Outcomes.{outcome_beyond, reads_beyond, row_outcome}
 use Rattle.fz_builtins.proofs.FormOutcomes.{all_read}
-use Rattle.fz_builtins.proofs.Rows.{outcome_is}
+use Rattle.fz_builtins.proofs.RowTests.{outcome_is}
 use Rattle.fz_builtins.specs.declared.outcome.Outcome.TheVariants.{Truth as TruthOutcome, TooLarge, Unknown}
 use Rattle.fz_builtins.specs.declared.outcome.Outcome.{Outcome}
 use Rattle.fz_builtins.proofs.of_meaning.Powers.{only_place}

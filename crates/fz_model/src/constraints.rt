@@ -11,10 +11,10 @@ ghost use Rattle.fz_builtins.specs.of_kernel.Views.{arguments_of, assigned};
 ghost use Rattle.fz_builtins.specs.Outcomes.{outcome_beyond, reads_beyond, row_outcome, told};
 ghost use Rattle.fz_builtins.specs.declared.outcome.Outcome.TheVariants.{Truth};
 
-use fz_builtins::fz_data::{ConstraintParts, Partial};
-use fz_builtins::fz_kernel::{ArgumentView, Readiness};
-use fz_builtins::fz_meaning::{Form, Known, State};
-use fz_builtins::{Outcome, control, is_unknown, leaves, of_builtin};
+use fz_builtins::{
+    ArgumentView, ConstraintParts, Form, Known, Outcome, Partial, Readiness, State, control,
+    is_unknown, leaves, of_builtin,
+};
 use std::alloc::{AllocError, Global};
 
 /// The state of a constraint: unknown without a row, whatever its values are; then without a value;

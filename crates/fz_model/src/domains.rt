@@ -12,8 +12,7 @@ ghost use Rattle.fz_builtins.specs.of_data.Slots.{scalar_term, slot_term};
 ghost use Rattle.fz_builtins.specs.of_kernel.Given.{has_value};
 
 use fz_base::{IntSet, Value};
-use fz_builtins::fz_data::{Partial, Scalar, Scalars, scalar_at};
-use fz_builtins::fz_meaning::{Domain, State};
+use fz_builtins::{Domain, Partial, Scalar, Scalars, State, scalar_at};
 
 fn judged(holds: bool) -> State
     ensures { result ≡ judged holds }

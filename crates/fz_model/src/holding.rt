@@ -13,9 +13,7 @@ use crate::constraints::of_ready;
 use crate::overview::Overview;
 use crate::points::state;
 use crate::whole::lie_inside;
-use fz_builtins::fz_data::{ConstraintParts, Model, Partial, item_at};
-use fz_builtins::fz_kernel::ArgumentView;
-use fz_builtins::fz_meaning::State;
+use fz_builtins::{ArgumentView, ConstraintParts, Model, Partial, State, item_at};
 use std::alloc::{AllocError, Global};
 
 /// Whether a point of this state holds.

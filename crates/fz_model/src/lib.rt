@@ -1,8 +1,9 @@
 //! Models of FlatZinc: what they mean, loading them, and what a point says under a partial
-//! assignment. It also offers what its internal crates have: `fz_meaning` has the definitions, the
-//! table of builtins and the laws, and `fz_data` the loaded model; `fz_kernel` reads the arguments of
-//! a constraint, and has the relations of the builtins, `fz_globals` and `fz_scheduling` those of
-//! the global constraints; `fz_builtins` tells whether a row of THE TABLE holds.
+//! assignment. It also offers what the crates above use of its internal ones: `fz_meaning` has the
+//! definitions, the table of builtins and the laws, and `fz_data` the loaded model; `fz_kernel`
+//! reads the arguments of a constraint, and has the relations of the builtins, `fz_globals` and
+//! `fz_scheduling` those of the global constraints; `fz_builtins` tells whether a row of THE TABLE
+//! holds.
 //!
 //! The state of a point: whether a domain, a definition or a constraint holds, fails or cannot be
 //! told (`state`); and whether all points hold (`all_hold`), which an `Overview` of the model makes
@@ -31,15 +32,11 @@ mod unit;
 mod value;
 mod whole;
 
-pub use fz_builtins;
-pub use fz_builtins::fz_data::{
-    Argument, Array, ConstraintParts, Constraints, Found, Goal, LoadError, Model, Partial, Point,
-    PointParts, Posted, Scalar, ScalarList, Scalars, Segment, Slot, Store, Variable, What, item_at,
-    kind_of, literal_kind, literal_value, load, load_text, part, same_kind, scalar_at,
-};
-pub use fz_builtins::fz_meaning::{
-    Builtin, Domain, Filled, Form, Kind, Known, ModelError, Shape, State, Term, Wide,
-    located_is_bare, numbers_agree, steps_are_forced, unknown_is_not_known,
+pub use fz_builtins::{
+    Argument, ArgumentView, Builtin, ConstraintParts, Domain, Form, Found, Goal, Kind, Known,
+    LoadError, Model, ModelError, Partial, Point, PointParts, Posted, Readiness, Scalar, Scalars,
+    Slot, State, Term, Variable, What, Wide, all_true, any_false, any_true, control_index, kind_of,
+    literal_kind, literal_value, load, load_text, part, same_kind, scalar_at,
 };
 pub use holding::{all_hold, is_held};
 pub use only::{Opening, Spot, opening_of};

@@ -18,9 +18,7 @@ use crate::only::{Opening, Spot, open_in_row, opening_of};
 use crate::unit::unit_value;
 use crate::value::left_value;
 use fz_base::Value;
-use fz_builtins::fz_data::{ConstraintParts, Partial, Posted};
-use fz_builtins::fz_kernel::ArgumentView;
-use fz_builtins::fz_meaning::{Filled, Known};
+use fz_builtins::{ArgumentView, ConstraintParts, Filled, Known, Partial, Posted};
 use std::alloc::{AllocError, Global};
 
 /// What a constraint forces: the value that its row leaves to its defined variable, where that is

@@ -11,8 +11,7 @@ ghost use Rattle.fz_model.specs.Forced.{IsFitting, IsForced, IsOnlyNumber};
 
 use crate::row::{by_any_result, by_row};
 use fz_base::Value;
-use fz_builtins::fz_data::{Model, Partial, PointParts, Variable, kind_of, same_kind};
-use fz_builtins::fz_meaning::{Domain, Kind, Term};
+use fz_builtins::{Domain, Kind, Model, Partial, PointParts, Term, Variable, kind_of, same_kind};
 use std::alloc::{AllocError, Global};
 
 /// The forced step of the point of a number: the variable's number and the value that the point

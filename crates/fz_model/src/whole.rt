@@ -6,7 +6,7 @@ ghost use Rattle.fz_model.specs.Whole.{lie_inside, lies_inside};
 
 use crate::domains::is_inside;
 use fz_base::Value;
-use fz_builtins::fz_data::{Variable, kind_of, same_kind};
+use fz_builtins::{Variable, kind_of, same_kind};
 
 /// Whether there is a value, it is of the variable's kind, and it lies in the variable's domain.
 #[inline]

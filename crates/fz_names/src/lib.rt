@@ -5,5 +5,8 @@ mod hashing;
 mod names;
 mod numbered;
 
-pub use fz_meaning;
+pub use fz_meaning::{
+    Builtin, ConstraintItems, DeclItems, Domain, Filled, Form, Kind, Known, Matrix, ModelError,
+    Offer, PredicateItems, Shape, State, Term, Wide, same_text,
+};
 pub use names::{Names, Standing};

@@ -1,4 +1,4 @@
 pub mod Indices
 pub mod Parting
-pub mod Rows
+pub mod TableReading
 pub mod Forms

@@ -7,7 +7,7 @@ ghost use Rattle.fz_meaning.specs.Meaning.{first_some};
 ghost use Rattle.fz_meaning.specs.of_syntax.View.{bare_arg, bare_basic, bare_note, bare_notes};
 ghost use Rattle.fz_places.specs.Annotations.{argument_of, text};
 
-use fz_meaning::fz_syntax::{Note, NoteArg, NoteBasic};
+use fz_tree::{Note, NoteArg, NoteBasic};
 
 /// The argument of an annotation of this name, where it has exactly one.
 fn argument<'t, 'a>(note: &'t Note<'a>, name: &[u8]) -> Option<&'t NoteArg<'a>>

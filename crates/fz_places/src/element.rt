@@ -10,14 +10,14 @@ ghost use Rattle.fz_meaning.specs.of_syntax.View.{bare_arg, bare_basic, bare_dec
 ghost use Rattle.fz_places.specs.Elements.{element_in, element_view, elements_of, index_between, index_in, indices_at, indices_in, indices_of, is_name, listed, range_of};
 
 use crate::annotation::argument_of;
-use fz_meaning::fz_syntax::{Ast, Basic, Decl, Expr, LiteralKind, NoteArg, NoteBasic};
+use fz_tree::{Ast, Basic, Decl, Expr, LiteralKind, NoteArg, NoteBasic};
 use std::alloc::{AllocError, Global};
 
 /// The name of the annotation that has the index sets of an array.
 const OUTPUT_ARRAY: &[u8] = b"output_array";
 
 /// An element of an array: the array's name, and the element's indices.
-#[derive(Debug, Drop)]
+#[derive(Drop)]
 pub struct Element<'a> {
     pub array: &'a [u8],
     pub indices: Vec<i64>,

@@ -9,7 +9,7 @@ const LF: u8 = b'\n';
 
 /// Where a byte is in a text: the number of its line, from 1, its column in characters, from 1, the
 /// bytes of the line before it, and those from it on. The LF that ends a line belongs to neither.
-#[derive(Clone, Copy, Debug)]
+#[derive(Clone, Copy)]
 pub struct Spot<'a> {
     pub line: usize,
     pub column: usize,

@@ -19,7 +19,7 @@ const CR: u8 = b'\r';
 const TAB: u8 = b'\t';
 
 /// A line of the table.
-#[derive(Clone, Copy, Debug)]
+#[derive(Clone, Copy)]
 pub struct NameLine<'n> {
     /// A name in FlatZinc, or the number of a constraint there, from 0.
     pub name: &'n [u8],
@@ -61,7 +61,7 @@ impl From<AllocError> for TableError {
 }
 
 /// The lines of a table, in their order.
-#[derive(Debug, Drop)]
+#[derive(Drop)]
 pub struct NameTable<'n> {
     lines: Vec<NameLine<'n>>,
 }

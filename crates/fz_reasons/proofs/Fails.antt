@@ -14,7 +14,7 @@ use Rattle.fz_builtins.specs.Outcomes.{row_outcome, sum_outcome}
 use Rattle.fz_builtins.specs.declared.outcome.Outcome.{Outcome}
 use Rattle.fz_builtins.specs.declared.outcome.Outcome.TheVariants.{Truth}
 use Rattle.fz_builtins.specs.Said.{is_result}
-use Rattle.fz_builtins.proofs.Rows.{holds_at, same_int_either_way}
+use Rattle.fz_builtins.proofs.RowTests.{holds_at, same_int_either_way}
 use Rattle.fz_reasons.specs.Compared.{comparison, leave, operands}
 use Rattle.fz_reasons.specs.Relating.{relates}
 use Rattle.fz_reasons.specs.Elements.{AreUnlike, IsCount, IsOutside}

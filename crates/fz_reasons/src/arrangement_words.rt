@@ -3,8 +3,7 @@
 use crate::arrangement::{Arrangement, BinLoad, NoIndex, Ring, Run, Total};
 use crate::element_words::from_one;
 use crate::rings::follow;
-use fz_builtins::fz_kernel::{ArgumentView, Elements};
-use fz_builtins::fz_meaning::Builtin;
+use fz_builtins::{ArgumentView, Builtin, Elements};
 use std::alloc::{AllocError, Global};
 
 /// The most positions of a ring that are listed.

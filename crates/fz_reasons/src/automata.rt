@@ -12,10 +12,7 @@ ghost use Rattle.fz_reasons.specs.Reasons.{Says, numbers_at};
 use crate::places::lies_between;
 use crate::readings::numbers_in;
 use crate::reason::{ElementKind, NearRow, NoStep, Reason};
-use fz_builtins::fz_globals::tables::{is_bool_row, is_int_row};
-use fz_builtins::fz_kernel::{ArgumentView, Elements};
-use fz_builtins::fz_meaning::Builtin;
-use fz_builtins::fz_scheduling::words::next_state;
+use fz_builtins::{ArgumentView, Builtin, Elements, is_bool_row, is_int_row, next_state};
 use std::alloc::{AllocError, Global};
 
 /// The symbol that has no step or the state in which the automaton ends; or the row of the table

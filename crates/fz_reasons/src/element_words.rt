@@ -7,9 +7,7 @@ use crate::reason::{
     Reason, Sides, Stretch,
 };
 use crate::words::{comes_text, sign, value_text};
-use fz_builtins::fz_kernel::ArgumentView;
-use fz_builtins::fz_meaning::Builtin;
-use fz_builtins::fz_scheduling::runs_at;
+use fz_builtins::{ArgumentView, Builtin, runs_at};
 use std::alloc::{AllocError, Global};
 
 /// The most tasks that are listed.

@@ -10,10 +10,7 @@ use crate::arrangement::{BinLoad, Run, Total};
 use crate::places::lies_between;
 use crate::readings::number_count;
 use fz_base::IntSet;
-use fz_builtins::fz_kernel::Elements;
-use fz_builtins::fz_kernel::arrays::sum_of_products;
-use fz_builtins::fz_scheduling::bins::load_of;
-use fz_builtins::fz_scheduling::slides::term_at;
+use fz_builtins::{Elements, load_of, sum_of_products, term_at};
 
 /// The first bin, from `first` on, that has another load than the one that is given for it.
 pub(crate) fn other_load(

@@ -12,11 +12,9 @@ ghost use Rattle.fz_reasons.specs.Reasons.{IsMisplaced, Says, in_sets, is_mispla
 use crate::places::lies_between;
 use crate::reason::{Member, Reason};
 use fz_base::IntSet;
-use fz_builtins::fz_globals::{has, index_at, place_from};
-use fz_builtins::fz_kernel::arrays::set_element;
-use fz_builtins::fz_kernel::sets::same_set;
-use fz_builtins::fz_kernel::{ArgumentView, Elements};
-use fz_builtins::fz_meaning::Builtin;
+use fz_builtins::{
+    ArgumentView, Builtin, Elements, has, index_at, place_from, same_set, set_element,
+};
 use std::alloc::{AllocError, Global};
 
 /// A number that is in one set and not in another, or that isn't in the set; or that two sets are

@@ -9,8 +9,7 @@ ghost use Rattle.fz_reasons.specs.Reasons.{IsNegative};
 use crate::arranged::adds_up;
 use crate::reason::{Negative, Quantity};
 use crate::tasks::stretch_at;
-use fz_builtins::fz_kernel::ArgumentView;
-use fz_builtins::fz_meaning::Builtin;
+use fz_builtins::{ArgumentView, Builtin};
 
 /// The first quantity that is below 0 and must not be.
 pub(crate) fn by_negative(builtin: Builtin, view: &ArgumentView<'_, '_>) -> Option<Negative>

@@ -5,9 +5,7 @@ ghost use Rattle.fz_builtins.specs.of_kernel.Views.{ints, slots_of, under};
 ghost use Rattle.fz_reasons.specs.Reasons.{element_kind, numbers_of};
 
 use crate::reason::ElementKind;
-use fz_builtins::fz_kernel::Elements;
-use fz_builtins::fz_kernel::numbers::number_of_truth;
-use fz_builtins::fz_meaning::Builtin;
+use fz_builtins::{Builtin, Elements, number_of_truth};
 use std::alloc::{AllocError, Global};
 
 /// How many numbers there are.

@@ -8,9 +8,7 @@ ghost use Rattle.fz_reasons.specs.Reasons.{Says};
 
 use crate::reason::{OtherNumber, OtherTruth, Reason};
 use fz_base::SetError;
-use fz_builtins::fz_kernel::ArgumentView;
-use fz_builtins::fz_meaning::Builtin;
-use fz_builtins::{Said, said_of};
+use fz_builtins::{ArgumentView, Builtin, Said, said_of};
 use std::alloc::{AllocError, Global};
 
 /// The result of a row that has one, a number or a Boolean, where the argument has another value.

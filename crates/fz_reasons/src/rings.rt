@@ -6,9 +6,7 @@ ghost use Rattle.fz_builtins.specs.of_kernel.Views.{ints};
 ghost use Rattle.fz_reasons.specs.Tours.{ComesBack, IsShortRing, LeavesOut};
 
 use crate::arrangement::Ring;
-use fz_builtins::fz_globals::tours::{count_moved, first_moved};
-use fz_builtins::fz_kernel::Elements;
-use fz_builtins::fz_kernel::arrays::int_element_at;
+use fz_builtins::{Elements, count_moved, first_moved, int_element_at};
 
 /// The position that follows a position; none where that is no position.
 pub fn follow(first: i64, next: &Elements, position: i128) -> Option<i128>

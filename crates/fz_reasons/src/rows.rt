@@ -23,9 +23,7 @@ use crate::results::by_result;
 use crate::sides::unlike;
 use crate::tasks::by_tasks;
 use crate::tours::by_tour;
-use fz_builtins::fz_kernel::{ArgumentView, Readiness};
-use fz_builtins::fz_meaning::{Builtin, Form, Known};
-use fz_builtins::{Outcome, control, of_builtin};
+use fz_builtins::{ArgumentView, Builtin, Form, Known, Outcome, Readiness, control, of_builtin};
 use std::alloc::{AllocError, Global};
 
 /// Why the row of a builtin fails at the values that the argument view gives; none where it holds,

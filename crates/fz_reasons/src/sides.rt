@@ -7,11 +7,10 @@ ghost use Rattle.fz_reasons.specs.Compared.{comparison, leave, operands};
 ghost use Rattle.fz_reasons.specs.Reasons.{AreCompared, Unlike};
 
 use crate::reason::{Operands, Relation, Sides};
-use fz_builtins::fz_globals::counts::count_of;
-use fz_builtins::fz_kernel::ArgumentView;
-use fz_builtins::fz_kernel::arrays::{all_true, any_true, sum_of_products, sum_where_true};
-use fz_builtins::fz_kernel::numbers::number_of_truth;
-use fz_builtins::fz_meaning::Builtin;
+use fz_builtins::{
+    ArgumentView, Builtin, all_true, any_true, count_of, number_of_truth, sum_of_products,
+    sum_where_true,
+};
 
 /// The numbers that a row compares, and how.
 pub fn sides_of(builtin: Builtin, view: &ArgumentView<'_, '_>) -> Option<Sides>

@@ -8,11 +8,7 @@ ghost use Rattle.fz_reasons.specs.Elements.{AreBoxes, BothLast, IsBin, IsLoad, I
 ghost use Rattle.fz_reasons.specs.Reasons.{Says};
 
 use crate::reason::{Boxes, Load, Overlap, Reason, Relation, Sides, Stretch};
-use fz_builtins::fz_kernel::numbers::sum;
-use fz_builtins::fz_kernel::{ArgumentView, Elements};
-use fz_builtins::fz_meaning::Builtin;
-use fz_builtins::fz_scheduling::bins::load_of;
-use fz_builtins::fz_scheduling::tasks::used_at;
+use fz_builtins::{ArgumentView, Builtin, Elements, load_of, sum, used_at};
 
 /// Two tasks or boxes that overlap, a time at which more is used than there is, or a bin in which
 /// lies more than there is room for.

@@ -12,11 +12,7 @@ ghost use Rattle.fz_reasons.specs.Reasons.{LeadsOneWay, Says};
 
 use crate::reason::{OneWay, Reason};
 use fz_base::IntSet;
-use fz_builtins::fz_globals::channels::is_held;
-use fz_builtins::fz_globals::index_at;
-use fz_builtins::fz_kernel::arrays::int_element_at;
-use fz_builtins::fz_kernel::{ArgumentView, Elements};
-use fz_builtins::fz_meaning::Builtin;
+use fz_builtins::{ArgumentView, Builtin, Elements, index_at, int_element_at, is_held};
 use std::alloc::{AllocError, Global};
 
 /// An index that the other list doesn't lead back to.

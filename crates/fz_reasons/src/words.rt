@@ -8,10 +8,9 @@ use crate::reason::{Operands, OtherNumber, OtherTruth, Reason, Relation, Sides, 
 use crate::rows::{holds, reason_of, why};
 use crate::sides::{comparison, sides_of};
 use fz_base::SetError;
-use fz_builtins::fz_data::{Model, Partial, PointParts};
-use fz_builtins::fz_kernel::{ArgumentView, Elements};
-use fz_builtins::fz_meaning::{Builtin, Form, Known};
-use fz_builtins::{Said, said_of};
+use fz_builtins::{
+    ArgumentView, Builtin, Elements, Form, Known, Model, Partial, PointParts, Said, said_of,
+};
 use std::alloc::{AllocError, Global};
 
 /// The most products that are listed.

@@ -20,5 +20,4 @@ pub mod tasks;
 pub mod weights;
 pub mod words;
 
-pub use fz_kernel;
 pub use spans::runs_at;

@@ -1,7 +1,7 @@
 //! Reading the arguments of a constraint that fits a row.
 
 use fz_base::Value;
-use fz_bounds::fz_model::{Argument, ConstraintParts, Scalar, Scalars, Slot, part, scalar_at};
+use fz_bounds::{Argument, ConstraintParts, Scalar, Scalars, Slot, part, scalar_at};
 
 /// The argument at an index as a scalar: the row has one there.
 pub(crate) fn scalar_in<'m>(parts: &ConstraintParts<'m, '_>, index: usize) -> Scalar<'m> {

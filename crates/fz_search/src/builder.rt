@@ -4,7 +4,7 @@ use crate::arguments::{declared_elements, elements_in, scalar_in};
 use crate::points::Points;
 use crate::relations::{Shape, Terms, shape_of};
 use crate::row::{Claim, Product, Relation, Row, Rule};
-use fz_bounds::fz_model::{
+use fz_bounds::{
     Argument, ConstraintParts, Form, Kind, Model, PointParts, Scalar, Scalars, Slot, Term, part,
     scalar_at,
 };

@@ -5,7 +5,7 @@ use crate::grounds::Step;
 use crate::stop::Stop;
 use crate::work::Work;
 use fz_base::Value;
-use fz_bounds::fz_model::Domain;
+use fz_bounds::Domain;
 use std::alloc::AllocError;
 
 impl<'k, 'm, 'a> Work<'k, 'm, 'a> {

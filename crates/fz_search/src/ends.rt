@@ -1,7 +1,7 @@
 //! Bounds of variables. A Boolean is 0 or 1 there.
 
 use fz_base::Value;
-use fz_bounds::fz_model::{Domain, Kind};
+use fz_bounds::{Domain, Kind};
 
 /// The numbers from one to another; none where the first is above the second.
 #[derive(Clone, Copy)]

@@ -1,6 +1,6 @@
 //! What a search comes to.
 
-use fz_bounds::fz_model::Partial;
+use fz_bounds::Partial;
 
 /// What a search comes to for values that a block leaves out.
 #[derive(Drop)]
@@ -13,7 +13,7 @@ pub enum Found {
 }
 
 /// A variable without a value, and the bounds that other points leave it.
-#[derive(Clone, Copy, Debug)]
+#[derive(Clone, Copy)]
 pub struct Left {
     pub variable: usize,
     pub low: i64,
@@ -22,7 +22,7 @@ pub struct Left {
 
 /// Why no solution has some values: the number of a point that can't hold within the bounds that
 /// other points leave, and these bounds, of the first variables in it that have no value.
-#[derive(Debug, Drop)]
+#[derive(Drop)]
 pub struct Refutation {
     pub point: usize,
     pub left: Vec<Left>,

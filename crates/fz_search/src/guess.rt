@@ -5,7 +5,7 @@ use crate::stop::Stop;
 use crate::subsets::{few_members, subset, subsets_of};
 use crate::work::Work;
 use fz_base::{IntSet, Value};
-use fz_bounds::fz_model::{Kind, State};
+use fz_bounds::{Kind, State};
 use std::alloc::AllocError;
 
 /// At most this many numbers are tried for one variable.

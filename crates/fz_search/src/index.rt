@@ -4,7 +4,7 @@
 use crate::builder::points_of;
 use crate::points::{Points, items_of};
 use crate::row::{Place, Product, Rule};
-use fz_bounds::fz_model::Model;
+use fz_bounds::Model;
 use std::alloc::{AllocError, Global};
 
 const NOWHERE: Place = Place {

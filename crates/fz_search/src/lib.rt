@@ -32,7 +32,12 @@ mod tables;
 mod work;
 
 pub use found::{Found, Left, Refutation};
-pub use fz_bounds::fz_model;
+pub use fz_bounds::{
+    Argument, ConstraintParts, Domain, Goal, Kind, LoadError, Model, ModelError, Opening, Overview,
+    Partial, Point, PointParts, Posted, Scalar, Scalars, Slot, State, Term, Variable, What, Wide,
+    all_hold, forced, forced_any, is_held, literal_kind, literal_value, load, load_text,
+    only_number, opening_of, part, same_kind, scalar_at, state,
+};
 pub use index::Search;
 pub use row::Place;
 pub use searching::{known_of, search};

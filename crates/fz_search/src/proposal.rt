@@ -6,7 +6,7 @@ ghost use Rattle.fz_bounds.specs.of_model.Steps.{kind_at};
 ghost use Rattle.fz_bounds.specs.of_model.Relations.{kind_of};
 
 use fz_base::Value;
-use fz_bounds::fz_model::{Model, Partial, State, forced_any, kind_of, same_kind, state};
+use fz_bounds::{Model, Partial, State, forced_any, kind_of, same_kind, state};
 use std::alloc::{AllocError, Global};
 
 /// Whether a value is of the kind of the variable of a number.

@@ -9,8 +9,7 @@ use crate::conflict::Conflict;
 use crate::found::{Found, Left, Refutation};
 use crate::grounds::Step;
 use crate::index::Search;
-use fz_bounds::fz_model::{Model, Partial};
-use fz_bounds::{Bounds, Tightened, cannot_hold};
+use fz_bounds::{Bounds, Model, Partial, Tightened, cannot_hold};
 use std::alloc::{AllocError, Global};
 
 /// At most so many variables are told of a point.

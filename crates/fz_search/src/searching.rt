@@ -5,6 +5,7 @@ ghost use Rattle.fz_bounds.specs.of_model.Meaning.{IsPartial};
 ghost use Rattle.fz_search.specs.Found.{IsFoundFor};
 ghost use Rattle.fz_search.specs.Refuted.{HoldAll};
 
+use crate::conflict::Conflict;
 use crate::ends::{End, Ends};
 use crate::found::Found;
 use crate::grounds::NO_POINT;
@@ -14,8 +15,7 @@ use crate::refuting::learned;
 use crate::row::Rule;
 use crate::stop::Stop;
 use crate::work::{Budget, Work};
-use fz_bounds::Bounds;
-use fz_bounds::fz_model::{Domain, Goal, Kind, Model, Partial, PointParts, Scalars, Slot, Term};
+use fz_bounds::{Bounds, Domain, Goal, Kind, Model, Partial, PointParts, Scalars, Slot, Term};
 use std::alloc::{AllocError, Global};
 
 /// At most so many numbers are lost on one way.
@@ -198,6 +198,36 @@ struct Task<'t, 'a> {
     filling: &'t Partial,
 }
 
+/// Goes one way from some bounds: what is found, unless a contradiction is met that may show more.
+fn gone(
+    task: &Task<'_, '_>,
+    way: Way,
+    bounds: &Bounds,
+    budget: &mut Budget,
+) -> Result<(Found, Option<Conflict>), AllocError>
+    requires fits { IsPartial task.now.model.now task.now.filling.now }
+    ensures found { IfOk result (λ r. IsFoundFor task.now.model.now task.now.filling.now r.0) }
+{
+    let Task {
+        alloc,
+        known,
+        model,
+        filling,
+    } = *task;
+    let mut work = Work::new(alloc, known, model, filling, bounds, *budget)?;
+    let end = work.complete(way);
+    *budget = work.budget;
+    match end {
+        Ok(()) => Ok((
+            Found::Values(copied(alloc, model, work.proposal.values())?),
+            None,
+        )),
+        Err(Stop::NothingFound) => Ok((Found::Nothing, None)),
+        Err(Stop::Memory) => Err(AllocError),
+        Err(Stop::Contradiction) => Ok((Found::Nothing, work.conflict()?)),
+    }
+}
+
 /// Goes one way from some bounds, and tells what it comes to, unless a number is taken from the
 /// bounds: then it is worth going it again.
 fn attempt(
@@ -211,23 +241,18 @@ fn attempt(
     ensures found { IfOk result (λ o. IfSome o (IsFoundFor task.now.model.now task.now.filling.now)) }
     ensures inside { IfOk result (λ _. HoldAll task.now.model.now task.now.filling.now bounds.new) }
 {
-    let Task {
-        alloc,
-        known,
-        model,
-        filling,
-    } = *task;
-    let mut work = Work::new(alloc, known, model, filling, bounds, *budget)?;
-    let end = work.complete(way);
-    *budget = work.budget;
-    match end {
-        Ok(()) => Ok(Some(Found::Values(copied(alloc, model, work.proposal.values())?))),
-        Err(Stop::NothingFound) => Ok(Some(Found::Nothing)),
-        Err(Stop::Memory) => Err(AllocError),
-        Err(Stop::Contradiction) => match work.conflict()? {
-            Some(conflict) => learned(alloc, known, model, filling, bounds, &conflict),
-            None => Ok(Some(Found::Nothing)),
-        },
+    let (found, conflict) = gone(task, way, bounds, budget)?;
+    match conflict {
+        Some(conflict) => {
+            let Task {
+                alloc,
+                known,
+                model,
+                filling,
+            } = *task;
+            learned(alloc, known, model, filling, bounds, &conflict)
+        }
+        None => Ok(Some(found)),
     }
 }
 
@@ -241,6 +266,21 @@ fn go(task: &Task<'_, '_>, way: Way, bounds: &mut Bounds) -> Result<Found, Alloc
     let mut budget = Budget::new(task.known, task.model);
     for _ in 0..MOST_LOST {
         if let Some(found) = attempt(task, way, bounds, &mut budget)? {
+            return Ok(found);
+        }
+    }
+    Ok(Found::Nothing)
+}
+
+/// Goes one way after another, until something is found.
+fn go_each(task: &Task<'_, '_>, ways: &[Way], bounds: &mut Bounds) -> Result<Found, AllocError>
+    requires fits { IsPartial task.now.model.now task.now.filling.now }
+    requires inside { HoldAll task.now.model.now task.now.filling.now bounds.old }
+    ensures found { IfOk result (IsFoundFor task.now.model.now task.now.filling.now) }
+{
+    for way in ways {
+        let found = go(task, *way, bounds)?;
+        if !matches!(found, Found::Nothing) {
             return Ok(found);
         }
     }
@@ -284,26 +324,19 @@ pub fn search(
         filling,
     };
     let mut bounds = Bounds::new(alloc, model, filling)?;
+    let first = open_objective(model, filling);
     let plain = Way {
         first: None,
         from: End::Low,
         before,
     };
-    if let Some(objective) = open_objective(model, filling) {
-        let first = Some(objective);
-        let found = go(&task, Way { first, ..plain }, &mut bounds)?;
-        if !matches!(found, Found::Nothing) {
-            return Ok(found);
-        }
-    }
-    let found = go(&task, plain, &mut bounds)?;
-    if !matches!(found, Found::Nothing) {
-        return Ok(found);
-    }
     let last = Way {
         first: None,
         from: End::High,
         before: None,
     };
-    go(&task, last, &mut bounds)
+    if first.is_some() {
+        return go_each(&task, &[Way { first, ..plain }, plain, last], &mut bounds);
+    }
+    go_each(&task, &[plain, last], &mut bounds)
 }

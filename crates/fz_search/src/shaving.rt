@@ -3,8 +3,7 @@
 use crate::ends::End;
 use crate::stop::Stop;
 use crate::work::Work;
-use fz_bounds::Tightened;
-use fz_bounds::fz_model::Kind;
+use fz_bounds::{Kind, Tightened};
 
 /// At most so many stretches of numbers are tried at one end.
 const MOST_STRETCHES: usize = 130;

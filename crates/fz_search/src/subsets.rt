@@ -1,7 +1,7 @@
 //! The subsets of a domain with few numbers.
 
 use fz_base::{IntSet, Value};
-use fz_bounds::fz_model::Domain;
+use fz_bounds::Domain;
 use std::alloc::{AllocError, Global};
 
 /// All subsets of at most this many numbers are tried.

@@ -3,8 +3,7 @@
 use crate::ends::{ALL, Ends};
 use crate::index::Search;
 use crate::row::Sums;
-use fz_bounds::Bounds;
-use fz_bounds::fz_model::Partial;
+use fz_bounds::{Bounds, Partial};
 use std::alloc::{AllocError, Global};
 
 /// How far the products of a sum can move: the index of the one that moves furthest, and how far

@@ -8,8 +8,7 @@ use crate::proposal::Proposal;
 use crate::row::{Rule, Sums};
 use crate::stop::Stop;
 use crate::tables::{Reach, all_open, all_sums, ends_in, no_reaches};
-use fz_bounds::Bounds;
-use fz_bounds::fz_model::{Domain, Kind, Model, Partial};
+use fz_bounds::{Bounds, Domain, Kind, Model, Partial};
 use std::alloc::{AllocError, Global};
 
 /// At most this many visits are made for each point of the model. A value that is tried counts as

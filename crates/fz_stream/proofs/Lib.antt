@@ -14,5 +14,4 @@ pub mod FeedLemmas
 pub mod TakenLemmas
 pub mod FaultLemmas
 pub mod PlaceLemmas
-pub mod Rows
 pub use Rattle.fz_syntax.proofs as of_syntax

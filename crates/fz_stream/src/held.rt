@@ -19,7 +19,7 @@ use fz_syntax::Span;
 const MOST_TAKEN: usize = 1_099_511_627_776;
 
 /// The kind of frame that a line ended.
-#[derive(Clone, Copy, Debug)]
+#[derive(Clone, Copy)]
 pub enum Ended {
     BlockEnded,
     ClaimEnded(ClaimKind),

@@ -19,7 +19,10 @@ mod step;
 
 pub use block::Block;
 pub use error::{StreamError, moved_span};
-pub use fz_syntax;
+pub use fz_syntax::{
+    Ast, Decl, Limits, Literal, LiteralKind, Name, Note, Printed, PrintedValue, SyntaxError,
+    parse_within, to_text,
+};
 pub use line::ClaimKind;
 pub use reading::{Claim, Stream, blocks};
 pub use splitter::{Frame, Part, Splitter};

@@ -22,7 +22,7 @@ pub enum ClaimKind {
 }
 
 /// The kinds of lines of a stream.
-#[derive(Clone, Copy, Debug)]
+#[derive(Clone, Copy)]
 pub enum LineKind {
     Blank,
     Comment,

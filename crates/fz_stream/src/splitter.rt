@@ -13,7 +13,7 @@ use std::alloc::Global;
 use std::marker::Model;
 
 /// A part of a stream as its lines tell it: what a block prints isn't read.
-#[derive(Clone, Copy, Debug)]
+#[derive(Clone, Copy)]
 pub enum Frame<'a> {
     /// The byte offset of a block's text in the stream, and the text.
     Block(usize, &'a [u8]),
@@ -28,7 +28,7 @@ pub enum Part<'a> {
 }
 
 /// Whether a splitter takes more of the stream, has reached its end, or has failed.
-#[derive(Clone, Copy, Debug)]
+#[derive(Clone, Copy)]
 pub enum Stage {
     Running,
     Finished,

@@ -5,7 +5,7 @@ use crate::line::{ClaimKind, LineKind};
 
 /// What a line does, where a block is open or none is. Blocks are given by the byte offset of their
 /// text.
-#[derive(Clone, Copy, Debug)]
+#[derive(Clone, Copy)]
 pub enum Step {
     /// Nothing ends, and this block, or none, is open from then on.
     GoesOn(Option<usize>),

@@ -12,7 +12,6 @@ pub mod Whole
 pub mod Words
 pub mod Parsed
 pub mod Offers
-pub mod Rows
 pub mod PrintedLaws
 pub mod IndexSets
 pub mod More

@@ -11,11 +11,10 @@ mod reader;
 
 ghost use Rattle.fz_tree.specs.Refusals.{TextHasOneTree, TextHasOneListOfItems};
 
-pub use fz_tree::fz_lex::fz_base::Span;
-pub use fz_tree::fz_lex::{Limits, Mark, SyntaxError, Token, TokenKind, lex};
 pub use fz_tree::{
-    Ast, Base, Basic, Constraint, Decl, Expr, Goal, Literal, LiteralKind, Name, Note, NoteArg,
-    NoteBasic, Param, Predicate, Printed, PrintedValue, Solve, to_text,
+    Ast, Base, Basic, Constraint, Decl, Expr, Goal, Limits, Literal, LiteralKind, Mark, Name, Note,
+    NoteArg, NoteBasic, Param, Predicate, Printed, PrintedValue, Solve, Span, SyntaxError, Token,
+    TokenKind, lex, to_text,
 };
 pub use parser::{parse, parse_within, read_items, read_items_within};
 pub use reader::{ConstraintItems, DeclItems, Offer, PredicateItems};

@@ -30,8 +30,7 @@ mod types;
 
 use crate::parser::cursor::Parser;
 use crate::reader::PredicateItems;
-use fz_tree::fz_lex::{Limits, SyntaxError, Tokens};
-use fz_tree::{Ast, Printed};
+use fz_tree::{Ast, Limits, Printed, SyntaxError, Tokens};
 use std::alloc::Global;
 
 /// Reads all tokens that are left as printed items.

@@ -9,8 +9,7 @@ ghost use Rattle.fz_syntax.specs.Offering.{IsLeft, IsRefusedAt, IsRefusedBy, IsR
 use crate::parser::cursor::Parser;
 use crate::parser::lists::trimmed;
 use crate::parser::refusal::Refusal;
-use fz_tree::fz_lex::{Limits, SyntaxError, Tokens};
-use fz_tree::{Constraint, Decl, Predicate, Solve};
+use fz_tree::{Constraint, Decl, Limits, Predicate, Solve, SyntaxError, Tokens};
 use std::alloc::Global;
 
 /// What is left of a text. No item is stored.

@@ -5,7 +5,7 @@
 mod printer;
 mod tree;
 
-pub use fz_lex;
+pub use fz_lex::{Limits, Mark, Span, SyntaxError, Token, TokenKind, Tokens, lex};
 pub use printer::to_text;
 pub use tree::{
     Ast, Base, Basic, Constraint, Decl, Expr, Goal, Literal, LiteralKind, Name, Note, NoteArg,

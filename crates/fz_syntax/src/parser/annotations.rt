@@ -11,8 +11,7 @@ ghost use Rattle.fz_syntax.specs.Walk.{Walk, lexemes};
 use crate::parser::cursor::Parser;
 use crate::parser::lists::trimmed;
 use crate::parser::refusal::Refusal;
-use fz_tree::fz_lex::{Limits, Mark, TokenKind};
-use fz_tree::{Note, NoteArg, NoteBasic};
+use fz_tree::{Limits, Mark, Note, NoteArg, NoteBasic, TokenKind};
 
 impl<'a> Parser<'a> {
     /// An annotation of at most `depth` levels.

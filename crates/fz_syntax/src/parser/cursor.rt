@@ -14,9 +14,7 @@ use crate::parser::kinds::{
 };
 use crate::parser::lists::SpareLists;
 use crate::parser::refusal::Refusal;
-use fz_tree::Name;
-use fz_tree::fz_lex::fz_base::Span;
-use fz_tree::fz_lex::{Mark, SyntaxError, TokenKind, Tokens};
+use fz_tree::{Mark, Name, Span, SyntaxError, TokenKind, Tokens};
 use std::alloc::Global;
 
 /// The tokens that are left to read. After a refusal they begin with the token that was refused.

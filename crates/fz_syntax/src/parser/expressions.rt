@@ -13,8 +13,7 @@ use crate::parser::cursor::Parser;
 use crate::parser::kinds::{kind_of, plain_of};
 use crate::parser::lists::trimmed;
 use crate::parser::refusal::Refusal;
-use fz_tree::fz_lex::{Limits, Mark, Token, TokenKind};
-use fz_tree::{Basic, Expr, Literal, LiteralKind};
+use fz_tree::{Basic, Expr, Limits, Literal, LiteralKind, Mark, Token, TokenKind};
 
 impl<'a> Parser<'a> {
     /// Takes the next token and the comma after it, where nothing is between them.

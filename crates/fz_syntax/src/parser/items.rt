@@ -12,8 +12,7 @@ use crate::parser::cursor::Parser;
 use crate::parser::kinds::may_lack_value;
 use crate::parser::lists::trimmed;
 use crate::parser::refusal::Refusal;
-use fz_tree::fz_lex::{Limits, Mark};
-use fz_tree::{Constraint, Decl, Expr, Goal, Param, Predicate, Solve};
+use fz_tree::{Constraint, Decl, Expr, Goal, Limits, Mark, Param, Predicate, Solve};
 
 impl<'a> Parser<'a> {
     #[tactic(auto, unfolding(crate::specs::Reading::param_at, crate::specs::Reading::var_at), using(crate::proofs::Walks::passed_then, crate::proofs::Walks::passed_none, crate::proofs::Walks::passed, crate::proofs::Walks::walk_none, crate::proofs::Errors::fails_unexpected, crate::proofs::Separated::fails_bind))]

@@ -8,8 +8,7 @@ ghost use Rattle.fz_syntax.specs.ReadingItems.{dimensions_of, token_dimensions};
 ghost use Rattle.fz_syntax.specs.Words.{may_be_reserved};
 ghost use Rattle.fz_tree.specs.Text.{is_one_of, type_words, item_words, truth_words, is_reserved};
 
-use fz_tree::LiteralKind;
-use fz_tree::fz_lex::{Mark, Token, TokenKind};
+use fz_tree::{LiteralKind, Mark, Token, TokenKind};
 
 pub(crate) fn is_float(token: &Token<'_>) -> bool
     ensures { result ≡ is_float (lexeme token.now) }

@@ -13,8 +13,7 @@ ghost use Rattle.fz_syntax.specs.Walk.{Passed, Walk, lexemes};
 use crate::parser::cursor::Parser;
 use crate::parser::kinds::dimensions;
 use crate::parser::refusal::Refusal;
-use fz_tree::fz_lex::{Limits, Mark};
-use fz_tree::{Literal, Printed, PrintedValue};
+use fz_tree::{Limits, Literal, Mark, Printed, PrintedValue};
 
 impl<'a> Parser<'a> {
     /// Takes the word that begins an array, and gives the number of its index sets, or 0 where the

@@ -11,8 +11,7 @@ ghost use Rattle.fz_syntax.specs.Walk.{Passed, Walk, lexemes};
 
 use crate::parser::cursor::Parser;
 use crate::parser::refusal::Refusal;
-use fz_tree::fz_lex::{Limits, Mark, TokenKind};
-use fz_tree::{Base, Literal, LiteralKind};
+use fz_tree::{Base, Limits, Literal, LiteralKind, Mark, TokenKind};
 
 /// The most index sets of an array.
 const MOST_INDEXES: usize = 6;

@@ -2,7 +2,7 @@ use Rattle.std.proofs.Common.{rules, ap, ◌∙◌}
 use Rattle.fz_globals.specs.of_meaning.Builtins.{row_at}
 use Rattle.fz_builtins.specs.declared.outcome.Outcome.TheVariants.{Truth}
 use Rattle.fz_builtins.specs.Outcomes.{row_outcome}
-use Rattle.fz_builtins.proofs.Rows.{one_sum}
+use Rattle.fz_builtins.proofs.RowTests.{one_sum}
 use Rattle.fz_builtins.proofs.builtins.of_builtin.Goals as goal
 
 pub returns-in-BoolClause : goal.returns-in-BoolClause

@@ -7,7 +7,7 @@ use Rattle.fz_globals.specs.of_kernel.Views.{arguments_of, assigned}
 use Rattle.fz_builtins.specs.declared.outcome.Outcome.TheVariants.{Truth}
 use Rattle.fz_builtins.specs.Outcomes.{row_outcome}
 use Rattle.fz_builtins.specs.Said.{is_result}
-use Rattle.fz_builtins.proofs.Rows.{element_is, none_told, number_is, one_sum, said_at, same_bool_either_way, same_int_either_way, same_set_either_way, two_sums, value_is}
+use Rattle.fz_builtins.proofs.RowTests.{element_is, none_told, number_is, one_sum, said_at, same_bool_either_way, same_int_either_way, same_set_either_way, two_sums, value_is}
 use Rattle.fz_builtins.proofs.builtins.said_of.Goals as goal
 
 pub returns-in-IntEq : goal.returns-in-IntEq

@@ -8,7 +8,7 @@ use Rattle.fz_globals.specs.of_kernel.Given.{set_at, sets_at}
 use Rattle.fz_globals.specs.of_kernel.Views.{arguments_of, assigned}
 use Rattle.fz_globals.proofs.of_kernel.Read.{sets_counted}
 use Rattle.fz_builtins.proofs.ElementReadings.{sets_are}
-use Rattle.fz_builtins.proofs.Rows.{value_is}
+use Rattle.fz_builtins.proofs.RowTests.{value_is}
 use Rattle.fz_builtins.proofs.flags.set_element_union.Goals as goal
 
 pub returns-then-not-are_indices : goal.returns-then-not-are_indices

@@ -3,7 +3,7 @@ use Rattle.std.proofs.lemmas.Int.{to_z-of_z}
 use Rattle.fz_globals.specs.of_meaning.Relations.{is_index_of_best}
 use Rattle.fz_globals.specs.of_kernel.Views.{arguments_of, assigned, ints}
 use Rattle.fz_builtins.proofs.ElementReadings.{ints_are}
-use Rattle.fz_builtins.proofs.Rows.{index_is}
+use Rattle.fz_builtins.proofs.RowTests.{index_is}
 use Rattle.fz_builtins.proofs.places.argument_of_maximum.Goals as goal
 
 pub returns : goal.returns

@@ -4,7 +4,7 @@ use Rattle.fz_globals.specs.of_meaning.declared.kind.Kind.TheVariants.{Int as In
 use Rattle.fz_globals.specs.of_meaning.Relations.{◌=ℤ◌, ◌=ᴮ◌, ◌=ˢ◌}
 use Rattle.fz_globals.specs.of_kernel.Views.{arguments_of, assigned}
 use Rattle.fz_builtins.specs.Said.{IsSaid, is_result}
-use Rattle.fz_builtins.proofs.Rows.{holds_at}
+use Rattle.fz_builtins.proofs.RowTests.{holds_at}
 use Rattle.fz_builtins.proofs.said.outcome_of.Goals as goal
 
 pub returns-in-Number : goal.returns-in-Number

@@ -3,7 +3,7 @@ use Rattle.std.proofs.lemmas.Int.{to_z-of_z}
 use Rattle.fz_globals.specs.of_meaning.Builtins.{row_at}
 use Rattle.fz_globals.specs.of_meaning.Relations.{◌=ℤ◌, as_number}
 use Rattle.fz_globals.specs.of_meaning.Results.{result_of}
-use Rattle.fz_builtins.proofs.Rows.{number_is}
+use Rattle.fz_builtins.proofs.RowTests.{number_is}
 use Rattle.fz_builtins.proofs.scalars.bool2int.Goals as goal
 
 pub returns-then-first : goal.returns-then-first

@@ -2,7 +2,7 @@ use Rattle.std.proofs.Common.{refl, ◌∙◌}
 use Rattle.fz_globals.specs.of_meaning.Builtins.{row_at}
 use Rattle.fz_globals.specs.of_meaning.Relations.{◌=ᴮ◌}
 use Rattle.fz_globals.specs.of_meaning.Results.{result_of}
-use Rattle.fz_builtins.proofs.Rows.{same_bool_either_way, value_is}
+use Rattle.fz_builtins.proofs.RowTests.{same_bool_either_way, value_is}
 use Rattle.fz_builtins.proofs.scalars.bool_eq.Goals as goal
 
 pub returns-then-first : goal.returns-then-first

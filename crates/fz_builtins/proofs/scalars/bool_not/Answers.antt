@@ -2,7 +2,7 @@ use Rattle.std.proofs.Common.{◌≡◌, Bool, true, false, not, refl, ap, sym, 
 use Rattle.fz_globals.specs.of_meaning.Builtins.{row_at}
 use Rattle.fz_globals.specs.of_meaning.Relations.{◌=ᴮ◌}
 use Rattle.fz_globals.specs.of_meaning.Results.{result_of}
-use Rattle.fz_builtins.proofs.Rows.{same_bool_either_way}
+use Rattle.fz_builtins.proofs.RowTests.{same_bool_either_way}
 use Rattle.fz_builtins.proofs.scalars.bool_not.Goals as goal
 
 other : (x y : Bool) → not (x =ᴮ y) ≡ (x =ᴮ not y)

@@ -2,7 +2,7 @@ use Rattle.std.proofs.Common.{rules, ◌≡◌, refl, ◌∙◌, FitsSigned, w64
 use Rattle.std.proofs.lemmas.Int.{to_z-of_z}
 use Rattle.fz_globals.specs.of_meaning.Builtins.{row_at}
 use Rattle.fz_globals.specs.of_meaning.Results.{result_of}
-use Rattle.fz_builtins.proofs.Rows.{number_is, same_int_either_way}
+use Rattle.fz_builtins.proofs.RowTests.{number_is, same_int_either_way}
 use Rattle.fz_builtins.proofs.scalars.int_eq.Goals as goal
 
 pub returns-then-first : goal.returns-then-first

@@ -9,7 +9,7 @@ use Rattle.fz_globals.specs.of_kernel.Given.{int_at}
 use Rattle.fz_globals.specs.of_kernel.Views.{arguments_of, assigned}
 use Rattle.fz_builtins.specs.declared.outcome.Outcome.TheVariants.{Truth, TooLarge, Unknown}
 use Rattle.fz_builtins.specs.Outcomes.{row_outcome}
-use Rattle.fz_builtins.proofs.Rows.{number_is}
+use Rattle.fz_builtins.proofs.RowTests.{number_is}
 use Rattle.fz_builtins.proofs.scalars.int_pow.Goals as goal
 
 pub returns-then-exponent-lt0 : goal.returns-then-exponent-lt0

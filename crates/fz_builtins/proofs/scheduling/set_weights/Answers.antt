@@ -3,7 +3,7 @@ use Rattle.fz_globals.specs.of_meaning.Relations.{◌=ℤ◌, is_weight_of}
 use Rattle.fz_globals.specs.of_kernel.Views.{arguments_of, assigned, ints}
 use Rattle.fz_builtins.specs.Said.{is_result}
 use Rattle.fz_builtins.proofs.ElementReadings.{ints_are}
-use Rattle.fz_builtins.proofs.Rows.{ok_index_is}
+use Rattle.fz_builtins.proofs.RowTests.{ok_index_is}
 use Rattle.fz_builtins.proofs.scheduling.set_weights.Goals as goal
 
 pub returns : goal.returns

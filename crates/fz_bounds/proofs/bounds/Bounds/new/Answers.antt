@@ -1,5 +1,5 @@
 use Rattle.fz_model.specs.Shown.{point_view}
-use Rattle.fz_bounds.proofs.Known.{in_domain}
+use Rattle.fz_bounds.proofs.Beginnings.{in_domain}
 use Rattle.fz_bounds.proofs.bounds.Bounds.new.Goals as goal
 
 pub domains-preserved : goal.domains-preserved

@@ -1,4 +1,4 @@
-use Rattle.fz_bounds.proofs.Known.{nothing_known}
+use Rattle.fz_bounds.proofs.Beginnings.{nothing_known}
 use Rattle.fz_bounds.proofs.bounds.Bounds.unknown.Goals as goal
 
 pub returns : goal.returns

@@ -1,6 +1,6 @@
 use Rattle.std.proofs.Common.{◌-◌, length, take, drop, option_map, sym, ap, ◌∙◌}
 use Rattle.fz_places.specs.Tables.{row_of}
-use Rattle.fz_places.proofs.Rows.{all_of, fault_at, one_more}
+use Rattle.fz_places.proofs.TableReading.{all_of, fault_at, one_more}
 use Rattle.fz_places.proofs.names.NameTable.read.Goals as goal
 
 pub returns-in-None-clause-fault : goal.returns-in-None-clause-fault

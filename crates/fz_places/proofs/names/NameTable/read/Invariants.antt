@@ -1,5 +1,5 @@
 use Rattle.std.proofs.Common.{◌-◌, length}
-use Rattle.fz_places.proofs.Rows.{Reading}
+use Rattle.fz_places.proofs.TableReading.{Reading}
 use Rattle.fz_places.proofs.names.NameTable.read.Given as goal
 
 abbrev pub invariant-loop-start : goal.invariant-loop-start
