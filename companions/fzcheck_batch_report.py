@@ -7,8 +7,10 @@ from fzcheck_batch_results import Claim, Outcome, Result
 
 PIECE = 1 << 22
 MOST_CLAIMS, MOST_POINTS, MOST_LINES = 1000, 60, 60
-# Of the millions of lines that a report may have most are these two, which no loop should touch.
-SATISFIED = re.compile(rb'^\{"block":(\d+),"verdict":"satisfied","objective":(-?\d+)', re.M)
+# Of the millions of lines that a report may have most are these, which no loop should touch. An
+# objective that the solver left out, and `--complete` found, is none that the solver has.
+SATISFIED = re.compile(rb'^\{"block":(\d+),"verdict":"satisfied","objective":(-?\d+)\}', re.M)
+FOUND = re.compile(rb'^\{"block":\d+,"verdict":"satisfied","objective":(-?\d+),"found":', re.M)
 SATISFIED_COUNT = b'"verdict":"satisfied"'
 OTHERS = re.compile(rb'^\{(?!"block":\d+,"verdict":"satisfied").*$', re.M)
 ANSWERS = {"accepted": Outcome.ACCEPTED, "undecided": Outcome.UNDECIDED,
@@ -89,6 +91,7 @@ class Reader:
         self.satisfied.add(found)
         if found and self.result.sense != "satisfy":
             self.take_best(found)
+        self.might_reach(self.best_of([int(value) for value in FOUND.findall(piece)]))
         for match in OTHERS.finditer(piece):
             line = json.loads(match[0])
             if "verdict" in line:
@@ -102,11 +105,14 @@ class Reader:
 
     def take_best(self, found: List[Tuple[bytes, bytes]]) -> None:
         values = [int(value) for _, value in found]
-        best = (min if self.result.sense == "minimize" else max)(values)
+        best = self.best_of(values)
         if self.result.better(best, self.result.best):
             self.result.best = best
             self.result.best_block = int(found[values.index(best)][0])
         self.might_reach(best)
+
+    def best_of(self, values: List[int]) -> Optional[int]:
+        return (min if self.result.sense == "minimize" else max)(values, default=None)
 
     def might_reach(self, value: Optional[int]) -> None:
         if self.result.better(value, self.result.reach):
@@ -124,11 +130,12 @@ class Reader:
             self.others.add([(line["block"], line["objective"])])
 
     def objective(self, after: int, piece: bytes, end: int) -> Optional[int]:
-        """That of the last block before a claim."""
+        """That of the last block before a claim, where the solver has it."""
         start = b'{"block":%d,' % after
         at = piece.rfind(start, 0, end)
         text = piece[at:] if at >= 0 else self.before if self.before.startswith(start) else b"{}\n"
-        return json.loads(text[: text.index(b"\n")]).get("objective")
+        line = json.loads(text[: text.index(b"\n")])
+        return None if line.get("found") is True else line.get("objective")
 
     def claim(self, line: Line, objective: Optional[int]) -> None:
         key = (line["claim"], line["after"])

@@ -9,6 +9,7 @@ from typing import Iterator, List, Optional, Sequence
 
 HERE = os.path.dirname(os.path.realpath(__file__))
 LIBRARY = "fzcheck.msc"
+TELLING = ("--complete", "--cut", "--explain")  # options that tell most
 
 
 def program() -> Optional[str]:
@@ -30,7 +31,7 @@ def library_places() -> Iterator[str]:
     yield os.path.join(HERE, os.pardir, "minizinc", LIBRARY)
 
 
-def with_defaults(options: Sequence[str]) -> List[str]:
-    """The options of `fzcheck check` that are given, behind those that tell most."""
+def with_defaults(options: Sequence[str], defaults: Sequence[str] = TELLING) -> List[str]:
+    """The options of `fzcheck check` that are given, behind the others that are always on."""
     names = [word.split("=")[0] for word in options]
-    return [*(word for word in ("--complete", "--cut", "--explain") if word not in names), *options]
+    return [*(word for word in defaults if word not in names), *options]

@@ -1,6 +1,5 @@
 """Small random models over the builtins of fzcheck_rows.py."""
 import random
-from dataclasses import dataclass
 from typing import Dict, List, NamedTuple, Optional
 
 from fzcheck_flatzinc import (
@@ -26,15 +25,21 @@ FIXED = {
     "maximum_arg_int_offset": "1", "minimum_arg_int_offset": "1", "maximum_arg_bool_offset": "1",
 }
 # Where libraries may well differ from the table: an argument with a number below 0, with a number
-# twice, or with less than one or two elements.
-NEGATIVE, TWICE, EMPTY, SINGLE = range(4)
-DISPUTED = {
-    "cumulative": (NEGATIVE, "123"), "disjunctive": (NEGATIVE, "1"),
-    "schedule_unary": (NEGATIVE, "1"), "diffn": (NEGATIVE, "23"), "nooverlap": (NEGATIVE, "13"),
-    "knapsack": (NEGATIVE, "01234"), "nvalue": (EMPTY, "1"), "bin_packing": (EMPTY, "1"),
-    "circuit": (SINGLE, "1"), "global_cardinality": (TWICE, "1"), "distribute": (TWICE, "1"),
-    "set_weights": (TWICE, "0"),
-}
+# twice, or with less than one or two elements; lists of different lengths; and a set with other
+# numbers than the indices of a list, which are counted from a third argument.
+NEGATIVE, TWICE, EMPTY, SINGLE, UNEQUAL, OUTSIDE = range(6)
+DISPUTED = (
+    ("cumulative", NEGATIVE, "123"), ("disjunctive", NEGATIVE, "1"),
+    ("schedule_unary", NEGATIVE, "1"), ("diffn", NEGATIVE, "23"), ("nooverlap", NEGATIVE, "13"),
+    ("knapsack", NEGATIVE, "01234"), ("bin_packing", NEGATIVE, "0"), ("seq_precede", NEGATIVE, "0"),
+    ("nvalue", EMPTY, "1"), ("bin_packing", EMPTY, "1"), ("sliding_sum", EMPTY, "3"),
+    ("regular", EMPTY, "0"), ("_arg_", EMPTY, "0"), ("lex_less", EMPTY, "01"),
+    ("array_int_l", EMPTY, "01"), ("array_bool_l", EMPTY, "01"), ("value_precede_int", EMPTY, "2"),
+    ("gecode_precede", EMPTY, "0"), ("precede_chain", EMPTY, "0"),
+    ("value_precede_chain", EMPTY, "1"), ("circuit", SINGLE, "1"), ("global_cardinality", TWICE, "1"),
+    ("distribute", TWICE, "1"), ("set_weights", TWICE, "0"), ("sort", UNEQUAL, "01"),
+    ("link_set", OUTSIDE, "012"),
+)
 FRONTS = ("fzn_", "gecode_", "geas_", "fzcheck_")
 OFFSETS = ("circuit", "offset", "channel", "inverse_set", "link_set", "bin_packing_load")
 RANGES = [range(low, high + 1) for low, high in (
@@ -67,12 +72,18 @@ def fixed_places(name: str) -> List[int]:
     return [int(place) for place in FIXED.get(base, FIXED.get(plain, ""))]
 
 
-@dataclass
-class Lists:
-    """What the lists of a constraint have in common: their length, and what their elements are."""
-
-    lengths: Dict[int, int]
-    fixed: List[int]
+def differs(what: int, lists: List[List[List[int]]]) -> bool:
+    """Whether arguments, each with the numbers that its elements can be, are such a case."""
+    if what == NEGATIVE:
+        return any(number < 0 for it in lists for part in it for number in part)
+    if what == TWICE:
+        return len({tuple(it) for it in lists[0]}) < len(lists[0])
+    if what == UNEQUAL:
+        return len(lists[0]) != len(lists[1])
+    if what == OUTSIDE:
+        numbers, elements_of_list, [[first]] = lists
+        return not {*numbers[0]} <= {*range(first, first + len(elements_of_list))}
+    return any(len(it) < (1 if what == EMPTY else 2) for it in lists)
 
 
 class Maker:
@@ -205,19 +216,11 @@ class Maker:
         """Whether it is a case that docs/BUILTINS.md tells under "Where these rows differ": no
         fault of a solver is to be seen there."""
         base = base_of(name)
-        found = [row for part, row in DISPUTED.items() if part in base]
-        if not found:
-            return False
-        what, places = found[0]
-        lists = [self.possible(arguments[int(place)]) for place in places]
-        if what == NEGATIVE:
-            return any(number < 0 for it in lists for part in it for number in part)
-        if what == TWICE:
-            return len({tuple(it) for it in lists[0]}) < len(lists[0])
-        return len(lists[0]) < (1 if what == EMPTY else 2)
+        return any(differs(what, [self.possible(arguments[int(place)]) for place in places])
+                   for part, what, places in DISPUTED if part in base)
 
     def possible(self, argument: Argument) -> List[List[int]]:
-        """Of each element the numbers that it can be."""
+        """Of each element the numbers that it can be, or have as a set."""
         declared = self.model.declared()
         own = declared.get(argument) if isinstance(argument, Name) else None
         if own and own.length is not None:
@@ -229,7 +232,8 @@ class Maker:
                 found.append(sorted(declaration.domain or []))
             else:
                 value = declaration.value if declaration else it
-                found.append([value] if isinstance(value, int) else [])
+                found.append([value] if isinstance(value, int) else
+                             sorted(value) if isinstance(value, (range, frozenset)) else [])
         return found
 
     def lengths(self, row: Row) -> Dict[int, int]:

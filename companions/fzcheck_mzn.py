@@ -33,7 +33,7 @@ class Wrong(Exception):
 
 
 def words_of(words: List[str]) -> Words:
-    inputs = Inputs([], [], [], [])
+    inputs = Inputs([], [], [])
     options: List[str] = []
     places = {"--output": "", "--keep": ""}
     rest = iter(words)
@@ -71,8 +71,6 @@ def add_input(inputs: Inputs, word: str, rest: Iterator[str]) -> None:
         inputs.folders.append(found[1] if len(found) > 1 else word[2:])
     if is_file:
         inputs.files.append(found[-1])
-    if is_folder or is_file and found[-1].endswith(".mzn"):
-        inputs.models.extend(found)
 
 
 def say(text: str) -> None:

@@ -11,9 +11,10 @@ import tempfile
 from typing import Any, Dict, Iterator, List, NamedTuple, Optional, Tuple
 
 import fzcheck_common
+from fzcheck_mzn_table import Table
 from fzcheck_mzn_values import Array, Range, Reader, SetOf, Term, Unreadable, listing
 
-FORM = "1"  # of what is kept
+FORM = "2"  # of what is kept
 KEPT = 20  # how many compiled models are kept
 MODEL, TABLE, NAMES, OUTPUT = "model.fzn", "model.names", "names.json", "model.ozn"
 INCLUDED = re.compile(rb'include\s*"([^"\n]+)"')
@@ -38,7 +39,6 @@ class Failed(Exception):
 class Inputs(NamedTuple):
     """The words for the compiler, and the files among them."""
     words: List[str]
-    models: List[str]
     files: List[str]
     folders: List[str]  # where included files are looked for
 
@@ -159,7 +159,7 @@ def compile_into(folder: str, inputs: Inputs, minizinc: str) -> None:
     down what the model's names are."""
     ours = ("--solver", fzcheck_common.library())
     for library in (ours, (*ours, "-G", "std")):
-        types = run(minizinc, *library, "--model-types-only", *inputs.models)
+        types = run(minizinc, *library, "--model-types-only", *inputs.words)
         if types.returncode == 0:
             found = json.loads(types.stdout)["var_types"]["vars"]
             ran = flatten(folder, inputs, (minizinc, *library), found)
@@ -287,8 +287,17 @@ def write_names(folder: str, types: Dict[str, Any], told: str) -> None:
     with open(os.path.join(folder, MODEL), "wb") as file:
         whole = text[:at] + "".join(added.items) + text[at:]
         file.write(whole.encode(errors="surrogateescape"))
+    indices = {name: list(found.index_enums) for name, found in names.items()}
+    name_enums(os.path.join(folder, TABLE), Table(listed, indices))
     with open(os.path.join(folder, NAMES), "w", encoding="utf-8") as file:
         json.dump({"names": names, "enums": listed, "told": told}, file)
+
+
+def name_enums(path: str, table: Table) -> None:
+    """Puts the names of enums into the compiler's table."""
+    text = read(path).decode(errors="surrogateescape")
+    with open(path, "wb") as file:
+        file.write(table.named(text).encode(errors="surrogateescape"))
 
 
 class Added:

@@ -8,12 +8,15 @@ from typing import Any, Dict, List, Match, NamedTuple, Optional, Tuple
 from fzcheck_mzn_model import Model
 
 ELEMENT = re.compile(r"\b(\w+)\[(-?\d+(?:,-?\d+)*)\]")
-VALUED = re.compile(r"^( *= +(?:element \d+ of )?(\w+)(?:\[[^\]]*\])?(?: \(\w+\))?"
-                    r" (?:=|is printed as) )"
-                    r"(\{[^}]*\}|-?\d+(?:\.\.-?\d+)?)(?: (here, and is) (\{[^}]*\}|-?\d+))?")
+# A line that tells a variable's value, alone or as part of a reason, and what it is compared with.
+VALUED = re.compile(
+    r"^( *= +(?:element \d+ of |the domain of |\w+ \d+: |\w+ = (?:true|false): )?(\w+)"
+    r"(?:\[[^\]]*\])?(?: \(\w+\))? (?:=|is|is printed as|is narrowed to) )"
+    r"(\{[^}]*\}|-?\d+(?:\.\.-?\d+)?)"
+    r"(?:( here, and is |, not (?:[≠≤<≥>] )?)(\{[^}]*\}|-?\d+))?")
 WHOLE = re.compile(r"-?\d+")
 ONLY = re.compile(r"\belement 1 of (\w+)")
-QUOTED = re.compile(r" *\d+ \| ")
+QUOTED = re.compile(r" *(?:= +)?\d+ \| ")  # a line of the FlatZinc, or of the model
 MOST_COLUMNS = 120
 
 
@@ -38,18 +41,38 @@ class Told(NamedTuple):
             found["cut"] = list(self.cut)
         for variable in found.get("variables", ()):
             self.name_variable(variable)
+        if "explained" in found:
+            self.name_texts(found, "reason", "notes")
+        self.name_texts(found, "unconstrained")
+        is_printed = "printed" in (found.get("point"), found.get("message", "").partition(" ")[0])
+        if "line" in found and (is_printed or found.get("refused") in ("stream", "block")):
+            found["line"] = self.line(found["line"])  # of the plan, whose columns are others
+            found.pop("column", None)
         return json.dumps(found, ensure_ascii=False, separators=(",", ":")) + "\n"
 
+    def name_texts(self, found: Dict[str, Any], *keys: str) -> None:
+        """Puts the texts of these members, alone or listed, into the words of the model."""
+        for key in keys:
+            texts = found.get(key)
+            if isinstance(texts, str):
+                found[key] = self.in_words(f"= {texts}")[2:]
+            elif texts:
+                found[key] = [self.in_words(f"= {text}")[2:] for text in texts]
+
     def name_variable(self, variable: Dict[str, Any]) -> None:
+        self.name_texts(variable, "behind")
         element = variable.get("element", variable["name"])
         enum = self.enum(element.partition("[")[0])
         if "element" in variable:
-            variable["element"] = ELEMENT.sub(self.element, element)
-        value = variable.get("value")
-        if enum and isinstance(value, int):
-            variable["value"] = name_of(enum, value)
-        elif enum and isinstance(value, list):
-            variable["value"] = [[name_of(enum, bound) for bound in one] for one in value]
+            variable["element"] = self.with_indices(element)
+        if not enum:
+            return
+        for key in ("value", "low", "high"):
+            value = variable.get(key)
+            if isinstance(value, int):
+                variable[key] = name_of(enum, value)
+            elif isinstance(value, list):
+                variable[key] = [[name_of(enum, bound) for bound in one] for one in value]
 
     def explanation(self, text: str) -> str:
         """An explanation, in the words of the model. The plan's line stands for the stream's."""
@@ -71,7 +94,7 @@ class Told(NamedTuple):
     def in_words(self, line: str) -> str:
         if QUOTED.match(line):
             return line
-        line = ELEMENT.sub(self.element, VALUED.sub(self.valued, line))
+        line = self.with_indices(VALUED.sub(self.valued, line))
         return ONLY.sub(lambda found: found[1] if self.is_single(found[1]) else found[0], line)
 
     def is_single(self, name: str) -> bool:
@@ -84,6 +107,9 @@ class Told(NamedTuple):
     def enum(self, name: str) -> Optional[List[str]]:
         found = self.model.names.get(name)
         return self.model.enums.get(found.enum) if found else None
+
+    def with_indices(self, text: str) -> str:
+        return ELEMENT.sub(self.element, text)
 
     def element(self, found: "Match[str]") -> str:
         """An element of an array, with the names of its indices."""
@@ -101,7 +127,7 @@ class Told(NamedTuple):
         if not enum:
             return found[0]
         named = named_in(enum, found[3])
-        rest = f" {found[4]} {named_in(enum, found[5])}" if found[4] else ""
+        rest = f"{found[4]}{named_in(enum, found[5])}" if found[4] else ""
         return found[1] + named + rest
 
 

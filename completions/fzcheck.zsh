@@ -13,7 +13,7 @@ case $line[1] in
       '--complete[look for values that the solver left out]' \
       '--cut[judge the blocks before one in which the stream ends]' \
       '--claims[judge claims on the whole search]' \
-      '*--known=[refute claims by the blocks of another stream too]:stream:_files' \
+      '*--known=[judge claims, by the blocks of another stream too]:stream:_files' \
       '--explain=-[show what is behind a verdict or a refusal]::what:(answer all)' \
       '--names=[explain by the table of names of the MiniZinc compiler]:table of names:_files' \
       '--json[write the report as JSON]' \

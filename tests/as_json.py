@@ -76,16 +76,21 @@ def answer_line(it):
     return f"{it['answer']}: {named}"
 
 
+def unconstrained_line(it):
+    more = f" and {it['unconstrained_left_out']} more" if "unconstrained_left_out" in it else ""
+    return f"printed, and in no constraint: {', '.join(it['unconstrained'])}{more}"
+
+
 def refusal_line(it):
-    """The line on standard error; of a file that can't be read the next line isn't told."""
+    """The line on standard error. No case has a file that can't be read."""
     who = f"block {it['block']}" if it["refused"] == "block" else it["refused"]
     fault = f": {it['fault']}" if "fault" in it else ""
     place = f" at {it['start']}..{it['end']}" if "start" in it else ""
     return f"refused: {who}{fault}{place}"
 
 
-def value_text(it):
-    value = it["value"]
+def value_text(it, key="value"):
+    value = it[key]
     if isinstance(value, bool):
         return str(value).lower()
     if isinstance(value, int):
@@ -94,6 +99,14 @@ def value_text(it):
     if "left_out" in it:
         ranges.append(f"... and {it['left_out']} more")
     return "{" + ",".join(ranges) + "}"
+
+
+def known_text(it):
+    if "low" not in it:
+        return f"= {value_text(it)}"
+    low, high = (value_text(it, key) for key in ("low", "high"))
+    between = low if low == high else "false or true" if low == "false" else f"{low}..{high}"
+    return f"is {'' if it['source'] == 'its domain' else 'narrowed to '}{between}"
 
 
 def model_lines(it):
@@ -112,16 +125,16 @@ def full_name(it):
 
 
 def variable_lines(it):
-    name = full_name(it)
-    if "value" not in it:
-        return [f"{name} = none: no rule gives it one; print it"]
+    name = f"{it['role']}: {full_name(it)}" if "role" in it else full_name(it)
+    if "source" not in it:
+        return [f"{name} = none: it isn't printed, and what is printed doesn't give it"]
     source = it["source"]
     if source != "printed":
         source = f"by {source}"
     if "line" in it:
         source += f", line {it['line']}"
     behind = [f"  {line}" for line in [*model_lines(it), *it.get("behind", [])]]
-    return [f"{name} = {value_text(it)}, {source}", *behind]
+    return [f"{name} {known_text(it)}, {source}", *behind]
 
 
 def message_lines(it, model, stream):
@@ -166,6 +179,8 @@ class Report:
             elif "answer" in it:
                 self.out.append(answer_line(it))
                 self.expect([it["blocks"], *map(it.get, VERDICTS)], self.counts(), "counts")
+                if "unconstrained" in it:
+                    self.told.append(unconstrained_line(it))
             elif "refused" in it:
                 self.told.append(refusal_line(it))
                 if "line" in it:
@@ -184,6 +199,19 @@ class Report:
     def expect(self, got, want, name):
         if got != want:
             self.wrong.append(f"{name}: {got}, wanted {want}")
+
+
+def found_faults(report, objects):
+    """An objective is found where the block is satisfied, and so is one that the next block isn't
+    shown to be better than."""
+    for number, it in objects.items():
+        if "found" in it and "reason" not in it:
+            told = it["found"], it["verdict"], "objective" in it
+            report.expect(told, (True, "satisfied", True), f"what is found, {number}")
+        if it.get("reason") == "not shown better":
+            before = objects[number - 1]
+            told = before.get("objective"), before.get("found")
+            report.expect(told, (it["found"], True), f"what was found before {number}")
 
 
 def printed_objectives(model, stream):
@@ -220,6 +248,8 @@ def faults(program, folder, model, stream, options):
         for number, value in printed_objectives(m.read(), s.read()):
             if number in objects:
                 report.expect(objects[number].get("objective"), value, f"objective {number}")
+                report.expect(objects[number].get("found") is True, False, f"printed {number}")
+    found_faults(report, objects)
     if not any("explained" in it for it in report.objects) and "--explain=all" in options:
         report.expect(report.counts()[0], report.counts()[1], "blocks without explanation")
     return report.wrong

@@ -167,11 +167,12 @@ class Place:
         told = "".join(line for line in told.splitlines(True) if " s left: " not in line)
         return process.returncode, out, told  # without the lines on how far it is
 
-    def outcomes(self, results: str) -> Dict[Tuple[str, str], Tuple[str, str]]:
-        """By the table for other programs: outcome and words by model and solver."""
+    def outcomes(self, results: str, one: str = "outcome", other: str = "words"
+                 ) -> Dict[Tuple[str, str], Tuple[str, str]]:
+        """By the table for other programs: outcome and words by model and solver, or two others."""
         self.run(*COMMAND, "report", "--results", results, "--csv", "table.csv")
         with open(self.folder / "table.csv", newline="") as file:
-            return {(row["model"], row["solver"]): (row["outcome"], row["words"])
+            return {(row["model"], row["solver"]): (row[one], row[other])
                     for row in csv.DictReader(file)}
 
 
@@ -313,6 +314,18 @@ def try_page(place: Place) -> None:
     expect("the page's merged results", results["results"], results["merged"])
 
 
+def try_found(place: Place) -> None:
+    """An objective that the solver left out, and `--complete` found, isn't the solver's."""
+    place.model("left_out", "var 1..9: y;\nvar 1..9: z;\nconstraint int_le(y,z);\n"
+                "solve minimize z;\n")
+    place.stream("quiet", "left_out", f"y = 3;\n{MARKER}{COMPLETE}")
+    place.stream("whole", "left_out", f"y = 4;\nz = 5;\n{MARKER}")
+    _, out, _ = place.run(*place.words("found", "--complete"))
+    expect("both are accepted", True, out.endswith("accepted 2\n"))
+    expect("what is found", {("left_out", "quiet"): ("", "5"), ("left_out", "whole"): ("5", "5")},
+           place.outcomes("found", "objective", "best_known"))
+
+
 def try_bad_inputs(folder: str) -> None:
     """Faults of one pair are that pair's, with a script in the place of the program."""
     script = os.path.join(folder, "stand-in")
@@ -402,6 +415,8 @@ def main() -> int:
         try_hosts(place)
     with tempfile.TemporaryDirectory() as folder:
         try_page(Place(folder, program))
+    with tempfile.TemporaryDirectory() as folder:
+        try_found(Place(folder, program))
     with tempfile.TemporaryDirectory() as folder:
         try_bad_inputs(folder)
     with tempfile.TemporaryDirectory() as folder:

@@ -2,7 +2,8 @@
 """Compares what documents say of the sources with these: the table of docs/THEOREM.md, "What each
 crate promises", with the contracts in crates/, and the number of paths in docs/ARCHITECTURE.md with
 crates.txt, and the table of docs/TESTING.md, "What the prover refuses", with the edits of the gate.
-Those of tests/wrong, which the gate doesn't try, must still fit their files.
+Those of tests/wrong, which the gate doesn't try, must still fit their files. Each file that a
+document names by its path must be there.
 
 Each clause that a row names must stand at one of the row's calls, and each call must have one of
 them; where a row names none, each call must have an `ensures`. A call is looked for in the crates
@@ -16,6 +17,7 @@ import sys
 ROOT = pathlib.Path(os.path.abspath(__file__)).parent.parent
 CALL = re.compile(r"^(?:impl(?:<.*?>)? (\w+)|( *)pub (?:const )?fn (\w+)\b(.*?)^\2\{)", re.M | re.S)
 NAMES = re.compile(r"`([\w:]+)`")
+PATH = re.compile(r"`((?:crates|tests|tools|docs|companions|examples|bench|fz_\w+)/[\w./-]+\.\w+)`")
 BELOW = dict(re.findall(r"^(fz\w+):(.*)$", (ROOT / "crates.txt").read_text(), re.M))
 
 
@@ -79,7 +81,19 @@ def old_texts(edit):
             yield source.read_text(), rest
 
 
+def named_files():
+    """The files that documents name, by the document. That of decisions tells of old ones too."""
+    for document in sorted({*ROOT.glob("*.md"), *ROOT.glob("docs/*.md")}):
+        if document.name not in ("DECISIONS.md", "CHANGELOG.md"):
+            for path in sorted(set(PATH.findall(document.read_text()))):
+                if "/NAME/" not in path:
+                    yield document.name, path
+
+
 def wrong():
+    for document, path in named_files():
+        if not any((ROOT / folder / path).exists() for folder in ("", "crates")):
+            yield f"{document}: there is no file {path}"
     for crates, calls, clauses in rows():
         if not is_so(crates, calls, clauses):
             yield f"{calls}: not with the clauses {sorted(clauses)}"
@@ -94,7 +108,8 @@ def wrong():
             yield f"{edit.relative_to(ROOT)} doesn't fit its file"
 
 
-CHECKS = len(list(rows())) + 2 + len(list(ROOT.glob("tests/wrong/*/*.edit")))
+EDITS = list(ROOT.glob("tests/wrong/*/*.edit"))
+CHECKS = len(list(rows())) + 2 + len(EDITS) + len(list(named_files()))
 faults = list(wrong())
 for fault in faults:
     print(f"failed: {fault}")

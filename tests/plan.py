@@ -22,6 +22,8 @@ sys.path.insert(0, os.path.join(ROOT, "companions"))
 import fzcheck_mzn_model
 from fzcheck_mzn_plan import Plan, Refused
 from fzcheck_mzn_stream import Writer
+from fzcheck_mzn_table import Table
+from fzcheck_mzn_told import Told
 from fzcheck_mzn_values import Array, Range, Reader, SetOf, Term, from_json
 
 COMMAND = os.path.join(ROOT, "companions", "fzcheck-mzn")
@@ -198,6 +200,51 @@ def endings(place):
             ("tells of an error: too bad",))
 
 
+def names_of_enums(place, model):
+    """Indices, loop variables and values that are of an enum are told by its names."""
+    place.file("loops.mzn", "constraint forall(\n  t, u in Task, i in 1..2, v in first(Task))(x);\n")
+    path = place.path("loops.mzn")
+    table = Table({"Task": ["dig", "pour", "big crane"]}, {"start": ["Task"], "crew": ["Task", ""]})
+    for before, after in (
+        ("x\tstart[2]\t;\ny\tcrew[3,0]\t\n", "x\tstart[pour]\t;\ny\tcrew[big crane,0]\t\n"),
+        ("x\tstart[4]\t\nx\tstart[1,1]\t", "x\tstart[4]\t\nx\tstart[1,1]\t"),
+        (f"0\t0\t{path}|2|3|2|3|t=1;{path}|2|6|2|6|u=3;", f"0\t0\t{path}|2|3|2|3|t=dig;"
+         f"{path}|2|6|2|6|u=big crane;"),
+        *((f"0\t0\t{path}|{place_of}|ca|x;",) * 2 for place_of in (
+            "2|17|2|17|i=2", "2|28|2|28|v=1", "2|3|2|3|t=4", "2|4|2|4|t=1", "9|3|9|3|t=1")),
+        ("start[1]\n", "start[1]\n"), ("0\t0\tnix|2|3|2|3|t=1;", "0\t0\tnix|2|3|2|3|t=1;"),
+    ):
+        expect(f"table {before!r}", after, table.named(before))
+    told = Told(model, "", "plan", [], [], None)
+    for before, after in (
+        ("      = first = 2, printed\n", "      = first = pour, printed\n"),
+        ("      = task 4: first = 2, printed\n", "      = task 4: first = pour, printed\n"),
+        ("      = first is narrowed to 2..3, by its domain\n",
+         "      = first is narrowed to pour..build, by its domain\n"),
+        ("      = the domain of first is {1,3}\n", "      = the domain of first is {dig,build}\n"),
+        ("      = first = 2, not ≠ 2\n", "      = first = pour, not ≠ pour\n"),
+        ("      =   X_1_ = false: first = 2, not 3\n", "      =   X_1_ = false: first = pour, not build\n"),
+        ("      = first - day = 2 - 3 = -1, not 0\n", "      = first - day = 2 - 3 = -1, not 0\n"),
+        ("      =   10 | constraint start[1] = 2;\n", "      =   10 | constraint start[1] = 2;\n"),
+        ("printed, and in no constraint: start[1]\n", "printed, and in no constraint: start[dig]\n"),
+    ):
+        expect(f"told {before!r}", after, told.in_words(before))
+    answer = '{"answer":"undecided","unconstrained":["start[2]"]}\n'
+    expect("told in JSON", answer.replace("2", "pour"), told.report_line(answer))
+    variable = {"name": "first", "low": 1, "high": 2, "behind": ["X_1_ = false: first = 2, not 3"]}
+    told.name_variable(variable)
+    expect("a variable in JSON", {"name": "first", "low": "dig", "high": "pour",
+                                  "behind": ["X_1_ = false: first = pour, not build"]}, variable)
+    told = told._replace(lines=[4, 7])
+    line = '{"block":1,"verdict":"violated","point":"printed","name":"n","line":2,"column":1}\n'
+    expect("a line of the plan in JSON", line.replace('2,"column":1', "7"), told.report_line(line))
+    line = '{"explained":1,"line":1,"column":1,"message":"printed n differs in block 1"}\n'
+    expect("the same of a message", line.replace('1,"column":1', "4"), told.report_line(line))
+    line = '{"explained":1,"reason":"first = 2, not 3","notes":["the domain of first is {1,3}"]}\n'
+    expect("an explanation in JSON", {"explained": 1, "reason": "first = pour, not build", "notes": [
+        "the domain of first is {dig,build}"]}, json.loads(told.report_line(line)))
+
+
 def bad_inputs(place):
     for what, plan, told in (
         ("free text", "x is 3\n", "plan:1: 'is' isn't expected: print the plan with `minizinc --"),
@@ -223,6 +270,9 @@ def bad_inputs(place):
 def compiler(place):
     """It is called once for a model, and heard where it fails."""
     plan = kept("plan.dzn")
+    with open(place.path("calls")) as file:
+        typed = [line for line in file if "--model-types-only" in line]
+    expect("types by the data too", {True}, {"data.dzn" in line for line in typed})
     os.remove(place.path("calls"))
     checked(place, "compiled before", plan, 0, GOOD, (), "--keep", "here")
     expect("no compiler", False, os.path.exists(place.path("calls")))
@@ -257,6 +307,7 @@ def main():
         bad_inputs(place)
         [entry] = os.listdir(place.path("cache/fzcheck"))
         model = fzcheck_mzn_model.load(place.path(f"cache/fzcheck/{entry}"))
+        names_of_enums(place, model)
         rand = random.Random(1)
         random_values(rand)
         random_texts(rand, model)

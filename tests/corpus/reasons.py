@@ -94,16 +94,24 @@ def failing(rand):
             continue
 
 
+def product_text(is_first, factor, value):
+    sign = ("-" if is_first else " - ") if factor < 0 else "" if is_first else " + "
+    size = "" if abs(factor) == 1 else f"{abs(factor)}·"
+    return sign + size + (str(value) if value >= 0 or is_first and factor == 1 else f"({value})")
+
+
 def products_are(told, value, pairs):
-    """Whether the listed products are some of these in their order, and make the value."""
-    terms = told.split(" + ")
-    left_out = re.fullmatch("([0-9]+) more", terms[-1])
-    count = len(pairs) - (int(left_out[1]) if left_out else 0)
-    terms = terms[: count]
-    listed = [tuple(map(int, term.split("·"))) if "·" in term else (1, int(term)) for term in terms if term]
+    """Whether the listed products are some of these in their order, and make the value. Of one
+    number nothing is listed."""
+    left_out = re.search(r" \+ ([0-9]+) more$", told)
+    told = told[: left_out.start()] if left_out else told
+    terms = re.findall(r"(?:^-?| [-+] )(?:[0-9]+·)?(?:[0-9]+|\(-[0-9]+\))", told)
+    count = len(terms) + (int(left_out[1]) if left_out else 0)
     rest = iter(pairs)
-    in_order = all(any(pair == it for it in rest) for pair in listed)
-    return in_order and count <= MOST_LISTED and sum(math.prod(pair) for pair in pairs) == value
+    in_order = all(any(product_text(place == 0, *pair) == term for pair in rest) for place, term in enumerate(terms))
+    is_one = told == "" and (pairs == [] or len(pairs) == 1 and abs(pairs[0][0]) == 1)
+    return in_order and "".join(terms) == told and (is_one or count == len(pairs) and len(terms) <= MOST_LISTED) \
+        and sum(math.prod(pair) for pair in pairs) == value
 
 
 def sides(name, args, told):
@@ -321,13 +329,12 @@ FORMS = {
     f"set ({NUMBER}) has ({NUMBER}), and the element with index ({NUMBER}) is ({NUMBER})": (
         lambda n, a, *p: in_another_set(a, *p)),
     f"set ({NUMBER}) has ({NUMBER}), which is no index": lambda n, a, j, v: in_another_set(a, j, v, v, None),
-    f"element (\\d+): there is no step from state ({NUMBER}) by ({NUMBER})": lambda n, a, k, q, s: (
+    f"it begins in ({NUMBER}), which is no state": lambda n, a, q: a[4] == int(q) and not 1 <= int(q) <= a[1],
+    f"element (\\d+): no step from state ({NUMBER}) by ({NUMBER})": lambda n, a, k, q, s: (
         transitions(a)[0][-1] == int(q) and len(transitions(a)[0]) == int(k) and at(a[0], k) == int(s)
-        and not 1 <= transitions(a)[1] <= a[1]),
+        and 1 <= int(q) <= a[1] and not 1 <= transitions(a)[1] <= a[1]),
     f"it ends in state ({NUMBER}), which isn't one of the last": lambda n, a, q: (
-        transitions(a)[1] == int(q) not in a[5]),
-    f"it ends in ({NUMBER}), which is no state": lambda n, a, q: (
-        transitions(a)[1] == int(q) in a[5] and not 1 <= int(q) <= a[1]),
+        len(transitions(a)[0]) == len(a[0]) and transitions(a)[1] == int(q) not in a[5] and 1 <= int(q) <= a[1]),
     f"element (\\d+) is ({NUMBER}), not from ({NUMBER}) to ({NUMBER})": lambda n, a, k, v, l, h: (
         any(isinstance(x, list) and at(x, k) == int(v) for x in a) and not int(l) <= int(v) <= int(h)),
     f"the index is ({NUMBER}), not from ({NUMBER}) to ({NUMBER})": lambda n, a, v, l, h: (

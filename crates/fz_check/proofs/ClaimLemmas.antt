@@ -1,6 +1,6 @@
 -- What is told of claims as the parts of a stream come, one more at the end; and what is told as
 -- refuted is false.
-use Rattle.std.proofs.Common.{◌≡◌, ℕ, suc, ◌+◌, ℤ, Bool, true, false, cond, nat_le, List, [], ◌∷◌, ◌++◌, length, map, Option, Some, None, option_map, refl, sym, ap, ◌∙◌, subst, append_assoc, append-nil, add-zero, arith}
+use Rattle.std.proofs.Common.{◌≡◌, ℕ, suc, ◌+◌, ℤ, Bool, true, false, cond, nat_le, List, [], ◌∷◌, ◌++◌, length, map, Option, Some, None, option_map, refl, sym, ap, ◌∙◌, subst, subst₂, append_assoc, append-nil, add-zero, arith}
 use Rattle.std.specs.Prelude.{IfSome}
 use Rattle.std.specs.List.{AllByRecursion}
 use Rattle.std.specs.Option.{option_or}
@@ -28,7 +28,8 @@ use Rattle.fz_check.specs.declared.claims.Known.{Known}
 use Rattle.fz_check.specs.declared.claims.Claims.{Claims}
 use Rattle.fz_check.specs.declared.claims.Claims.TheVariants.{NotJudged, Judged as ClaimsJudged}
 use Rattle.fz_check.specs.declared.ledger.Ledger.{Ledger}
-use Rattle.fz_check.specs.Claims.{IsFalse, Outcome, HasSolutionWith, IsOutcome, AreOutcomes, Knows, KnowsOf, IsTrueOf, answer_with, behind, behind_claim, best_refuter, better_of, best_with, block_told, claim_event, claim_noted, claim_refutation, claim_told, is_better, is_satisfied, known_refuter, known_with, late_events, late_noted, late_refuted, ledger, own_refuter, refuter, refutes, saying, statement, told, verdicts_of}
+use Rattle.fz_check.specs.Claims.{IsFalse, Outcome, HasSolutionWith, IsOutcome, IsSolvedWith, AreOutcomes, Knows, KnowsOf, IsTrueOf, answer_with, behind, behind_claim, best_refuter, better_of, best_with, block_told, claim_event, claim_noted, claim_refutation, claim_told, is_better, is_satisfied, known_refuter, known_with, late_events, late_noted, late_refuted, ledger, own_refuter, refuter, refutes, saying, statement, told, verdicts_of}
+use Rattle.fz_check.specs.Telling.{OutcomesGoOn}
 use Rattle.fz_check.specs.Report.{Event, events_of}
 use Rattle.fz_check.specs.Report.Event.{Judged, Claimed}
 
@@ -96,13 +97,15 @@ module _ (aim : Aim) (c : Claims) where
       ledger_block (suc n) (behind aim (suc n) l p) os ps o b (omega arith)
       ∙ ap (λ k. behind aim (suc k) (ledger aim c (suc n) (behind aim (suc n) l p) os ps) o) count
 
-pub outcomes_more : (c : Completion) (m : Model) (bs : List Block) (os : List Outcome) (b : Block)
-    (o : Outcome) → AreOutcomes c m bs os → IsOutcome c m b o
-    → AreOutcomes c m (bs ++ b ∷ []) (os ++ o ∷ [])
-outcomes_more c m [] [] b o are is = (is, tt)
-outcomes_more c m (d ∷ bs) (p ∷ os) b o are is = (are.0, outcomes_more c m bs os b o are.1 is)
-outcomes_more c m [] (p ∷ os) b o are is = absurd are
-outcomes_more c m (d ∷ bs) [] b o are is = absurd are
+module _ (c : Completion) (m : Model) (bs : List Block) (os : List Outcome) (filled found : Option ℤ) (go : OutcomesGoOn c m bs os filled found) where
+  pub outcomes_more : (b : Block) (o : Outcome) → IsOutcome c m filled found b o
+      → OutcomesGoOn c m (bs ++ b ∷ []) (os ++ o ∷ []) o.filled o.found
+  outcomes_more b o is = λ more others are.
+      subst₂ (AreOutcomes c m None None) (sym (append_assoc bs (b ∷ []) more)) (sym (append_assoc os (o ∷ []) others))
+      (go (b ∷ more) (o ∷ others) (is, are))
+
+  pub all_outcomes : AreOutcomes c m None None bs os
+  all_outcomes = subst₂ (AreOutcomes c m None None) (append-nil bs) (append-nil os) (go [] [] tt)
 
 -- ---- where claims aren't judged
 
@@ -151,16 +154,22 @@ compared_now Off filled own found is one = sym is ∙ sym (one refl)
 compared_now On filled own found is one = refl
 
 pub outcome_of : (j j' : JudgeState) (block : Block) (v : Verdict) → IsJudged j j' block v
-    → IsOutcome j.completion j.model block (record { verdict = v; filled = j'.before; found = j'.found })
+    → IsOutcome j.completion j.model j.before j.found block (record { verdict = v; filled = j'.before; found = j'.found })
 outcome_of j j' block v h = record {
   filling = h.filling;
   is_filled = h.is_filled;
   filled_is = h.kept_is;
+  is_told = h.told;
+  one_objective = h.one_objective;
   solved = λ e. (
       let u = satisfied_under j.completion j.model block h.filling j.before j.found j'.found _ v h.partial refl h.told e in
       let s = satisfied_solves j.model u.values block _ u.partial u.satisfied in
-      (s.assignment, s.solution, ap (objective j.model) s.is ∙ u.kept_is ∙ compared_now j.completion _ _ _ h.kept_is h.one_objective));
+      (s.assignment, s.extends, s.solution, ap (objective j.model) s.is ∙ u.kept_is ∙ compared_now j.completion _ _ _ h.kept_is h.one_objective));
 }
+
+pub has_solution : (m : Model) (block : Block) (o : Option ℤ) → IsSolvedWith m block o
+    → HasSolutionWith m o
+has_solution m block o (A, extends, solution, is) = (A, solution, is)
 
 -- ---- what is refuted is false
 
@@ -269,22 +278,23 @@ module _ (m : Model) where
   late_true None number es h rest = rest
   late_true (Some s) number es h rest = (h, rest)
 
-  pub all_true : (by : Completion) (c : Claims) (n : ℕ) (l : Ledger) (bs : List Block) (os : List Outcome)
-      (ps : List StreamPart) → KnowsOf m c → IsSound l → AreOutcomes by m bs os
-      → AllByRecursion (IsTrueOf m) (told m.aim c n l os ps)
-  all_true by c n l bs os [] knows sound are = tt
-  all_true by c n l bs os (ClaimPart kind ∷ ps) knows sound are = (
+  pub all_true : (by : Completion) (c : Claims) (n : ℕ) (l : Ledger) (filled found : Option ℤ)
+      (bs : List Block) (os : List Outcome) (ps : List StreamPart) → KnowsOf m c → IsSound l
+      → AreOutcomes by m filled found bs os → AllByRecursion (IsTrueOf m) (told m.aim c n l os ps)
+  all_true by c n l filled found bs os [] knows sound are = tt
+  all_true by c n l filled found bs os (ClaimPart kind ∷ ps) knows sound are = (
     claim_true (statement n l kind) (refuter m.aim c l (saying kind l.objective)) (refuter_false c l (saying kind l.objective) knows sound),
-    all_true by c n (behind_claim m.aim c n l kind) bs os ps knows
+    all_true by c n (behind_claim m.aim c n l kind) filled found bs os ps knows
         (subst (λ x. IfSome x (λ n. (o : Option ℤ) × HasSolutionWith m o)) (sym (same_after_claim c (refuter m.aim c l (saying kind l.objective)) (statement n l kind) l)) sound) are,
   )
-  all_true by c n l bs [] (BlockPart b ∷ ps) knows sound are = all_true by c n l bs [] ps knows sound are
-  all_true by c n l [] (o ∷ os) (BlockPart b ∷ ps) knows sound are = absurd are
-  all_true by c n l (d ∷ bs) (o ∷ os) (BlockPart b ∷ ps) knows sound are = (
+  all_true by c n l filled found bs [] (BlockPart b ∷ ps) knows sound are = all_true by c n l filled found bs [] ps knows sound are
+  all_true by c n l filled found [] (o ∷ os) (BlockPart b ∷ ps) knows sound are = absurd are
+  all_true by c n l filled found (d ∷ bs) (o ∷ os) (BlockPart b ∷ ps) knows sound are = (
     tt,
     late_true (late_refuted m.aim l.waiting (is_satisfied o.verdict) o.found) (suc n) _
-        (late_false l.waiting (is_satisfied o.verdict) o.found (λ e. are.0.solved (satisfied_is o.verdict e)))
-        (all_true by c (suc n) (behind m.aim (suc n) l o) bs os ps knows (sound_behind (suc n) l o are.0.solved sound) are.1),
+        (late_false l.waiting (is_satisfied o.verdict) o.found (λ e. has_solution m d o.found (are.0.solved (satisfied_is o.verdict e))))
+        (all_true by c (suc n) (behind m.aim (suc n) l o) o.filled o.found bs os ps knows
+        (sound_behind (suc n) l o (λ e. has_solution m d o.found (are.0.solved e)) sound) are.1),
   )
 
   -- ---- what is known of other streams

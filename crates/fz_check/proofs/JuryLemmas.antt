@@ -26,8 +26,8 @@ use Rattle.fz_check.specs.declared.claims.Claims.{Claims}
 use Rattle.fz_check.specs.Claims.{AreOutcomes, HaveOutcomes, IsOutcome, Outcome, behind, behind_block, behind_claim, block_told, claim_told, is_satisfied, late_events, late_refuted, ledger, no_ledger, told_of, verdicts_of}
 use Rattle.fz_check.specs.Report.{Event, text_of}
 use Rattle.fz_check.specs.Report.Event.{Judged}
-use Rattle.fz_check.specs.Telling.{Tallies, HasJudged, HasTold, IsFresh, IsUnjudged, IsUntold, JudgesOneMore, TellsOneMore}
-use Rattle.fz_check.proofs.ClaimLemmas.{ledger_block, ledger_claim, outcomes_more, told_block, told_claim}
+use Rattle.fz_check.specs.Telling.{OutcomesGoOn, Tallies, HasJudged, HasTold, IsFresh, IsUnjudged, IsUntold, JudgesOneMore, TellsOneMore}
+use Rattle.fz_check.proofs.ClaimLemmas.{all_outcomes, ledger_block, ledger_claim, outcomes_more, told_block, told_claim}
 use Rattle.fz_check.proofs.EventLemmas.{text_with}
 
 tallies_more : (old new : Tally) (vs : List Verdict) (v : Verdict) → new.blocks ≡ old.blocks + 1
@@ -81,7 +81,7 @@ judged_none j before found tally = record {
 
 -- of a model, in a way
 pub judged_by : (j : Jury) (m : Model) (c : Completion)
-    → j.judge ≡ record { model = m; completion = c; before = None; found = None } → j.tally ≡ record { blocks = 0; violated = None; undecided = None } → HasJudged c m j [] []
+    → j.judge ≡ record { model = m; completion = c; before = None; found = None; refuted = None } → j.tally ≡ record { blocks = 0; violated = None; undecided = None } → HasJudged c m j [] []
 judged_by j m c is tally =
     subst (λ (k : JudgeState). HasJudged k.completion k.model j [] []) is
     (judged_none j (ap (λ (k : JudgeState). k.before) is) (ap (λ (k : JudgeState). k.found) is) tally)
@@ -101,7 +101,7 @@ told_none j f = record {
   blocks_are = refl;
   places = tt;
   judged = judged_none j f.before f.found f.tally;
-  are_outcomes = tt;
+  go_on = λ more others are. subst₂ (λ b e. AreOutcomes j.judge.completion j.judge.model b e more others) f.before f.found are;
   claims_are = refl;
   ledger_is = f.ledger;
 }
@@ -119,7 +119,7 @@ same_judged c m j j' bs vs judge tally h = record {
 -- a block is judged, and then heard of
 pub record HearsBlock (j mid j' : Jury) (block : Block) (o : Outcome) : Type 0 where
   pub judges : JudgesOneMore j mid block o.verdict
-  pub outcome : IsOutcome j.judge.completion j.judge.model block o
+  pub outcome : IsOutcome j.judge.completion j.judge.model j.judge.before j.judge.found block o
   pub filled_is : o.filled ≡ mid.judge.before
   pub found_is : o.found ≡ mid.judge.found
   pub same_model : mid.judge.model ≡ j.judge.model
@@ -138,7 +138,7 @@ module _ (claims : Claims) (c : Completion) (m : Model) (j : Jury) (parts : List
   abbrev pub have_outcomes : HaveOutcomes c m parts os
   have_outcomes = record {
     have_verdicts = record { blocks = h.blocks; blocks_are = h.blocks_are; places = h.places; are_verdicts = goes_on_judged c m (map located_block h.blocks) (verdicts_of os) j.judge.before j.judge.found h.judged.goes_on };
-    are_outcomes = h.are_outcomes;
+    are_outcomes = all_outcomes c m (map located_block h.blocks) os j.judge.before j.judge.found h.go_on;
   }
 
   one_each : length (verdicts_of os) ≡ length (blocks_in parts)
@@ -168,7 +168,7 @@ module _ (claims : Claims) (c : Completion) (m : Model) (j : Jury) (parts : List
           blocks_are = h.blocks_are ∙ sym (blocks_with_claim parts kind);
           places = h.places;
           judged = same_judged c m j j' (map located_block h.blocks) (verdicts_of os) hears.same.0 hears.same.1 h.judged;
-          are_outcomes = h.are_outcomes;
+          go_on = subst (λ (k : JudgeState). OutcomesGoOn c m (map located_block h.blocks) os k.before k.found) (sym hears.same.0) h.go_on;
           claims_are = hears.same.2 ∙ h.claims_are;
           ledger_is = after ∙ sym (ledger_claim m.aim claims 0 no_ledger os parts kind outcome_each);
         };
@@ -201,8 +201,10 @@ module _ (claims : Claims) (c : Completion) (m : Model) (j : Jury) (parts : List
           judged = subst₂ (λ bs vs. HasJudged c m j' bs vs) (sym places_of) (sym all)
               (same_judged c m mid j' (map located_block h.blocks ++ located_block block ∷ []) (verdicts_of os ++ o.verdict ∷ []) hears.same.0 hears.same.1
               (hears.judges c m (map located_block h.blocks) (verdicts_of os) h.judged));
-          are_outcomes = subst (λ bs. AreOutcomes c m bs (os ++ o ∷ [])) (sym places_of)
-              (outcomes_more c m (map located_block h.blocks) os (located_block block) o h.are_outcomes (subst₂ (λ d n. IsOutcome d n (located_block block) o) h.judged.same_completion h.judged.same_model hears.outcome));
+          go_on = subst₂ (λ bs (k : JudgeState). OutcomesGoOn c m bs (os ++ o ∷ []) k.before k.found) (sym places_of) (sym hears.same.0)
+              (subst₂ (OutcomesGoOn c m (map located_block h.blocks ++ located_block block ∷ []) (os ++ o ∷ [])) hears.filled_is hears.found_is
+              (outcomes_more c m (map located_block h.blocks) os j.judge.before j.judge.found h.go_on (located_block block) o
+              (subst₂ (λ d n. IsOutcome d n j.judge.before j.judge.found (located_block block) o) h.judged.same_completion h.judged.same_model hears.outcome)));
           claims_are = hears.same.2 ∙ hears.same_claims ∙ h.claims_are;
           ledger_is = after ∙ sym (ledger_block m.aim claims 0 no_ledger os parts o (block_of block) outcome_each);
         };

@@ -13,7 +13,7 @@ use Rattle.fz_check.specs.declared.claims.Source.{Source}
 use Rattle.fz_check.specs.declared.claims.Known.{Known}
 use Rattle.fz_check.specs.Claims.{HasSolutionWith, Knows, known_with}
 use Rattle.fz_check.specs.Reading.{PiecesState, ReaderState, HasRead, HasNext, StandsAt}
-use Rattle.fz_check.proofs.ClaimLemmas.{knows_more, outcome_of}
+use Rattle.fz_check.proofs.ClaimLemmas.{has_solution, knows_more, outcome_of}
 use Rattle.fz_check.proofs.ReaderLemmas.{read_more}
 
 -- Parts of the bytes that were read have ended, and what is known is still so.
@@ -27,7 +27,7 @@ pub record Listening (limits : Limits) (s : ReaderState) (left : Option (List �
 pub listening_first : {limits : Limits} → (s : ReaderState) (left : Option (List ℕ)) (m : Model) (c : Completion)
     (j : JudgeState) (reads : ℕ) (k : Known) → HasRead limits s [] []
     → s.pieces ≡ record { pending = []; reads = reads; at_end = false }
-    → j ≡ record { model = m; completion = c; before = None; found = None }
+    → j ≡ record { model = m; completion = c; before = None; found = None; refuted = None }
     → Listening limits s left m j k k
 listening_first s left m c j reads k read pieces is = record {
   given = [];
@@ -78,5 +78,5 @@ pub learned : (m : Model) (j j' : JudgeState) (block : Block) (v : Verdict) (old
     (aim : Aim) (o : Option ℤ) (s : Source) → j.model ≡ m → IsJudged j j' block v → v ≡ Satisfied
     → aim ≡ m.aim → o ≡ j'.found → new ≡ known_with aim old o s → Knows m old → Knows m new
 learned m j j' block v old new aim o s same judged satisfied aims is known h =
-    let solved : HasSolutionWith m o = subst₂ (λ n k. HasSolutionWith n k) same (sym is) ((outcome_of j j' block v judged).solved satisfied) in
+    let solved : HasSolutionWith m o = subst₂ (λ n k. HasSolutionWith n k) same (sym is) (has_solution j.model block j'.found ((outcome_of j j' block v judged).solved satisfied)) in
     subst (Knows m) (sym (known ∙ ap (λ a. known_with a old o s) aims)) (knows_more m old o s h solved)

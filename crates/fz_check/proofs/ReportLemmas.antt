@@ -1,5 +1,5 @@
 -- What the verdicts of a report say of solutions is so.
-use Rattle.std.proofs.Common.{◌≡◌, ℕ, List, [], ◌∷◌, ◌++◌, map, Some, refl, sym, ap, ◌∙◌, subst}
+use Rattle.std.proofs.Common.{◌≡◌, ℕ, List, [], ◌∷◌, ◌++◌, map, None, Some, refl, sym, ap, ◌∙◌, subst}
 use Rattle.std.specs.List.{AllByRecursion}
 use Rattle.fz_judge.specs.of_model.Located.{LocatedTree}
 use Rattle.fz_judge.specs.of_model.Meaning.{Model}
@@ -89,7 +89,7 @@ module _ {limits : Limits} (claims : Claims) (c : Completion) (model : List ℕ)
     holds = (
       r,
       are_borne_out c model m stream _ _ loaded plain,
-      λ knows. subst (AllByRecursion (IsTrueOf m)) (sym r.events_are) (all_true m c claims 0 no_ledger (map located_block r.have_outcomes.have_verdicts.blocks) r.outcomes r.parts knows tt r.have_outcomes.are_outcomes),
+      λ knows. subst (AllByRecursion (IsTrueOf m)) (sym r.events_are) (all_true m c claims 0 no_ledger None None (map located_block r.have_outcomes.have_verdicts.blocks) r.outcomes r.parts knows tt r.have_outcomes.are_outcomes),
     );
   }
 

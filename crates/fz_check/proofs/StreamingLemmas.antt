@@ -393,7 +393,7 @@ ended_by ending claims text c model m left left' w w' errors.Read loaded h = rec
 ended_by ending claims text c model m left left' w w' (errors.Stream e) loaded h = record { m = m; loaded = loaded; holds = h }
 ended_by ending claims text c model m left left' w w' (errors.Block n e) loaded h = record { m = m; loaded = loaded; holds = h }
 
-module _ {limits : Limits} (ending : Ending) (claims : Claims) (text : Event → List ℕ) (c : Completion) (model : List ℕ) (m : Model) (reads : ℕ) (left left' w w' w'' : Option (List ℕ)) (lines : List ℕ) (loaded : IsLoadedFromWithin limits model m) (j : JudgeState) (same : j ≡ record { model = m; completion = c; before = None; found = None }) (k : Claims) (same_claims : k ≡ claims) where
+module _ {limits : Limits} (ending : Ending) (claims : Claims) (text : Event → List ℕ) (c : Completion) (model : List ℕ) (m : Model) (reads : ℕ) (left left' w w' w'' : Option (List ℕ)) (lines : List ℕ) (loaded : IsLoadedFromWithin limits model m) (j : JudgeState) (same : j ≡ record { model = m; completion = c; before = None; found = None; refuted = None }) (k : Claims) (same_claims : k ≡ claims) where
   -- what holds of the judge's model and way of judging, and of what is known of claims
   at : (P : Claims → Completion → Model → Type 0) → P k j.completion j.model → P claims c m
   at P h = subst₂ (λ l (i : JudgeState). P l i.completion i.model) same_claims same h

@@ -4,6 +4,8 @@ use Rattle.std.specs.Prelude.{◌≡◌, ℕ, suc, ℤ, Bool, true, false, cond,
 use Rattle.std.specs.List.{AllByRecursion}
 use Rattle.std.specs.Option.{option_or}
 use Rattle.fz_judge.specs.of_syntax.Limits.{Limits}
+use Rattle.fz_judge.specs.of_model.Located.{LocatedTree}
+use Rattle.fz_judge.specs.of_model.Names.{HasNoFault, model_of}
 use Rattle.fz_judge.specs.of_model.Meaning.{Aim, Model, Partial, Assignment, IsSolution, objective, whole}
 use Rattle.fz_judge.specs.of_model.Meaning.Aim.{Satisfy, Minimize, Maximize}
 use Rattle.fz_judge.specs.of_stream.declared.line.ClaimKind.{ClaimKind}
@@ -12,7 +14,9 @@ use Rattle.fz_judge.specs.of_stream.Parts.{StreamPart, BlockPart, ClaimPart, IsS
 use Rattle.fz_judge.specs.BlockView.{located_block}
 use Rattle.fz_judge.specs.Solutions.{Block, Extends}
 use Rattle.fz_judge.specs.declared.completion.Completion.{Completion}
-use Rattle.fz_judge.specs.Verdict.{Verdict, Answer, IsFilled, answer_of}
+use Rattle.fz_judge.specs.declared.completion.Completion.TheVariants.{Off}
+use Rattle.fz_judge.specs.Completed.{IsToldBy}
+use Rattle.fz_judge.specs.Verdict.{Verdict, Answer, IsFilled, answer_of, verdict}
 use Rattle.fz_judge.specs.Verdict.Verdict.{Satisfied}
 use Rattle.fz_judge.specs.Verdict.Answer.{Rejected, ClaimRejected}
 use Rattle.fz_check.specs.declared.claims.Saying.{Saying}
@@ -69,25 +73,38 @@ pub record Outcome : Type 0 where
 abbrev pub HasSolutionWith : Model → Option ℤ → Type 0
 HasSolutionWith m o = (A : Assignment) × IsSolution m A × (objective m (whole A) ≡ o)
 
-pub record IsOutcome (c : Completion) (m : Model) (block : Block) (o : Outcome) : Type 0 where
+-- and it extends the block
+abbrev pub IsSolvedWith : Model → Block → Option ℤ → Type 0
+IsSolvedWith m block o =
+    (A : Assignment) × Extends m A block × IsSolution m A × (objective m (whole A) ≡ o)
+
+-- The outcome of a block, where the block before has these objectives. The filling and the
+-- objectives are those of its verdict; where no values are looked for, there is one objective.
+pub record IsOutcome (c : Completion) (m : Model) (filled found : Option ℤ) (block : Block)
+    (o : Outcome) : Type 0 where
   pub filling : Partial
   pub is_filled : IsFilled c m block filling
   pub filled_is : o.filled ≡ objective m filling
-  pub solved : o.verdict ≡ Satisfied → HasSolutionWith m o.found
+  pub is_told : IsToldBy c m block found filling (verdict m filling block filled) o.verdict o.found
+  pub one_objective : c ≡ Off → o.found ≡ o.filled
+  pub solved : o.verdict ≡ Satisfied → IsSolvedWith m block o.found
 
-abbrev pub AreOutcomes : Completion → Model → List Block → List Outcome → Type 0
-AreOutcomes c m [] [] = ⊤
-AreOutcomes c m (b ∷ bs) (o ∷ os) = IsOutcome c m b o × AreOutcomes c m bs os
-AreOutcomes c m _ _ = ⊥
+-- those of blocks in order, of which each hands its objectives on to the next
+abbrev pub AreOutcomes : Completion → Model → Option ℤ → Option ℤ → List Block → List Outcome
+    → Type 0
+AreOutcomes c m filled found [] [] = ⊤
+AreOutcomes c m filled found (b ∷ bs) (o ∷ os) =
+    IsOutcome c m filled found b o × AreOutcomes c m o.filled o.found bs os
+AreOutcomes c m filled found _ _ = ⊥
 
 abbrev pub verdicts_of : List Outcome → List Verdict
 verdicts_of os = map (λ o. o.verdict) os
 
--- The blocks among the parts have these outcomes.
+-- The blocks among the parts have these outcomes; the first is compared with nothing.
 pub record HaveOutcomes (c : Completion) (m : Model) (parts : List StreamPart)
     (outcomes : List Outcome) : Type 0 where
   pub have_verdicts : HaveVerdicts c m parts (verdicts_of outcomes)
-  pub are_outcomes : AreOutcomes c m (map located_block have_verdicts.blocks) outcomes
+  pub are_outcomes : AreOutcomes c m None None (map located_block have_verdicts.blocks) outcomes
 
 -- what is known of other streams is so: there are solutions, one with the best objective
 pub record Knows (m : Model) (k : Known) : Type 0 where
@@ -272,6 +289,16 @@ HasReportWith limits claims c model stream events answer = HoldsOfModelWithin li
     × AreBorneOut m (map located_block r.have_outcomes.have_verdicts.blocks)
     (verdicts_of r.outcomes)
     × (KnowsOf m claims → AllByRecursion (IsTrueOf m) events))
+
+-- What the lines tell that were written is so, also where the stream is refused behind them: their
+-- verdicts are borne out, and each claim that they tell as refuted is false.
+abbrev pub WrittenLinesAreBorneOut : Type 0
+WrittenLinesAreBorneOut = (claims : Claims) (c : Completion) (t : LocatedTree)
+    (parts : List StreamPart) (outcomes : List Outcome) → HasNoFault t
+    → (h : HaveOutcomes c (model_of t) parts outcomes)
+    → AreBorneOut (model_of t) (map located_block h.have_verdicts.blocks) (verdicts_of outcomes)
+    × (KnowsOf (model_of t) claims
+    → AllByRecursion (IsTrueOf (model_of t)) (told_of (model_of t) claims outcomes parts))
 
 -- where claims aren't judged, the events and the answer are those of a report without them
 abbrev pub UnaskedClaimsAreNotJudged : Type 0

@@ -3,19 +3,16 @@ use Rattle.std.specs.Prelude.{◌≡◌, ℕ, suc, ℤ, List, map, Some}
 use Rattle.std.specs.List.{slice_get}
 use Rattle.fz_judge.specs.of_syntax.Lexing.{standard_limits}
 use Rattle.fz_judge.specs.of_syntax.Limits.{Limits}
-use Rattle.fz_judge.specs.of_model.Located.{LocatedTree}
 use Rattle.fz_judge.specs.of_model.Meaning.{Model, Assignment, IsSolution}
 use Rattle.fz_judge.specs.of_model.States.{IsKnownSolution}
-use Rattle.fz_judge.specs.of_model.Names.{HasNoFault, model_of}
 use Rattle.fz_judge.specs.of_model.Texts.{IsLoadedFromWithin}
-use Rattle.fz_judge.specs.of_stream.Parts.{StreamPart}
 use Rattle.fz_judge.specs.declared.completion.Completion.{Completion}
 use Rattle.fz_judge.specs.Solutions.{Block, Extends, Improves}
 use Rattle.fz_judge.specs.Verdict.{Answer, Verdict, Fault}
 use Rattle.fz_judge.specs.BlockView.{located_block}
 use Rattle.fz_judge.specs.Verdict.Verdict.{Satisfied, Violated}
 use Rattle.fz_judge.specs.Verdict.Fault.{NotBetter}
-use Rattle.fz_check.specs.Report.{Event, HaveVerdicts, IsReportWithin}
+use Rattle.fz_check.specs.Report.{Event, IsReportWithin}
 
 -- Within the limits the model's bytes are a text of a tree without faults, and this holds of its
 -- model.
@@ -69,10 +66,3 @@ HasReportWithin limits c model stream events answer = HoldsOfModelWithin limits 
 
 abbrev pub HasReport : Completion → List ℕ → List ℕ → List Event → Answer → Type 0
 HasReport = HasReportWithin standard_limits
-
--- The verdicts of lines that were written are borne out, also where the stream is refused behind
--- them.
-abbrev pub WrittenLinesAreBorneOut : Type 0
-WrittenLinesAreBorneOut = (c : Completion) (t : LocatedTree) (parts : List StreamPart)
-    (verdicts : List Verdict) → HasNoFault t → (h : HaveVerdicts c (model_of t) parts verdicts)
-    → AreBorneOut (model_of t) (map located_block h.blocks) verdicts

@@ -1,6 +1,6 @@
 -- What is judged and told while the parts of a stream come. Private functions alone cite this file,
 -- and a reader need not believe it.
-use Rattle.std.specs.Prelude.{◌≡◌, ◌≢◌, ℕ, suc, ◌+◌, ◌*◌, ◌≤◌, List, [], ◌∷◌, ◌++◌, length, map, Option, Some, None, Result, Ok, Err, ⊤, ◌⊎◌}
+use Rattle.std.specs.Prelude.{◌≡◌, ◌≢◌, ℕ, suc, ℤ, ◌+◌, ◌*◌, ◌≤◌, List, [], ◌∷◌, ◌++◌, length, map, Option, Some, None, Result, Ok, Err, ⊤, ◌⊎◌}
 use Rattle.std.specs.List.{AllByRecursion}
 use Rattle.std.specs.Io.KnownBytes.{Appends, Consumes, IsAtEnd}
 use Rattle.fz_judge.specs.of_syntax.Limits.{Limits}
@@ -99,6 +99,13 @@ IsUnjudged most j block (errors.Block n e) = (n ≡ suc j.tally.blocks) × (e �
 IsUnjudged most j block errors.Memory = ⊤
 IsUnjudged most j block _ = ⊥
 
+-- The outcomes of blocks that come behind these, where these leave such objectives, go on from them.
+abbrev pub OutcomesGoOn : Completion → Model → List Block → List Outcome → Option ℤ → Option ℤ
+    → Type 0
+OutcomesGoOn c m blocks outcomes filled found =
+    (more : List Block) (others : List Outcome) → AreOutcomes c m filled found more others
+    → AreOutcomes c m None None (blocks ++ more) (outcomes ++ others)
+
 -- The blocks among the parts were judged with these outcomes, and this is known of claims.
 pub record HasTold (claims : Claims) (c : Completion) (m : Model) (j : Jury)
     (parts : List StreamPart) (outcomes : List Outcome) : Type 0 where
@@ -106,7 +113,7 @@ pub record HasTold (claims : Claims) (c : Completion) (m : Model) (j : Jury)
   pub blocks_are : map block_of blocks ≡ blocks_in parts
   pub places : AllByRecursion HasPlaces blocks
   pub judged : HasJudged c m j (map located_block blocks) (verdicts_of outcomes)
-  pub are_outcomes : AreOutcomes c m (map located_block blocks) outcomes
+  pub go_on : OutcomesGoOn c m (map located_block blocks) outcomes j.judge.before j.judge.found
   pub claims_are : j.claims ≡ claims
   pub ledger_is : j.ledger ≡ ledger m.aim claims 0 no_ledger outcomes parts
 

@@ -8,7 +8,7 @@ use crate::claims::Refutation;
 use crate::line::{push_answer, push_block, push_claim, push_cut, push_refutation};
 use crate::tally::Answer;
 use fz_base::Span;
-use fz_judge::{Block, ClaimKind, Model, Verdict};
+use fz_judge::{Block, ClaimKind, Model, Refutation as BoundsRefutation, Verdict};
 use std::alloc::AllocError;
 
 /// A block that was judged.
@@ -20,6 +20,12 @@ pub struct Judged<'e, 'a> {
     pub verdict: Verdict<'a>,
     /// the objective, with the values that were looked for, where it has one
     pub objective: Option<i64>,
+    /// whether that objective is one of values that were looked for: under the filling alone the
+    /// block has none, or another
+    pub found: bool,
+    /// why bounds refute the block, where its verdict is that they do: the point of the verdict, and
+    /// the bounds that other points left
+    pub refuted: Option<&'e BoundsRefutation>,
     pub model: &'e Model<'a>,
 }
 

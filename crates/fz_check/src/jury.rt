@@ -36,6 +36,7 @@ impl<'m, 'a, 'k> Jury<'m, 'a, 'k> {
           completion = completion;
           before = None;
           found = None;
+          refuted = None;
         } }
         ensures tally { result.tally ≡ record { blocks = 0; violated = None; undecided = None } }
         ensures claims { result.claims ≡ claims.entry }
@@ -59,7 +60,7 @@ impl<'m, 'a, 'k> Jury<'m, 'a, 'k> {
         ensures judged { IfOk result (λ v. JudgesOneMore self.old self.new
             (located_block block.now) (verdict_view v)) }
         ensures outcome { IfOk result (λ v. IsOutcome self.old.judge.completion
-            self.old.judge.model
+            self.old.judge.model self.old.judge.before self.old.judge.found
             (located_block block.now) (record {
               verdict = verdict_view v;
               filled = self.new.judge.before;

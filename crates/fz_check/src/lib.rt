@@ -25,9 +25,8 @@ mod telling;
 mod text;
 mod writing;
 
-ghost use Rattle.fz_check.specs.Claims.{UnaskedClaimsAreNotJudged};
+ghost use Rattle.fz_check.specs.Claims.{UnaskedClaimsAreNotJudged, WrittenLinesAreBorneOut};
 ghost use Rattle.fz_check.specs.Cutting.{IsCutOnlyWhereOpen};
-ghost use Rattle.fz_check.specs.Reported.{WrittenLinesAreBorneOut};
 
 pub use checking::{check, read_model, show, show_printing_all};
 pub use claims::{Best, Claims, Known, Refutation, Refuter, Saying, Source, Statement};
@@ -46,7 +45,8 @@ pub use report::{Entry, Report, report_text};
 pub use streaming::{MOST_READS, check_events, check_stream, check_stream_up_to};
 pub use tally::Answer;
 
-/// What the lines say that were written before a refusal is so, as it is of a report.
+/// What the lines say that were written before a refusal is so, as it is of a report: of the verdicts
+/// and of the claims that are refuted.
 pub fn written_lines_are_borne_out()
     ensures { WrittenLinesAreBorneOut }
 {}

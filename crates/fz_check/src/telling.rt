@@ -96,11 +96,14 @@ fn tell_part<T: Taker>(
                 Err(error) => return Err(error),
             };
             let refuted = jury.hear_block(&verdict);
+            let objective = jury.judge.objective();
             let judged = Judged {
                 number: jury.tally.blocks,
                 block,
                 verdict,
-                objective: jury.judge.objective(),
+                objective,
+                found: objective != jury.judge.filled_objective(),
+                refuted: jury.judge.refutation(),
                 model: jury.judge.model(),
             };
             make_block_line(taker, line, judged, refuted)

@@ -8,4 +8,6 @@ mod pages;
 mod words;
 
 pub use pages::{HELP, USAGE, VERSION};
-pub use words::{CheckOptions, Explaining, Form, Printing, Refused, Request, Size, read_words};
+pub use words::{
+    CheckOptions, Explaining, Form, Judging, Printing, Refused, Request, Size, read_words,
+};

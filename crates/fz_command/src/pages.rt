@@ -1,10 +1,7 @@
 //! The usage line, the help page and the version.
 
 /// The line on standard error where the command line is wrong, or asks for help.
-pub const USAGE: &str = "\
-usage: fzcheck show [--large] [--print-all] MODEL \
-| check [--large] [--complete] [--cut] [--claims [--known STREAM]..] \
-[--explain[=all] [--names FILE]] [--json] MODEL [STREAM]";
+pub const USAGE: &str = "usage: fzcheck show MODEL | check MODEL [STREAM]";
 
 /// The answer to `--version`: the program and its version.
 pub const VERSION: &str = "fzcheck 0.4.0";
@@ -13,23 +10,25 @@ pub const VERSION: &str = "fzcheck 0.4.0";
 pub const HELP: &str = "\
 fzcheck: checks the output of a FlatZinc solver against its model
 
-fzcheck check [--large] [--complete] [--cut] [--claims [--known STREAM]..]
+fzcheck check [--large] [--complete] [--cut] [--claims] [--known STREAM]..
         [--explain[=all] [--names FILE]] [--json] MODEL [STREAM]
     Judges each solution block of the file STREAM, or of standard input where it is left out,
     against the model in the file MODEL. There is a line for each block and claim, and then the
-    answer.
+    answer. An option that is given twice counts once.
     --large     takes a model of up to 1,073,741,824 bytes, in the place of 16,777,216, lists of up
                 to 134,217,728 elements, in the place of 1,048,576, and blocks as large
-    --complete  looks for values that the solver left out, and judges what it finds
+    --complete  looks for values that the solver left out, and judges what it finds; where bounds
+                prove that there are none, the block is violated
     --cut       where the stream ends inside a block, as that of a solver does that was killed,
                 judges what comes before that block, and tells the byte range of what it left out
     --claims    judges claims on the whole search as far as a satisfied block refutes them: that there
                 is no solution, or none better than the last one
     --known STREAM
-                with --claims, and up to 64 times: the blocks of another solver's stream, each judged
+                as --claims, and up to 64 times: the blocks of another solver's stream, each judged
                 by itself before all others, refute claims too
     --explain   shows on standard error what stands behind the verdict that the answer names,
-                or where the fault stands that a refusal tells of
+                or where the fault stands that a refusal tells of; without it a terminal is told
+                that place too, in one line
     --explain=all
                 the same of each block that isn't satisfied, as it comes
     --names FILE

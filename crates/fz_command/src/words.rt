@@ -1,5 +1,8 @@
 //! The words of the command line.
 
+ghost use Rattle.std.specs.Prelude.{◌≡◌, ◌≢◌, [], true, false};
+ghost use Rattle.fz_command.specs.declared.words.Judging.TheVariants.{Asked, Implied, Nothing};
+
 use crate::pages::VERSION;
 use clap::error::ErrorKind;
 use clap::{Arg, ArgAction, ArgMatches, Command, Error};
@@ -47,11 +50,36 @@ pub struct CheckOptions {
     pub completes: bool,
     /// Whether a block is cut off in which the stream ends.
     pub cuts: bool,
-    /// Whether claims on the whole search are judged.
-    pub judges_claims: bool,
+    pub judging: Judging,
     pub explains: Explaining,
     pub form: Form,
     pub size: Size,
+}
+
+/// Whether claims on the whole search are judged.
+#[derive(Clone, Copy, PartialEq, Eq)]
+pub enum Judging {
+    Nothing,
+    /// They are, by `--claims`.
+    Asked,
+    /// They are, since `--known` names streams, though `--claims` isn't there.
+    Implied,
+}
+
+impl Judging {
+    fn of(claims: bool, known: &[&str]) -> Judging
+        ensures asked { claims ≡ true → result ≡ Asked }
+        ensures implied { claims ≡ false → known.now ≢ [] → result ≡ Implied }
+        ensures nothing { claims ≡ false → known.now ≡ [] → result ≡ Nothing }
+    {
+        if claims {
+            Judging::Asked
+        } else if known.is_empty() {
+            Judging::Nothing
+        } else {
+            Judging::Implied
+        }
+    }
 }
 
 /// What the report is written as.
@@ -107,20 +135,41 @@ fn refusal_of(alloc: Global, error: &Error) -> Refused {
         ErrorKind::OutOfMemory => Refused::Memory,
         ErrorKind::DisplayHelp => Refused::Help,
         ErrorKind::DisplayVersion => Refused::Version,
-        _ => match first_paragraph(alloc, error) {
+        _ => match told(alloc, error) {
             Ok(text) => Refused::Wrong(text),
             Err(_) => Refused::Memory,
         },
     }
 }
 
-/// The first paragraph of the message of an error, since the usage of `clap` follows there.
-fn first_paragraph(alloc: Global, error: &Error) -> Result<String, AllocError> {
+/// The first paragraph of the message of an error, since the usage of `clap` follows there, and
+/// what the words may have meant.
+fn told(alloc: Global, error: &Error) -> Result<String, AllocError> {
     let text = format!(in alloc; "{error}")?;
-    match text.split_once("\n\n") {
-        Some((front, _)) => String::from_str(alloc, front),
-        None => Ok(text),
+    let Some((front, behind)) = text.split_once("\n\n") else {
+        return Ok(text);
+    };
+    match meant(behind) {
+        Some(word) => format!(in alloc; "{front}\ndid you mean {word}"),
+        None => String::from_str(alloc, front),
     }
+}
+
+/// The word that `clap` knows for a wrong one, where its message has a tip such as
+/// `a similar argument exists: '--complete'` or `'check --complete' exists`.
+fn meant(text: &str) -> Option<&str> {
+    let (front, behind) = text.split_once(" exist")?;
+    let line = match behind.split_once('\n') {
+        Some((line, _)) => line,
+        None => behind,
+    };
+    last_quoted(line).or(last_quoted(front))
+}
+
+/// The quoted word at the end of a text.
+fn last_quoted(text: &str) -> Option<&str> {
+    let (_, word) = text.strip_suffix('\'')?.rsplit_once('\'')?;
+    Some(word)
 }
 
 /// The command of the words that `clap` read.
@@ -131,22 +180,32 @@ fn request_of<'a>(alloc: Global, matches: &ArgMatches<'a>) -> Result<Request<'a>
             printing: printing_of(given),
             size: size_of(given),
         }),
-        Some(("check", given)) => Ok(Request::Check {
-            model: model_of(given)?,
-            stream: given.get_str("STREAM"),
-            names: given.get_str("names"),
-            known: known_of(alloc, given)?,
-            options: CheckOptions {
-                completes: given.get_flag("complete"),
-                cuts: given.get_flag("cut"),
-                judges_claims: given.get_flag("claims"),
-                explains: explaining_of(given),
-                form: form_of(given),
-                size: size_of(given),
-            },
-        }),
+        Some(("check", given)) => check_of(alloc, given),
         _ => Err(Refused::Help),
     }
+}
+
+/// The command `check` of the words behind it.
+fn check_of<'a>(alloc: Global, given: &ArgMatches<'a>) -> Result<Request<'a>, Refused> {
+    let model = model_of(given)?;
+    let names = only(alloc, given, "names")?;
+    let explains = explaining_of(only(alloc, given, "explain")?);
+    let known = known_of(alloc, given)?;
+    let options = CheckOptions {
+        completes: given.get_flag("complete"),
+        cuts: given.get_flag("cut"),
+        judging: Judging::of(given.get_flag("claims"), &known),
+        explains,
+        form: form_of(given),
+        size: size_of(given),
+    };
+    Ok(Request::Check {
+        model,
+        stream: given.get_str("STREAM"),
+        names,
+        known,
+        options,
+    })
 }
 
 /// The file of the model, which both commands require.
@@ -154,16 +213,45 @@ fn model_of<'a>(given: &ArgMatches<'a>) -> Result<&'a str, Refused> {
     given.get_str("MODEL").ok_or(Refused::Help)
 }
 
-/// The files of the known streams, in order.
-fn known_of<'a>(alloc: Global, given: &ArgMatches<'a>) -> Result<Vec<&'a str>, Refused> {
-    let Some(names) = given.get_strs("known") else {
-        return Ok(Vec::new(alloc));
+/// The value of an option, however often it is given.
+fn only<'a>(
+    alloc: Global,
+    given: &ArgMatches<'a>,
+    option: &str,
+) -> Result<Option<&'a str>, Refused> {
+    let Some([value, others @ ..]) = given.get_strs(option) else {
+        return Ok(None);
     };
-    if names.len() > MOST_KNOWN {
+    for other in others {
+        if other != value {
+            let told = format!(in alloc;
+                "error: --{option} is given as '{value}' and as '{other}'"
+            )?;
+            return Err(Refused::Wrong(told));
+        }
+    }
+    Ok(Some(*value))
+}
+
+/// The files of the known streams, in order, each once.
+fn known_of<'a>(alloc: Global, given: &ArgMatches<'a>) -> Result<Vec<&'a str>, Refused> {
+    let known = each_once(alloc, given.get_strs("known").unwrap_or(&[]))?;
+    if known.len() > MOST_KNOWN {
         let told = format!(in alloc; "error: more than {MOST_KNOWN} known streams")?;
         return Err(Refused::Wrong(told));
     }
-    Ok(Vec::from_slice(alloc, names)?)
+    Ok(known)
+}
+
+/// The words without repeats.
+fn each_once<'a>(alloc: Global, words: &[&'a str]) -> Result<Vec<&'a str>, AllocError> {
+    let mut distinct = Vec::new(alloc);
+    for word in words {
+        if !distinct.contains(word) {
+            distinct.push(*word)?;
+        }
+    }
+    Ok(distinct)
 }
 
 fn printing_of(given: &ArgMatches<'_>) -> Printing {
@@ -174,8 +262,8 @@ fn printing_of(given: &ArgMatches<'_>) -> Printing {
     }
 }
 
-fn explaining_of(given: &ArgMatches<'_>) -> Explaining {
-    match given.get_str("explain") {
+fn explaining_of(what: Option<&str>) -> Explaining {
+    match what {
         Some("all") => Explaining::All,
         Some(_) => Explaining::Answer,
         None => Explaining::Nothing,
@@ -203,9 +291,11 @@ fn file_word<'a>(alloc: Global, id: &'a str) -> Arg<'a> {
     Arg::new(alloc, id).action(ArgAction::Set)
 }
 
-/// A command that requires the file of a model, which may be a large one.
+/// A command that requires the file of a model, which may be a large one. An option without a value
+/// may be given twice.
 fn over_model<'a>(alloc: Global, name: &'a str) -> Result<Command<'a>, AllocError> {
     Command::new(alloc, name)
+        .args_override_self(true)
         .arg(file_word(alloc, "MODEL").required(true))?
         .arg(flag(alloc, "large"))
 }
@@ -225,7 +315,7 @@ fn check_command<'a>(alloc: Global) -> Result<Command<'a>, AllocError> {
         .arg(flag(alloc, "complete"))?
         .arg(flag(alloc, "cut"))?
         .arg(flag(alloc, "claims"))?
-        .arg(known_option(alloc)?)?
+        .arg(known_option(alloc))?
         .arg(flag(alloc, "json"))?
         .arg(explain_option(alloc))?
         .arg(names_option(alloc)?)
@@ -234,13 +324,12 @@ fn check_command<'a>(alloc: Global) -> Result<Command<'a>, AllocError> {
 /// The most known streams.
 const MOST_KNOWN: usize = 64;
 
-/// The option that is `--known STREAM`, with `--claims`.
-fn known_option<'a>(alloc: Global) -> Result<Arg<'a>, AllocError> {
+/// The option that is `--known STREAM`.
+fn known_option<'a>(alloc: Global) -> Arg<'a> {
     Arg::new(alloc, "known")
         .long("known")
         .value_name("STREAM")
         .action(ArgAction::Append)
-        .requires_arg("claims")
 }
 
 /// What `--explain` may name; where it names nothing, it is the first.
@@ -250,7 +339,7 @@ const EXPLAINED: [&str; 2] = ["answer", "all"];
 fn explain_option<'a>(alloc: Global) -> Arg<'a> {
     Arg::new(alloc, "explain")
         .long("explain")
-        .action(ArgAction::Set)
+        .action(ArgAction::Append)
         .num_args(0..=1)
         .require_equals(true)
         .default_missing_value(EXPLAINED[0])
@@ -261,7 +350,7 @@ fn explain_option<'a>(alloc: Global) -> Arg<'a> {
 fn names_option<'a>(alloc: Global) -> Result<Arg<'a>, AllocError> {
     Arg::new(alloc, "names")
         .long("names")
-        .action(ArgAction::Set)
+        .action(ArgAction::Append)
         .value_name("FILE")
         .requires_arg("explain")
 }

@@ -1,20 +1,28 @@
 //! Blocks that aren't satisfied, to be explained.
 
+use crate::binding::Unbound;
 use crate::message::{Message, Text};
 use crate::verdict::{Reading, verdict_message, verdict_place};
-use fz_judge::{Block, Completion, Limits, Model, Verdict, fill_with_steps, parse_within};
+use fz_judge::{
+    Block, Completion, Limits, Model, Refutation, Verdict, fill_with_steps, parse_within,
+};
 use fz_places::NameTable;
 use fz_tree::Ast;
 use std::alloc::{AllocError, Global};
 
-/// A block with its number, the verdict on it and its text, which is a part of the stream's.
+/// A block with its number, the verdict on it, why bounds refute it where they do, and its text,
+/// which is a part of the stream's.
 #[derive(Clone, Copy)]
 pub struct Case<'e, 'a> {
     pub number: usize,
     pub block: &'e Block<'e>,
     pub verdict: Verdict<'a>,
+    pub refuted: Option<&'e Refutation>,
     pub stream: Text<'e>,
 }
+
+/// The most bytes of a text that is parsed to tell the printed variables that nothing binds.
+const MOST_BYTES: usize = 16_777_216;
 
 /// Explains the verdicts on blocks. The text of the model is parsed at the first explanation.
 #[derive(Drop)]
@@ -84,6 +92,27 @@ impl<'a, 'n> Explainer<'a, 'n> {
             Some(ast) => self.tree_explanation(alloc, model, case, ast),
             None => Ok(None),
         }
+    }
+
+    /// The printed variables of the model that nothing binds but their own domains; none where there
+    /// are none, and of a text of more than 16 MiB.
+    ///
+    /// # Errors
+    ///
+    /// Out of memory.
+    pub fn unconstrained(
+        &mut self,
+        alloc: Global,
+        model: &Model<'_>,
+    ) -> Result<Option<Unbound>, AllocError> {
+        if self.text.bytes.len() > MOST_BYTES {
+            return Ok(None);
+        }
+        self.parse(alloc)?;
+        let Some(ast) = &self.ast else {
+            return Ok(None);
+        };
+        Unbound::of(alloc, model, ast, &self.names)
     }
 
     /// The same, where the model is parsed.

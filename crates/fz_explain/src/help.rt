@@ -14,7 +14,8 @@ const LOOK_FOR_IT: &str =
 const PRINT_ALL: &str = "let the solver run `fzcheck show --print-all`";
 
 /// A constraint isn't known.
-const USE_LIBRARY: &str = "compile with the library in minizinc/, or with the standard one";
+const USE_LIBRARY: &str =
+    "compile with fzcheck's library (share/fzcheck), or with the standard one";
 
 /// The exponent of a power is negative.
 const BOUND_EXPONENT: &str =

@@ -5,6 +5,8 @@
 //! words and layout, which `tests/explained` tests.
 #![tactic(auto)]
 
+mod binding;
+mod bounds;
 mod case;
 mod chain;
 mod differing;
@@ -19,6 +21,7 @@ mod naming;
 mod notes;
 mod place;
 mod printed;
+mod quoting;
 mod refutation;
 mod remarks;
 mod scalars;
@@ -28,6 +31,8 @@ mod sums;
 mod variables;
 mod verdict;
 
+pub use binding::Unbound;
+pub use bounds::Bounds;
 pub use case::{Case, Explainer};
 pub use differing::first_differing;
 pub use domain::declared_domain;
@@ -35,13 +40,14 @@ pub use explained::{Explained, Explanation, explain};
 pub use failing::{Sought, first_point};
 pub use fixed::{Fixing, fixing_of};
 pub use fz_base::{Range, Value};
-pub use fz_judge::Giver;
+pub use fz_judge::{Giver, Kind, Refutation};
 pub use fz_places::{
     Element, ModelPlace, NameLine, NameTable, Spot, TableError, element_of, model_place, spot_of,
 };
 pub use message::{Message, Text, message_at};
-pub use notes::{FixedNote, MOST_RANGES, Note, Origin};
+pub use notes::{FixedNote, Known, MOST_RANGES, Note, Origin};
 pub use place::point_place;
+pub use quoting::{Quote, Source as ModelSource};
 pub use remarks::Remarks;
 pub use source::{Source, sources_are_earlier};
 pub use sums::too_large_at;

@@ -7,6 +7,7 @@ ghost use Rattle.fz_places.specs.Lines.{characters, last_line, line_ends};
 use crate::excerpt::Excerpt;
 use crate::explained::FIRST_VARIABLES;
 use crate::notes::{FixedNote, Note, fixed_text, giver_lines, note_text};
+use crate::quoting::Quote;
 use crate::remarks::Remarks;
 use fz_base::Span;
 use fz_files::Passed;
@@ -77,6 +78,12 @@ impl Message {
         let mut text = String::from_str(alloc, &self.head)?;
         for told in self.remarks.lines(alloc)? {
             writeln!(text, "{:digits$}    = {told}", "")?;
+        }
+        if let Some(quote) = &self.remarks.quote {
+            let (line, front) = (quote.line, quote.front);
+            let width = format!(in alloc; "{line}")?.len();
+            writeln!(text, "{:digits$}    =   {line} | {}", "", quote.text)?;
+            writeln!(text, "{:digits$}    =   {:width$} | {:front$}^", "", "", "")?;
         }
         if let Some(told) = &self.reason {
             writeln!(text, "{:digits$}    = {told}", "")?;

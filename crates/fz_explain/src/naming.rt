@@ -1,8 +1,7 @@
 //! What things of a FlatZinc model are called in the MiniZinc model.
 
 use crate::excerpt::shown_text;
-use crate::verdict::Reading;
-use fz_places::{Element, element_of};
+use fz_places::{Element, NameTable, element_of};
 use fz_tree::Ast;
 use std::alloc::{AllocError, Global};
 
@@ -10,13 +9,27 @@ use std::alloc::{AllocError, Global};
 /// names, or else the element of a printed array that it is.
 pub(crate) fn model_name(
     alloc: Global,
-    reading: &Reading<'_, '_, '_, '_, '_>,
+    names: &NameTable<'_>,
+    ast: &Ast<'_>,
     name: &[u8],
 ) -> Result<Option<String>, AllocError> {
-    match reading.names.find(name) {
+    match names.find(name) {
         Some(line) if line.model_name == name => Ok(None),
         Some(line) => Ok(Some(shown_text(alloc, line.model_name)?)),
-        None => element_text(alloc, reading.ast, name),
+        None => element_text(alloc, ast, name),
+    }
+}
+
+/// The name in the MiniZinc model of what has this name, or else this name.
+pub(crate) fn best_name(
+    alloc: Global,
+    names: &NameTable<'_>,
+    ast: &Ast<'_>,
+    name: &[u8],
+) -> Result<String, AllocError> {
+    match model_name(alloc, names, ast, name)? {
+        Some(element) => Ok(element),
+        None => shown_text(alloc, name),
     }
 }
 

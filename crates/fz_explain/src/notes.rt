@@ -1,11 +1,12 @@
-//! The notes of a message on variables, with their values and where these come from, and on
+//! The notes of a message on variables, with their values or bounds and where these come from, and on
 //! domains.
 
+use crate::bounds::{Bounds, bounds_text};
 use crate::excerpt::shown_text;
 use crate::explained::{Explained, FIRST_VARIABLES, MOST_VARIABLES, explain};
 use crate::fixed::{Fixing, fixing_of};
 use crate::message::Message;
-use crate::naming::model_name;
+use crate::naming::{best_name, model_name};
 use crate::place::point_place;
 use crate::remarks::{Remarks, remarks_on};
 use crate::source::Source;
@@ -13,7 +14,9 @@ use crate::verdict::Reading;
 use fz_base::{IntSet, Range, Value};
 use fz_judge::{Domain, Model, Point};
 use fz_places::spot_of;
+use fz_reasons::{Piece, Told, Who};
 use fz_tree::{Basic, Constraint, Expr};
+use indexmap::IndexSet;
 use std::alloc::{AllocError, Global};
 
 /// The most ranges of a set that are shown.
@@ -24,14 +27,27 @@ pub const MOST_RANGES: usize = 8;
 pub struct Note {
     /// The variable's number.
     pub number: usize,
+    /// What it is in the reason, as `task 4`, where that is said there and not its name.
+    pub role: Option<String>,
     pub name: String,
     /// Its name in the MiniZinc model, as `a[1,2]`, where that is another.
     pub element: Option<String>,
-    pub value: Option<Value>,
+    pub known: Known,
     pub origin: Origin,
     /// Why the value is given, and those that it is from, each as `name = value: reason`, down to
-    /// what was printed.
+    /// what was printed; or what bounds are from.
     pub behind: Vec<String>,
+}
+
+/// What is known of a variable.
+#[derive(Drop)]
+pub enum Known {
+    Value(Value),
+    /// The bounds to which it is narrowed.
+    Narrowed(Bounds),
+    /// The bounds of its domain, which nothing narrows.
+    Within(Bounds),
+    Nothing,
 }
 
 /// A parameter or an array without variables, and what it is, as `[3,2,1]`.
@@ -43,7 +59,7 @@ pub struct FixedNote {
     pub value: String,
 }
 
-/// Where a value is from.
+/// Where a value is from, or what narrowed bounds.
 #[derive(Drop)]
 pub enum Origin {
     Printed,
@@ -54,33 +70,106 @@ pub enum Origin {
     Nothing,
 }
 
-/// Adds notes on variables: of more than twelve, on the first eight and the last four.
+/// Adds notes on variables, first those that a reason speaks of: of more than twelve, on the first
+/// eight and the last four.
 pub(crate) fn note_variables(
     alloc: Global,
     reading: &Reading<'_, '_, '_, '_, '_>,
     message: &mut Message,
     variables: &[usize],
+    who: &[Who],
 ) -> Result<(), AllocError> {
-    let told = explain(alloc, reading.filling, reading.steps, variables)?;
+    let ordered = in_order(alloc, variables, who)?;
+    let told = explain(alloc, reading.filling, reading.steps, ordered.as_slice())?;
     for explained in told.variables {
-        message.variables.push(note_on(alloc, reading, explained)?)?;
+        let role = role_of(alloc, who, explained.variable)?;
+        message
+            .variables
+            .push(note_on(alloc, reading, explained, role)?)?;
     }
     message.left_out = told.left_out;
     Ok(())
+}
+
+/// Variables, first those that a reason speaks of.
+fn in_order(
+    alloc: Global,
+    variables: &[usize],
+    who: &[Who],
+) -> Result<IndexSet<usize>, AllocError> {
+    let mut ordered = IndexSet::new(alloc);
+    for one in who {
+        ordered.insert(one.variable)?;
+    }
+    for variable in variables {
+        ordered.insert(*variable)?;
+    }
+    Ok(ordered)
+}
+
+/// What a variable is in a reason, where that is said.
+fn role_of(alloc: Global, who: &[Who], variable: usize) -> Result<Option<String>, AllocError> {
+    for one in who {
+        if one.variable == variable {
+            return role_in(alloc, one);
+        }
+    }
+    Ok(None)
+}
+
+fn role_in(alloc: Global, one: &Who) -> Result<Option<String>, AllocError> {
+    match &one.role {
+        Some(role) => Ok(Some(String::from_str(alloc, role)?)),
+        None => Ok(None),
+    }
 }
 
 fn note_on(
     alloc: Global,
     reading: &Reading<'_, '_, '_, '_, '_>,
     explained: Explained,
+    role: Option<String>,
 ) -> Result<Note, AllocError> {
-    let name = name_at(reading.model, explained.variable);
+    let Explained {
+        variable,
+        value,
+        source,
+    } = explained;
+    let name = name_at(reading.model, variable);
     Ok(Note {
-        number: explained.variable,
+        number: variable,
+        role,
         name: shown_text(alloc, name)?,
-        element: model_name(alloc, reading, name)?,
-        origin: origin_of(alloc, reading, explained.source)?,
-        value: explained.value,
+        element: model_name(alloc, reading.names, reading.ast, name)?,
+        known: known_of(value),
+        origin: origin_of(alloc, reading, source)?,
+        behind: Vec::new(alloc),
+    })
+}
+
+fn known_of(value: Option<Value>) -> Known {
+    match value {
+        Some(value) => Known::Value(value),
+        None => Known::Nothing,
+    }
+}
+
+/// The note on a variable whose bounds are known.
+pub(crate) fn note_with(
+    alloc: Global,
+    reading: &Reading<'_, '_, '_, '_, '_>,
+    variable: usize,
+    known: Known,
+    origin: Origin,
+) -> Result<Note, AllocError> {
+    let name = name_at(reading.model, variable);
+    Ok(Note {
+        number: variable,
+        role: None,
+        name: shown_text(alloc, name)?,
+        element: model_name(alloc, reading.names, reading.ast, name)?,
+        known,
+        origin,
         behind: Vec::new(alloc),
     })
 }
@@ -88,13 +177,43 @@ fn note_on(
 /// The note in words.
 pub(crate) fn note_text(alloc: Global, note: &Note) -> Result<String, AllocError> {
     let name = name_text(alloc, &note.name, &note.element)?;
-    let origin = origin_text(alloc, &note.origin)?;
-    match &note.value {
-        Some(value) => {
+    let told = known_text(alloc, &name, &note.known, &note.origin)?;
+    match &note.role {
+        Some(role) => format!(in alloc; "{role}: {told}"),
+        None => Ok(told),
+    }
+}
+
+/// What is known of a variable, by its name in the MiniZinc model where it has one.
+pub(crate) fn short_text(alloc: Global, note: &Note) -> Result<String, AllocError> {
+    match &note.element {
+        Some(element) => known_text(alloc, element, &note.known, &note.origin),
+        None => known_text(alloc, &note.name, &note.known, &note.origin),
+    }
+}
+
+/// What is known of what has this name, and where that is from.
+fn known_text(
+    alloc: Global,
+    name: &str,
+    known: &Known,
+    origin: &Origin,
+) -> Result<String, AllocError> {
+    let origin = origin_text(alloc, origin)?;
+    match known {
+        Known::Value(value) => {
             let value = value_text(alloc, value)?;
             format!(in alloc; "{name} = {value}, {origin}")
         }
-        None => format!(in alloc; "{name} = none: {origin}"),
+        Known::Narrowed(bounds) => {
+            let bounds = bounds_text(alloc, *bounds)?;
+            format!(in alloc; "{name} is narrowed to {bounds}, {origin}")
+        }
+        Known::Within(bounds) => {
+            let bounds = bounds_text(alloc, *bounds)?;
+            format!(in alloc; "{name} is {bounds}, {origin}")
+        }
+        Known::Nothing => format!(in alloc; "{name} = none: {origin}"),
     }
 }
 
@@ -129,10 +248,26 @@ pub(crate) fn told_name(
     variable: usize,
 ) -> Result<String, AllocError> {
     let name = name_at(reading.model, variable);
-    match model_name(alloc, reading, name)? {
-        Some(element) => Ok(element),
-        None => shown_text(alloc, name),
+    best_name(alloc, reading.names, reading.ast, name)
+}
+
+/// A reason in words, with the names of its variables.
+pub(crate) fn told_text(
+    alloc: Global,
+    reading: &Reading<'_, '_, '_, '_, '_>,
+    told: &Told,
+) -> Result<String, AllocError> {
+    let mut text = String::new(alloc);
+    for piece in &told.pieces {
+        match piece {
+            Piece::Text(said) => text.push_str(said)?,
+            Piece::Name(variable) => {
+                let name = told_name(alloc, reading, *variable)?;
+                text.push_str(&name)?;
+            }
+        }
     }
+    Ok(text)
 }
 
 /// The note on what is fixed in words.
@@ -159,12 +294,15 @@ fn origin_text(alloc: Global, origin: &Origin) -> Result<String, AllocError> {
         Origin::Printed => String::from_str(alloc, "printed"),
         Origin::Given(giver, Some(line), _) => format!(in alloc; "by {giver}, line {line}"),
         Origin::Given(giver, None, _) => format!(in alloc; "by {giver}"),
-        Origin::Nothing => String::from_str(alloc, "no rule gives it one; print it"),
+        Origin::Nothing => String::from_str(
+            alloc,
+            "it isn't printed, and what is printed doesn't give it",
+        ),
     }
 }
 
 /// The name of a variable, or an empty text where there is no such variable.
-fn name_at<'m>(model: &'m Model<'_>, variable: usize) -> &'m [u8] {
+pub(crate) fn name_at<'m>(model: &'m Model<'_>, variable: usize) -> &'m [u8] {
     match model.variables().get(variable) {
         Some(variable) => variable.name,
         None => b"",
@@ -186,7 +324,7 @@ fn origin_of(
 }
 
 /// The point that gave a value.
-fn giver_of(
+pub(crate) fn giver_of(
     alloc: Global,
     reading: &Reading<'_, '_, '_, '_, '_>,
     point: &Point<'_>,
@@ -197,10 +335,7 @@ fn giver_of(
         None => None,
     };
     match point {
-        Point::Domain(_) => {
-            let giver = String::from_str(alloc, "its domain")?;
-            Ok(Origin::Given(giver, None, Remarks::none(alloc)))
-        }
+        Point::Domain(_) => by_its_domain(alloc),
         Point::Definition(name) => {
             let name = shown_text(alloc, name)?;
             let giver = format!(in alloc; "definition of {name}")?;
@@ -212,6 +347,11 @@ fn giver_of(
             Ok(Origin::Given(giver, line, remarks_on(alloc, reading, point)?))
         }
     }
+}
+
+pub(crate) fn by_its_domain(alloc: Global) -> Result<Origin, AllocError> {
+    let giver = String::from_str(alloc, "its domain")?;
+    Ok(Origin::Given(giver, None, Remarks::none(alloc)))
 }
 
 pub(crate) fn value_text(alloc: Global, value: &Value) -> Result<String, AllocError> {
@@ -278,7 +418,7 @@ fn note_basic(
     }
     if let Some(fixing) = fixing_of(alloc, reading.model, named.text)? {
         let value = fixing_text(alloc, &fixing)?;
-        let element = model_name(alloc, reading, named.text)?;
+        let element = model_name(alloc, reading.names, reading.ast, named.text)?;
         message.fixed.push(FixedNote {
             name,
             element,
@@ -330,15 +470,37 @@ pub(crate) fn note_domain(
     point: &Point<'_>,
     domain: &Domain,
 ) -> Result<(), AllocError> {
+    let (Point::Domain(name) | Point::Definition(name) | Point::Constraint(_, name)) = point;
+    match domain_of(alloc, reading, name, domain)? {
+        Some(told) => message.note(told),
+        None => Ok(()),
+    }
+}
+
+/// What is said of the domain of a variable; none of all values.
+pub(crate) fn domain_text(
+    alloc: Global,
+    reading: &Reading<'_, '_, '_, '_, '_>,
+    variable: usize,
+) -> Result<Option<String>, AllocError> {
+    match reading.model.variables().get(variable) {
+        Some(variable) => domain_of(alloc, reading, variable.name, &variable.domain),
+        None => Ok(None),
+    }
+}
+
+/// The same of the domain of a name.
+fn domain_of(
+    alloc: Global,
+    reading: &Reading<'_, '_, '_, '_, '_>,
+    name: &[u8],
+    domain: &Domain,
+) -> Result<Option<String>, AllocError> {
     let domain = match domain {
-        Domain::All => return Ok(()),
+        Domain::All => return Ok(None),
         Domain::Within(lo, hi) => format!(in alloc; "{lo}..{hi}")?,
         Domain::Among(set) => set_text(alloc, set)?,
     };
-    let (Point::Domain(name) | Point::Definition(name) | Point::Constraint(_, name)) = point;
-    let name = match model_name(alloc, reading, name)? {
-        Some(element) => element,
-        None => shown_text(alloc, name)?,
-    };
-    message.note(format!(in alloc; "the domain of {name} is {domain}")?)
+    let name = best_name(alloc, reading.names, reading.ast, name)?;
+    Ok(Some(format!(in alloc; "the domain of {name} is {domain}")?))
 }

@@ -62,7 +62,7 @@ fn note_scalar(
     scalar: Scalar<'_>,
 ) -> Result<(), AllocError> {
     match scalar {
-        Scalar::Variable(number) => note_variables(alloc, reading, message, &[number]),
+        Scalar::Variable(number) => note_variables(alloc, reading, message, &[number], &[]),
         Scalar::Number(_) | Scalar::Truth(_) | Scalar::Set(_) => Ok(()),
     }
 }

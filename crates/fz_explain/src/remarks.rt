@@ -3,6 +3,7 @@
 
 use crate::excerpt::{cut_text, shown_text};
 use crate::place::point_notes;
+use crate::quoting::{Quote, Source, source_in};
 use crate::verdict::Reading;
 use fz_judge::Point;
 use fz_places::{ModelPlace, NameLine, NameTable, model_place, text_of};
@@ -18,6 +19,10 @@ pub struct Remarks {
     pub place: Option<String>,
     /// The loop variables there, each as `i = 1`.
     pub loops: Vec<String>,
+    /// Where that place may be read.
+    pub source: Option<Source>,
+    /// What was read there.
+    pub quote: Option<Quote>,
 }
 
 impl Remarks {
@@ -26,6 +31,8 @@ impl Remarks {
             names: Vec::new(alloc),
             place: None,
             loops: Vec::new(alloc),
+            source: None,
+            quote: None,
         }
     }
 
@@ -52,6 +59,7 @@ impl Remarks {
             column,
             loops,
         } = found;
+        self.source = source_in(alloc, path, file, line, column)?;
         let file = shown_text(alloc, file)?;
         let line = shown_text(alloc, line)?;
         let column = shown_text(alloc, column)?;
@@ -59,6 +67,20 @@ impl Remarks {
         for value in loops {
             self.loops.push(loop_text(alloc, value)?)?;
         }
+        Ok(())
+    }
+
+    /// Quotes the line of the place, where this is the text of its file.
+    ///
+    /// # Errors
+    ///
+    /// Out of memory.
+    pub fn read(&mut self, alloc: Global, text: &[u8]) -> Result<(), AllocError> {
+        let quote = match &self.source {
+            Some(source) => source.quote(alloc, text)?,
+            None => None,
+        };
+        self.quote = quote;
         Ok(())
     }
 

@@ -14,10 +14,10 @@ use indexmap::IndexSet;
 use std::alloc::{AllocError, Global};
 
 /// Numbers of variables, each once, in the order in which they were added.
-type Variables = IndexSet<usize>;
+pub(crate) type Variables = IndexSet<usize>;
 
 /// Adds a scalar, where it is a variable.
-fn add(variables: &mut Variables, scalar: Scalar<'_>) -> Result<(), AllocError>
+pub(crate) fn add(variables: &mut Variables, scalar: Scalar<'_>) -> Result<(), AllocError>
     ensures { OnOk result (variables.new.keys
         ≡ with_term variables.old.keys (scalar_term scalar.entry)) }
 {
@@ -28,7 +28,7 @@ fn add(variables: &mut Variables, scalar: Scalar<'_>) -> Result<(), AllocError>
 }
 
 /// Adds the variables among scalars.
-fn add_all(variables: &mut Variables, scalars: &[Scalar<'_>]) -> Result<(), AllocError>
+pub(crate) fn add_all(variables: &mut Variables, scalars: &[Scalar<'_>]) -> Result<(), AllocError>
     ensures { OnOk result (variables.new.keys
         ≡ with_terms variables.old.keys (map scalar_term scalars.now)) }
 {
@@ -70,7 +70,7 @@ fn add_arguments(
 }
 
 /// Adds the variables of a point.
-fn add_point(
+pub(crate) fn add_point(
     alloc: Global,
     variables: &mut Variables,
     parts: PointParts<'_, '_>,
@@ -94,7 +94,7 @@ fn add_point(
 }
 
 /// Adds a term, where it is a variable.
-fn add_term(variables: &mut Variables, term: &Term) -> Result<(), AllocError>
+pub(crate) fn add_term(variables: &mut Variables, term: &Term) -> Result<(), AllocError>
     ensures { OnOk result (variables.new.keys ≡ with_term variables.old.keys term.now) }
 {
     match term {

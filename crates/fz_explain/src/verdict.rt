@@ -2,7 +2,7 @@
 //! where these come from.
 
 ghost use Rattle.std.specs.Prelude.{◌<◌, length};
-ghost use Rattle.fz_judge.specs.of_model.Meaning.{IsPartial, points};
+ghost use Rattle.fz_judge.specs.of_model.Meaning.{points};
 
 use crate::case::Case;
 use crate::chain::note_chain;
@@ -10,7 +10,7 @@ use crate::domain::declared_domain;
 use crate::failing::{Sought, first_point};
 use crate::help::note_help;
 use crate::message::{Message, Text, message_at};
-use crate::notes::{note_domain, note_fixed, note_variables};
+use crate::notes::{note_domain, note_fixed, note_variables, told_text};
 use crate::place::{constraint_of, point_place};
 use crate::printed::{note_printed, printed_place};
 use crate::refutation::note_refutation;
@@ -77,9 +77,7 @@ pub(crate) fn verdict_place<'t>(
 pub(crate) fn verdict_message(
     alloc: Global,
     reading: &Reading<'_, '_, '_, '_, '_>,
-) -> Result<Option<Message>, AllocError>
-    requires fits { IsPartial reading.now.model.now reading.now.filling.now }
-{
+) -> Result<Option<Message>, AllocError> {
     let case = reading.case;
     let Some((text, place)) = verdict_place(reading.ast, reading.text, case) else {
         return Ok(None);
@@ -96,38 +94,41 @@ pub(crate) fn verdict_message(
         Verdict::Violated(Fault::Printed(name)) => {
             note_printed(alloc, reading, &mut message, name)?;
         }
-        Verdict::Violated(Fault::NotBetter(now, before))
-        | Verdict::Undecided(Reason::NotShownBetter(now, before)) => {
-            note_objective(alloc, reading, &mut message, now, before)?;
+        Verdict::Violated(Fault::NotBetter(now, before)) => {
+            let told = format!(in alloc; "block {} has {before}", block_before(case))?;
+            note_objective(alloc, reading, &mut message, &told, now)?;
+        }
+        Verdict::Undecided(Reason::NotShownBetter(now, before)) => {
+            let told = format!(in alloc; "{before} was found for block {}", block_before(case))?;
+            note_objective(alloc, reading, &mut message, &told, now)?;
         }
         Verdict::Violated(_) => note_failing(alloc, reading, &mut message)?,
-        Verdict::Undecided(_) => note_undecided(alloc, reading, &mut message)?,
+        Verdict::Undecided(_) => note_first(alloc, reading, &mut message, Sought::Undecided)?,
     }
     note_help(alloc, reading, &mut message)?;
     Ok(Some(message))
 }
 
-/// Adds notes on the first point that fails, or else on bounds that leave a variable nothing.
+/// Adds notes on the first point that fails, or else on the bounds that refute the block.
 fn note_failing(
     alloc: Global,
     reading: &Reading<'_, '_, '_, '_, '_>,
     message: &mut Message,
-) -> Result<(), AllocError>
-    requires fits { IsPartial reading.now.model.now reading.now.filling.now }
-{
-    match first_point(alloc, reading.model, reading.filling, Sought::Failing)? {
-        Some(point) => note_point(alloc, reading, message, point),
-        None => note_refutation(alloc, reading, message),
+) -> Result<(), AllocError> {
+    if let Some(refutation) = reading.case.refuted {
+        return note_refutation(alloc, reading, message, refutation);
     }
+    note_first(alloc, reading, message, Sought::Failing)
 }
 
-/// Adds notes on the first point that is undecided.
-fn note_undecided(
+/// Adds notes on the first point of this kind.
+fn note_first(
     alloc: Global,
     reading: &Reading<'_, '_, '_, '_, '_>,
     message: &mut Message,
+    sought: Sought,
 ) -> Result<(), AllocError> {
-    match first_point(alloc, reading.model, reading.filling, Sought::Undecided)? {
+    match first_point(alloc, reading.model, reading.filling, sought)? {
         Some(point) => note_point(alloc, reading, message, point),
         None => Ok(()),
     }
@@ -159,9 +160,8 @@ fn note_point(
     requires in_range { point < length (points reading.now.model.now) }
 {
     let model = reading.model;
-    message.reason = reason_at(alloc, model, reading.filling, point)?;
-    note_variables(alloc, reading, message, &variables_of(alloc, model, point)?)?;
-    note_chain(alloc, reading, message, point)?;
+    note_reason(alloc, reading, message, point)?;
+    note_chain(alloc, reading, message, point, &[])?;
     if let Some(domain) = declared_domain(model, point) {
         note_domain(alloc, reading, message, &model.point(point), domain)?;
     }
@@ -172,22 +172,45 @@ fn note_point(
     Ok(())
 }
 
+/// Adds why a point fails, and notes on its variables.
+fn note_reason(
+    alloc: Global,
+    reading: &Reading<'_, '_, '_, '_, '_>,
+    message: &mut Message,
+    point: usize,
+) -> Result<(), AllocError>
+    requires in_range { point < length (points reading.now.model.now) }
+{
+    let variables = variables_of(alloc, reading.model, point)?;
+    let Some(told) = reason_at(alloc, reading.model, reading.filling, point)? else {
+        return note_variables(alloc, reading, message, &variables, &[]);
+    };
+    message.reason = Some(told_text(alloc, reading, &told)?);
+    note_variables(alloc, reading, message, &variables, &told.who)
+}
+
+/// The number of the block before.
+fn block_before(case: &Case<'_, '_>) -> usize {
+    case.number.saturating_sub(1)
+}
+
+/// Adds notes on the objective: the variable that it is, what is said of the block before, and its
+/// value.
 fn note_objective(
     alloc: Global,
     reading: &Reading<'_, '_, '_, '_, '_>,
     message: &mut Message,
+    before: &str,
     now: i64,
-    before: i64,
 ) -> Result<(), AllocError> {
     if let Goal::Minimize(Term::Var(number)) | Goal::Maximize(Term::Var(number)) = reading
         .model
         .goal()
     {
-        note_variables(alloc, reading, message, &[*number])?;
+        note_variables(alloc, reading, message, &[*number], &[])?;
     }
     let number = reading.case.number;
-    let last = number.saturating_sub(1);
-    message.note(format!(in alloc; "block {last} has {before}, and block {number} has {now}")?)
+    message.note(format!(in alloc; "{before}, and block {number} has {now}")?)
 }
 
 fn objective_place(ast: &Ast<'_>) -> Option<Span> {

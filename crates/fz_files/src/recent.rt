@@ -174,6 +174,14 @@ impl<'c, R: Read> Recorder<'c, R> {
     pub fn failure(&self) -> Option<&io::Error> {
         self.failure.as_ref()
     }
+
+    /// The same, and ends the reader.
+    pub fn into_failure(self) -> Option<io::Error>
+    where
+        R: Drop,
+    {
+        self.failure
+    }
 }
 
 impl<'c, R: Read> Read for Recorder<'c, R> {

@@ -1,24 +1,28 @@
 -- What is judged of a block, and why a block is refused (this project's profile).
-use Rattle.std.specs.Prelude.{◌≡◌, ℤ, IfSome, IsSomeAnd, None, Option, Some, ⊤}
+use Rattle.std.specs.Prelude.{◌≡◌, ℕ, ℤ, IfSome, IsSomeAnd, None, Option, Some, slice_get, ⊤}
 use Rattle.fz_base.specs.declared.span.Span.{Span}
-use Rattle.fz_search.specs.of_model.Meaning.{Model, Partial, objective, IsPartial}
+use Rattle.fz_search.specs.of_model.Meaning.{Model, Partial, Point, objective, points, IsPartial}
+use Rattle.fz_search.specs.of_model.States.{shown_point}
 use Rattle.fz_judge.specs.Solutions.{Block}
 use Rattle.fz_judge.specs.BlockFaults.{BlockFault, BlockFaultKind, block_fault}
 use Rattle.fz_judge.specs.BlockFaults.BlockFaultKind.{UnknownName, WrongKind, WrongLength}
 use Rattle.fz_judge.specs.declared.completion.Completion.{Completion}
 use Rattle.fz_judge.specs.declared.completion.Completion.TheVariants.{Off}
 use Rattle.fz_judge.specs.Completed.{IsToldBy}
-use Rattle.fz_judge.specs.Verdict.{Verdict, IsFilled, verdict}
+use Rattle.fz_judge.specs.Verdict.{Verdict, IsFilled, fault_named, verdict}
+use Rattle.fz_judge.specs.Verdict.Verdict.{Violated}
 use Rattle.fz_judge.specs.declared.error.BlockError.{BlockError}
 use Rattle.fz_judge.specs.declared.error.BlockError.TheVariants as errors
 
 -- a judge: the model, whether values are looked for, and the objective of the block before, under
--- its filling and under the values with which it was satisfied
+-- its filling and under the values with which it was satisfied; and the point whose bounds refute the
+-- block before, where they do
 pub record JudgeState : Type 0 where
   pub model : Model
   pub completion : Completion
   pub before : Option ℤ
   pub found : Option ℤ
+  pub refuted : Option ℕ
 
 -- The verdict on a block is that under its filling, compared with the objective before; the
 -- objective under that filling is stored, as the only one where no values are looked for.
@@ -30,6 +34,11 @@ pub record IsJudged (old new : JudgeState) (block : Block) (v : Verdict) : Type 
       (verdict old.model filling block old.before) v new.found
   pub kept_is : new.before ≡ objective old.model filling
   pub one_objective : old.completion ≡ Off → new.found ≡ new.before
+
+-- the verdict is that the point with this number, from 0, fails
+abbrev pub IsOfPoint : Model → ℕ → Verdict → Type 0
+IsOfPoint m k v = (p : Point) × (slice_get (points m) k ≡ Some p)
+    × (v ≡ Violated (fault_named (shown_point p)))
 
 -- the error is that of the fault, unless memory ran out
 abbrev pub TellsFault : BlockError → Option BlockFault → Type 0

@@ -1,6 +1,6 @@
 -- Only private functions use these: values taken into a partial assignment one after another, and
 -- what is asked of one scalar.
-use Rattle.std.specs.Prelude.{◌≡◌, ℕ, ℤ, ◌<◌, Bool, false, true, cond, ◌&&◌, is_none, List, [], ◌∷◌, length, Option, None, Some, slice_get, ⊤}
+use Rattle.std.specs.Prelude.{◌≡◌, ℕ, ℤ, ◌<◌, Bool, false, true, cond, ◌&&◌, is_none, List, [], ◌∷◌, length, Option, None, Some, ⊤}
 use Rattle.std.specs.Option.{option_map_or}
 use Rattle.fz_base.specs.declared.value.Value.{Value}
 use Rattle.fz_search.specs.of_model.declared.State.{State}
@@ -13,15 +13,14 @@ use Rattle.fz_search.specs.of_model.Names.{literal_value}
 use Rattle.fz_search.specs.of_model.Relations.{same_value}
 use Rattle.fz_search.specs.of_model.Shown.{scalar_terms}
 use Rattle.fz_search.specs.of_model.Slots.{scalar_term}
-use Rattle.fz_search.specs.of_model.Meaning.{Assignment, Model, Partial, Point, IsPartial, give, points, whole, objective, value, value_at, variables_of, find_name}
-use Rattle.fz_search.specs.of_model.Openings.{HasEach}
-use Rattle.fz_search.specs.of_model.States.{IsKnownSolution, PointName, shown_point}
+use Rattle.fz_search.specs.of_model.Meaning.{Model, Partial, IsPartial, give, objective, value, value_at, variables_of, find_name}
+use Rattle.fz_search.specs.of_model.States.{PointName}
 use Rattle.fz_stream.specs.of_syntax.Places.{IsSpanWithin}
 use Rattle.fz_judge.specs.Solutions.{Block, Printed, PrintedValue, printed_values}
 use Rattle.fz_judge.specs.BlockFaults.{moved}
 use Rattle.fz_judge.specs.Solutions.PrintedValue.{OneValue, ArrayOf}
 use Rattle.fz_judge.specs.Filling.{pairs, pairs_at}
-use Rattle.fz_judge.specs.Verdict.{Fault, Reason, Verdict, fault_named, verdict, not_known_at, too_large_at, verdict_by}
+use Rattle.fz_judge.specs.Verdict.{Fault, Reason, Verdict, verdict, not_known_at, too_large_at, verdict_by}
 use Rattle.fz_judge.specs.Verdict.Verdict.{Satisfied, Violated, Undecided}
 use Rattle.fz_judge.specs.Verdict.Fault.{NotBetter}
 use Rattle.fz_judge.specs.Verdict.Reason.{NoValueFor, NotShownBetter}
@@ -112,12 +111,6 @@ compared (Some f) = not_shown_better f
 abbrev pub IsFound : Model → Block → Option ℤ → Option ℤ → Type 0
 IsFound m block before kept =
     (K : Partial) × IsPartial m K × (verdict m K block before ≡ Satisfied) × (kept ≡ objective m K)
-
--- the fault is that of a point, and no known-solution has the values
-abbrev pub IsRefutedAt : Model → Partial → Fault → Type 0
-IsRefutedAt m F f = (k : ℕ) × (p : Point) × (slice_get (points m) k ≡ Some p)
-    × (f ≡ fault_named (shown_point p))
-    × ((A : Assignment) → IsKnownSolution m A → HasEach F (whole A) → ⊥)
 
 -- ---- refusals
 

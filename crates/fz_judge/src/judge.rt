@@ -10,9 +10,9 @@ ghost use Rattle.fz_judge.specs.Verdict.{IsFilled, objective_fails, verdict, ver
 ghost use Rattle.fz_judge.specs.declared.completion.Completion.TheVariants.{On};
 ghost use Rattle.fz_judge.specs.Verdict.Verdict.{Undecided};
 ghost use Rattle.fz_judge.specs.BlockView.{located_block, located_items};
-ghost use Rattle.fz_judge.specs.Judged.{IsBlockRefusal, IsJudged, TellsKind};
+ghost use Rattle.fz_judge.specs.Judged.{IsBlockRefusal, IsJudged, IsOfPoint, TellsKind};
 ghost use Rattle.fz_judge.specs.View.{fault_view, reason_view, verdict_view};
-ghost use Rattle.fz_judge.specs.Working.{IsFound, IsRefutedAt, compared, not_shown_better, with_objective};
+ghost use Rattle.fz_judge.specs.Working.{IsFound, compared, not_shown_better, with_objective};
 
 use crate::completion::Completion;
 use crate::course::Course;
@@ -21,7 +21,7 @@ use crate::filling::filled;
 use crate::points::{fault_named, objective, objective_fails, points_verdict};
 use crate::printed::printed_fails;
 use crate::verdict::{Fault, Reason, Verdict};
-use fz_search::{Found, Model, Overview, Partial, Search, search};
+use fz_search::{Found, Model, Overview, Partial, Refutation, Search, search};
 use fz_stream::Block;
 use std::alloc::{AllocError, Global};
 
@@ -116,8 +116,12 @@ fn compared<'a>(model: &Model<'a>, before: Option<i64>, now: Option<i64>) -> Ver
     }
 }
 
-/// A model with the objectives of the block that was judged last, and what one block leaves to
-/// make the next one quicker.
+/// What is told of a block: the verdict, the objective to compare the next block with, and why
+/// bounds refute the block, where they do.
+type Told<'a> = (Verdict<'a>, Option<i64>, Option<Refutation>);
+
+/// A model with the objectives of the block that was judged last, why bounds refute it where they
+/// do, and what one block leaves to make the next one quicker.
 #[derive(Drop)]
 pub struct Judge<'m, 'a> {
     model: &'m Model<'a>,
@@ -126,6 +130,8 @@ pub struct Judge<'m, 'a> {
     before: Option<i64>,
     /// the objective of the block before under the values that were found for it
     found: Option<i64>,
+    /// why bounds refute the block before, where they do
+    refuted: Option<Refutation>,
     course: Option<Course>,
     overview: Option<Overview>,
     search: Option<Search>,
@@ -143,7 +149,7 @@ impl<'m, 'a> std::marker::Model for Judge<'m, 'a> {
 
     ghost coded = { Prim.hlevel (codes, the_set.the_row.coded) };
 
-    ghost use Rattle.std.specs.Prelude.{IfSome};
+    ghost use Rattle.std.specs.Prelude.{IfSome, option_map};
     ghost use Rattle.fz_judge.specs.Courses.{IsCourse};
     ghost use Rattle.fz_search.specs.of_model.Overviews.{IsOverview};
     ghost use Rattle.fz_judge.specs.Working.{HasRoom};
@@ -153,6 +159,7 @@ impl<'m, 'a> std::marker::Model for Judge<'m, 'a> {
       completion = j.completion;
       before = j.before;
       found = j.found;
+      refuted = option_map (λ r. r.point) j.refuted;
     } };
 
     ghost invariant = { λ j. IfSome j.course (IsCourse j.model.now)
@@ -168,6 +175,7 @@ impl<'m, 'a> Judge<'m, 'a> {
           completion = completion;
           before = None;
           found = None;
+          refuted = None;
         } }
     {
         Judge {
@@ -175,6 +183,7 @@ impl<'m, 'a> Judge<'m, 'a> {
             completion,
             before: None,
             found: None,
+            refuted: None,
             course: None,
             overview: None,
             search: None,
@@ -203,6 +212,14 @@ impl<'m, 'a> Judge<'m, 'a> {
         self.before
     }
 
+    /// Why bounds refute the block that was judged last, where its verdict is that they do: the
+    /// point that the verdict is of, by its number from 0, and the bounds that other points left.
+    pub fn refutation(&self) -> Option<&Refutation>
+        ensures { option_map (λ r. r.now.point) result ≡ self.now.refuted }
+    {
+        self.refuted.as_ref()
+    }
+
     /// Forgets the block that was judged last: the next one is compared with none.
     pub fn forget(&mut self)
         ensures { self.new ≡ record {
@@ -210,10 +227,12 @@ impl<'m, 'a> Judge<'m, 'a> {
           completion = self.old.completion;
           before = None;
           found = None;
+          refuted = None;
         } }
     {
         self.before = None;
         self.found = None;
+        self.refuted = None;
     }
 
     /// The filling of the next block, in the memory of the one before.
@@ -252,7 +271,7 @@ impl<'m, 'a> Judge<'m, 'a> {
         block: &Block<'_>,
         under: Verdict<'a>,
         now: Option<i64>,
-    ) -> Result<(Verdict<'a>, Option<i64>), AllocError>
+    ) -> Result<Told<'a>, AllocError>
         requires clean { items_fault self.old.model (located_items block.now.items.items) ≡ None }
         requires kinds { IsPartial self.old.model filling.now }
         requires filling { IsFilled On self.old.model (located_block block.now) filling.now }
@@ -262,12 +281,14 @@ impl<'m, 'a> Judge<'m, 'a> {
         ensures told { IfOk result (λ r. IsCompleted self.old.model
             (located_block block.now) self.old.found filling.now (verdict_view under.entry)
             (verdict_view r.0) r.1) }
+        ensures refuted { IfOk result (λ r. IfSome (option_map (λ f. f.point) r.2)
+            (λ k. IsOfPoint self.old.model k (verdict_view r.0))) }
         ensures same { self.new ≡ self.old }
     {
         match under {
-            Verdict::Satisfied => Ok((compared(self.model, self.found, now), now)),
+            Verdict::Satisfied => Ok((compared(self.model, self.found, now), now, None)),
             Verdict::Undecided(reason) => self.undecided(alloc, filling, block, reason, now),
-            Verdict::Violated(_) => Ok((under, now)),
+            Verdict::Violated(_) => Ok((under, now, None)),
         }
     }
 
@@ -279,7 +300,7 @@ impl<'m, 'a> Judge<'m, 'a> {
         block: &Block<'_>,
         reason: Reason<'a>,
         now: Option<i64>,
-    ) -> Result<(Verdict<'a>, Option<i64>), AllocError>
+    ) -> Result<Told<'a>, AllocError>
         requires clean { items_fault self.old.model (located_items block.now.items.items) ≡ None }
         requires kinds { IsPartial self.old.model filling.now }
         requires filling { IsFilled On self.old.model (located_block block.now) filling.now }
@@ -287,21 +308,23 @@ impl<'m, 'a> Judge<'m, 'a> {
         ensures told { IfOk result (λ r. IsCompleted self.old.model
             (located_block block.now) self.old.found filling.now
             (Undecided (reason_view reason.entry)) (verdict_view r.0) r.1) }
+        ensures refuted { IfOk result (λ r. IfSome (option_map (λ f. f.point) r.2)
+            (λ k. IsOfPoint self.old.model k (verdict_view r.0))) }
         ensures same { self.new ≡ self.old }
     {
         let Reason::NoValue(_) = reason else {
-            return Ok((Verdict::Undecided(reason), now));
+            return Ok((Verdict::Undecided(reason), now, None));
         };
         match search(alloc, self.model, filling, self.found, &mut self.search)? {
             Found::Values(values) => match self.satisfied(alloc, &values, block)? {
-                Some(found) => Ok((Verdict::Satisfied, found)),
-                None => Ok((Verdict::Undecided(reason), now)),
+                Some(found) => Ok((Verdict::Satisfied, found, None)),
+                None => Ok((Verdict::Undecided(reason), now, None)),
             },
             Found::Refuted(found) => {
                 let fault = fault_named(self.model.point(found.point));
-                Ok((Verdict::Violated(fault), now))
+                Ok((Verdict::Violated(fault), now, Some(found)))
             }
-            Found::Nothing => Ok((Verdict::Undecided(reason), now)),
+            Found::Nothing => Ok((Verdict::Undecided(reason), now, None)),
         }
     }
 
@@ -341,6 +364,9 @@ impl<'m, 'a> Judge<'m, 'a> {
     pub fn judge(&mut self, alloc: Global, block: &Block<'_>) -> Result<Verdict<'a>, BlockError>
         ensures judged { IfOk result (λ v. IsJudged self.old self.new (located_block block.now)
             (verdict_view v)) }
+        // Where it is told why bounds refute the block, the verdict is of that very point.
+        ensures refuted { IfOk result (λ v. IfSome self.new.refuted
+            (λ k. IsOfPoint self.old.model k (verdict_view v))) }
         ensures same_model { self.new.model ≡ self.old.model }
         ensures same_completion { self.new.completion ≡ self.old.completion }
         ensures unchanged { IfErr result (λ _. self.new ≡ self.old) }
@@ -356,12 +382,13 @@ impl<'m, 'a> Judge<'m, 'a> {
         let partial = &*filling;
         let overview = &mut self.overview;
         let (under, now) = verdict_over(alloc, self.model, overview, partial, block, self.before)?;
-        let (verdict, found) = match self.completion {
-            Completion::Off => (under, now),
+        let (verdict, found, refuted) = match self.completion {
+            Completion::Off => (under, now, None),
             Completion::On => self.completed(alloc, partial, block, under, now)?,
         };
         self.before = now;
         self.found = found;
+        self.refuted = refuted;
         self.spare = Some(filling);
         Ok(verdict)
     }

@@ -32,9 +32,9 @@ pub use completion::Completion;
 pub use error::BlockError;
 pub use filling::{fill, fill_with_steps};
 pub use fz_search::{
-    Argument, ConstraintParts, Domain, Found, Goal, Kind, Left, LoadError, Model, ModelError,
-    Partial, Point, PointParts, Refutation, Scalar, Scalars, Slot, State, Term, What, Wide,
-    literal_value, load, load_text, part, scalar_at, search, state,
+    Argument, ConstraintParts, Domain, Goal, Kind, Left, LoadError, Model, ModelError, Narrower,
+    Narrowing, Partial, Point, PointParts, Refutation, Scalar, Scalars, Slot, State, Term, What,
+    Wide, literal_value, load, load_text, part, scalar_at, state,
 };
 pub use fz_stream::{
     Ast, Block, Claim, ClaimKind, Decl, Limits, Name, Note, Part, Splitter, Stream, StreamError,

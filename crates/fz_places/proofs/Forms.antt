@@ -1,11 +1,12 @@
 -- Paths of the form that the compiler writes, segment by segment.
-use Rattle.std.proofs.Common.{◌≡◌, ◌<◌, ◌≤◌, ◌+◌, ◌==◌, ◌⊎◌, inl, inr, ℕ, suc, Bool, true, false, not, ◌&&◌, cond, List, [], ◌∷◌, ◌++◌, flat_map, length, take, drop, Option, None, Some, option_map, append_assoc, append-nil, length-append, refl, sym, ap, subst, ◌∙◌, arith}
+use Rattle.std.proofs.Common.{◌≡◌, ◌<◌, ◌≤◌, ◌+◌, ◌==◌, ◌⊎◌, inl, inr, ℕ, suc, Bool, true, false, not, ◌&&◌, cond, List, [], ◌∷◌, ◌++◌, length, take, drop, Option, None, Some, option_map, append_assoc, append-nil, length-append, refl, sym, ap, subst, ◌∙◌, arith}
 use Rattle.std.specs.List.{list_all, prefix_len}
 use Rattle.std.specs.Option.{option_and_then}
 use Rattle.std.proofs.lemmas.Bool.Decides.{nat_tests}
-use Rattle.std.proofs.lemmas.List.{drop_at, take_at}
+use Rattle.std.proofs.lemmas.List.{drop_at, length-take-le, take-append-drop, take_at}
+use Rattle.std.proofs.lemmas.Option.{none-some}
 use Rattle.fz_places.specs.Lines.{parted}
-use Rattle.fz_places.specs.Paths.{HasForm, IsNumber, barred, is_digit, segment_text}
+use Rattle.fz_places.specs.Paths.{AreSegmentsOf, BeginsWith, HasForm, IsNumber, IsSegment, barred, is_digit, segment_text}
 use Rattle.fz_places.specs.Segments.{behind_bar, behind_segment, number}
 use Rattle.fz_places.specs.declared.path.Segment.{Segment}
 
@@ -22,6 +23,24 @@ run [] rest all = refl
 run (b ∷ d) rest all = run_next (is_digit b) (prefix_len is_digit (d ++ 124 ∷ rest)) (length d)
     (list_all is_digit d) all (run d rest)
 
+digits_next : (e : Bool) (b n : ℕ) (text : List ℕ) → is_digit b ≡ e
+    → list_all is_digit (take n text) ≡ true
+    → list_all is_digit (take (cond e (1 + n) 0) (b ∷ text)) ≡ true
+digits_next true b n text is all =
+    let same : 1 + n ≡ suc n = omega arith in
+    ap (λ k. list_all is_digit (take k (b ∷ text))) same ∙ ap (λ t. t && list_all is_digit (take n text)) is ∙ all
+digits_next false b n text is all = refl
+
+digits : (text : List ℕ) → list_all is_digit (take (prefix_len is_digit text) text) ≡ true
+digits [] = refl
+digits (b ∷ text) = digits_next (is_digit b) b (prefix_len is_digit text) text refl (digits text)
+
+pub number_in : (text : List ℕ) (n : ℕ) → n ≡ prefix_len is_digit text → n ≤ length text
+    → (n ≡ 0 → ⊥) → IsNumber (take n text)
+number_in text n is within some =
+    let long : length (take n text) ≡ n = length-take-le n text within in
+    (omega (arith, long, some), ap (λ k. list_all is_digit (take k text)) is ∙ digits text)
+
 picked : (k : ℕ) (rest : List ℕ) → 0 < k → ◌≡◌ {A = Option (List ℕ × List ℕ)}
     (cond (k == 0) None (Some (take k rest, drop k rest))) (Some (take k rest, drop k rest))
 picked k rest some = grind (arith, nat_tests)
@@ -33,20 +52,20 @@ read_number d rest is =
     ∙ picked (length d) (d ++ 124 ∷ rest) is.0
     ∙ (λ i. Some (take_at d (124 ∷ rest) (length d) refl i, drop_at d (124 ∷ rest) (length d) refl i))
 
-ended : (e : Bool) (b : ℕ) (w : List ℕ) (part : Option (List ℕ × List ℕ)) (rest : Bool)
-    → (not e && rest) ≡ true → (rest ≡ true → part ≡ Some (w, []))
-    → ◌≡◌ {A = Option (List ℕ × List ℕ)} (cond e (Some ([], w ++ 59 ∷ [])) (option_map (λ p. (b ∷ p.0, p.1)) part)) (Some (b ∷ w, []))
-ended true b w part rest all step = cc
-ended false b w part rest all step = ap (option_map (λ p. (b ∷ p.0, p.1))) (step all)
+ended : (e : Bool) (b : ℕ) (w more : List ℕ) (part : Option (List ℕ × List ℕ)) (rest : Bool)
+    → (not e && rest) ≡ true → (rest ≡ true → part ≡ Some (w, more))
+    → ◌≡◌ {A = Option (List ℕ × List ℕ)} (cond e (Some ([], w ++ 59 ∷ more)) (option_map (λ p. (b ∷ p.0, p.1)) part)) (Some (b ∷ w, more))
+ended true b w more part rest all step = cc
+ended false b w more part rest all step = ap (option_map (λ p. (b ∷ p.0, p.1))) (step all)
 
 abbrev is_inside : ℕ → Bool
 is_inside b = not (b == 59)
 
-read_what : (w : List ℕ) → list_all is_inside w ≡ true
-    → parted 59 (w ++ 59 ∷ []) ≡ Some (w, [])
-read_what [] all = refl
-read_what (b ∷ w) all =
-    ended (b == 59) b w (parted 59 (w ++ 59 ∷ [])) (list_all is_inside w) all (read_what w)
+read_what : (w more : List ℕ) → list_all is_inside w ≡ true
+    → parted 59 (w ++ 59 ∷ more) ≡ Some (w, more)
+read_what [] more all = refl
+read_what (b ∷ w) more all =
+    ended (b == 59) b w more (parted 59 (w ++ 59 ∷ more)) (list_all is_inside w) all (read_what w more)
 
 abbrev after0 : List ℕ → Option (List ℕ)
 after0 text = option_and_then (λ w. option_map (λ p. p.1) (parted 59 w)) (behind_bar text)
@@ -65,27 +84,74 @@ step : (d rest : List ℕ) (after : List ℕ → Option (List ℕ)) → IsNumber
 step d rest after is = ap (λ o. option_and_then (λ l. after l.1) o) (read_number d rest is)
 
 -- what comes behind the file
-abbrev tail_of : (l c e d w : List ℕ) → List ℕ
-tail_of l c e d w = 124 ∷ barred l (barred c (barred e (barred d (w ++ 59 ∷ []))))
+abbrev tail_of : Segment → List ℕ → List ℕ
+tail_of s more = 124 ∷ barred s.line.now (barred s.column.now (barred s.end_line.now
+    (barred s.end_column.now (s.what.now ++ 59 ∷ more))))
 
-read_tail : (l c e d w : List ℕ) → IsNumber l → IsNumber c → IsNumber e → IsNumber d
-    → list_all is_inside w ≡ true → behind_segment (tail_of l c e d w) ≡ Some []
-read_tail l c e d w il ic ie id iw =
-    step l (barred c (barred e (barred d (w ++ 59 ∷ [])))) after3 il
-    ∙ step c (barred e (barred d (w ++ 59 ∷ []))) after2 ic
-    ∙ step e (barred d (w ++ 59 ∷ [])) after1 ie
-    ∙ step d (w ++ 59 ∷ []) after0 id
-    ∙ ap (option_map (λ p. p.1)) (read_what w iw)
+read_tail : (s : Segment) (more : List ℕ) → IsSegment s
+    → behind_segment (tail_of s more) ≡ Some more
+read_tail s more is =
+    let from_what = s.what.now ++ 59 ∷ more in
+    let from_column = barred s.end_column.now from_what in
+    let from_line = barred s.end_line.now from_column in
+    step s.line.now (barred s.column.now from_line) after3 is.line
+    ∙ step s.column.now from_line after2 is.column
+    ∙ step s.end_line.now from_column after1 is.end_line
+    ∙ step s.end_column.now from_what after0 is.end_column
+    ∙ ap (option_map (λ p. p.1)) (read_what s.what.now more is.what)
+
+on : (part text rest whole : List ℕ) → text ++ rest ≡ whole
+    → barred part text ++ rest ≡ barred part whole
+on part text rest whole is = append_assoc part (124 ∷ text) rest ∙ ap (λ t. barred part t) is
+
+opened : (s : Segment) (more : List ℕ) → segment_text s ++ more ≡ s.file.now ++ tail_of s more
+opened s more =
+    on s.file.now _ more _ (on s.line.now _ more _ (on s.column.now _ more _ (on s.end_line.now _ more _ (on s.end_column.now _ more _ (append_assoc s.what.now (59 ∷ []) more)))))
+
+file_is_within : (s : Segment) (text rest : List ℕ) → segment_text s ++ rest ≡ text
+    → length s.file.now < length text
+file_is_within s text rest is =
+    let long : length text ≡ length s.file.now + length (tail_of s rest) = ap length (sym is ∙ opened s rest) ∙ length-append s.file.now (tail_of s rest) in
+    omega (arith, long)
+
+-- what follows a segment is read behind its file
+read_at : (s : Segment) (text rest : List ℕ) → IsSegment s → segment_text s ++ rest ≡ text
+    → behind_segment (drop (length s.file.now) text) ≡ Some rest
+read_at s text rest form is =
+    ap (λ t. behind_segment (drop (length s.file.now) t)) (sym is ∙ opened s rest)
+    ∙ ap behind_segment (drop_at s.file.now (tail_of s rest) (length s.file.now) refl)
+    ∙ read_tail s rest form
+
+-- where none is read before a place, the file of a segment isn't shorter
+pub none_before : (text : List ℕ) (n : ℕ)
+    → ((k : ℕ) → k < n → behind_segment (drop k text) ≡ None)
+    → (s : Segment) (rest : List ℕ) → IsSegment s → segment_text s ++ rest ≡ text
+    → n ≤ length s.file.now
+none_before text n none s rest form is =
+    let no : length s.file.now < n → ⊥ = λ less. none-some rest (sym (none (length s.file.now) less) ∙ read_at s text rest form is) in
+    omega (arith, no)
+
+pub first_at : (whole file text : List ℕ) (n : ℕ) (s : Segment) (rest : List ℕ)
+    → file ≡ take n whole → text ≡ drop n whole → n < length whole
+    → ((k : ℕ) → k < n → behind_segment (drop k whole) ≡ None)
+    → segment_text s ++ rest ≡ file ++ text → IsSegment s → s.file.now ≡ file
+    → BeginsWith whole s rest
+first_at whole file text n s rest front back within none is form same = record {
+  form = form;
+  text = is ∙ (λ i. front i ++ back i) ∙ take-append-drop n whole;
+  shortest = λ other more formed at.
+      let long : length s.file.now ≡ n = ap length (same ∙ front) ∙ length-take-le n whole (omega (arith, within)) in
+      let least : n ≤ length other.file.now = none_before whole n none other more formed at in
+      omega (arith, long, least);
+}
 
 pub no_form : (text : List ℕ)
     → ((n : ℕ) → n < length text → behind_segment (drop n text) ≡ None) → HasForm text → ⊥
 no_form text none f =
-    let tail = tail_of f.line f.column f.end_line f.end_column f.what in
-    let long : length text ≡ length f.file + length tail = ap length f.is ∙ length-append f.file tail in
-    let less : length f.file < length text = omega (arith, long) in
-    let at : drop (length f.file) text ≡ tail = ap (drop (length f.file)) f.is ∙ drop_at f.file tail (length f.file) refl in
-    let is : None ≡ Some [] = sym (none (length f.file) less) ∙ ap behind_segment at ∙ read_tail f.line f.column f.end_line f.end_column f.what f.numbers.0 f.numbers.1 f.numbers.2 f.numbers.3 f.whole in
-    cc
+    let is : segment_text f.segment ++ [] ≡ text = append-nil (segment_text f.segment) ∙ f.text in
+    let within : length f.segment.file.now < length text = file_is_within f.segment text [] is in
+    let beyond : length text ≤ length f.segment.file.now = none_before text (length text) none f.segment [] f.form is in
+    absurd (omega (arith, within, beyond))
 
 -- ---- what follows a semicolon
 
@@ -137,71 +203,62 @@ digits_inside (b ∷ d) all = one_more (is_inside b) (list_all is_inside d)
     (digit_inside b (first_of_both (is_digit b) (list_all is_digit d) all))
     (digits_inside d (all_next (is_digit b) (list_all is_digit d) all))
 
-on : (part text rest whole : List ℕ) → text ++ rest ≡ whole
-    → barred part text ++ rest ≡ barred part whole
-on part text rest whole is = append_assoc part (124 ∷ text) rest ∙ ap (λ t. barred part t) is
+-- what is behind the file, without the last semicolon
+abbrev inner : Segment → List ℕ
+inner s = 124 ∷ barred s.line.now (barred s.column.now (barred s.end_line.now
+    (barred s.end_column.now s.what.now)))
 
--- what is behind the file, without its last semicolon
-abbrev inner : (l c e d w : List ℕ) → List ℕ
-inner l c e d w = 124 ∷ barred l (barred c (barred e (barred d w)))
-
-with_last : (l c e d w more : List ℕ) → inner l c e d w ++ more ≡ 124 ∷ barred l (barred c (barred e (barred d (w ++ more))))
-with_last l c e d w more = ap (◌∷◌ 124) (on l _ more _ (on c _ more _ (on e _ more _ (on d w more _ refl))))
+with_last : (s : Segment) (more : List ℕ) → inner s ++ 59 ∷ more ≡ tail_of s more
+with_last s more = ap (◌∷◌ 124) (on s.line.now _ (59 ∷ more) _ (on s.column.now _ (59 ∷ more) _ (on s.end_line.now _ (59 ∷ more) _ (on s.end_column.now s.what.now (59 ∷ more) _ refl))))
 
 numbers_inside : (d rest : List ℕ) → IsNumber d → list_all is_inside rest ≡ true
     → list_all is_inside (barred d rest) ≡ true
 numbers_inside d rest is all = together d (124 ∷ rest) (digits_inside d is.1) all
 
-written : (s : Segment) (more : List ℕ) → segment_text s ++ more
-    ≡ (s.file.now ++ inner s.line.now s.column.now s.end_line.now s.end_column.now s.what.now) ++ 59 ∷ more
-written s more =
-    on s.file.now _ more _ (on s.line.now _ more _ (on s.column.now _ more _ (on s.end_line.now _ more _ (on s.end_column.now _ more _ (append_assoc s.what.now (59 ∷ []) more)))))
-    ∙ sym (on s.file.now _ (59 ∷ more) _ (on s.line.now _ (59 ∷ more) _ (on s.column.now _ (59 ∷ more) _ (on s.end_line.now _ (59 ∷ more) _ (on s.end_column.now s.what.now (59 ∷ more) _ refl)))))
+inner_inside : (s : Segment) → IsSegment s → list_all is_inside (inner s) ≡ true
+inner_inside s is = numbers_inside s.line.now _ is.line (numbers_inside s.column.now _ is.column (numbers_inside s.end_line.now _ is.end_line (numbers_inside s.end_column.now s.what.now is.end_column is.what)))
 
 pub next_form : (s : Segment) (behind rest : List ℕ) → segment_text s ++ behind ≡ rest → HasForm rest
     → (behind ≡ [] → ⊥) → HasForm behind
 next_form s behind rest is f some =
-    let t = inner f.line f.column f.end_line f.end_column f.what in
-    let inside : list_all is_inside t ≡ true = numbers_inside f.line _ f.numbers.0 (numbers_inside f.column _ f.numbers.1 (numbers_inside f.end_line _ f.numbers.2 (numbers_inside f.end_column f.what f.numbers.3 f.whole))) in
-    let front = s.file.now ++ inner s.line.now s.column.now s.end_line.now s.end_column.now s.what.now in
-    let left : rest ≡ f.file ++ (t ++ 59 ∷ []) = f.is ∙ ap (λ u. f.file ++ u) (sym (with_last f.line f.column f.end_line f.end_column f.what (59 ∷ []))) in
-    let right : rest ≡ front ++ 59 ∷ behind = sym is ∙ written s behind in
-    elim (cut f.file t front behind (sym left ∙ right) inside) [
+    let last = f.segment in
+    let whole : rest ≡ last.file.now ++ (inner last ++ 59 ∷ []) = sym f.text ∙ sym (append-nil (segment_text last)) ∙ opened last [] ∙ ap (λ u. last.file.now ++ u) (sym (with_last last [])) in
+    let front : rest ≡ (s.file.now ++ inner s) ++ 59 ∷ behind = sym is ∙ opened s behind ∙ ap (λ u. s.file.now ++ u) (sym (with_last s behind)) ∙ sym (append_assoc s.file.now (inner s) (59 ∷ behind)) in
+    elim (cut last.file.now (inner last) (s.file.now ++ inner s) behind (sym whole ∙ front) (inner_inside last f.form)) [
       | inl none ↦ absurd (some none)
-      | inr found ↦ let (g, at) = found in record {
-        file = g;
-        line = f.line;
-        column = f.column;
-        end_line = f.end_line;
-        end_column = f.end_column;
-        what = f.what;
-        is = at ∙ ap (λ u. g ++ u) (with_last f.line f.column f.end_line f.end_column f.what (59 ∷ []));
-        numbers = f.numbers;
-        whole = f.whole;
+      | inr found ↦ record {
+        segment = record last { file = record last.file { now = found.0 } };
+        form = record {
+          line = f.form.line;
+          column = f.form.column;
+          end_line = f.form.end_line;
+          end_column = f.form.end_column;
+          what = f.form.what;
+        };
+        text = ap (λ u. found.0 ++ u) (sym (with_last last [])) ∙ sym found.1;
       }
     ]
 
 pub form_is_long : (rest : List ℕ) → HasForm rest → 0 < length rest
 form_is_long rest f =
-    let tail = tail_of f.line f.column f.end_line f.end_column f.what in
-    let long : length rest ≡ length f.file + length tail = ap length f.is ∙ length-append f.file tail in
-    omega (arith, long)
+    let within : length f.segment.file.now < length rest = file_is_within f.segment rest [] (append-nil (segment_text f.segment) ∙ f.text) in
+    omega (arith, within)
 
 -- ---- the segments so far
 
 pub record Reading (path : List ℕ) (done : List Segment) (rest : List ℕ) (count : ℕ) : Type 0 where
-  pub text : flat_map segment_text done ++ rest ≡ path
+  pub segments : (more : List Segment) → AreSegmentsOf rest more → AreSegmentsOf path (done ++ more)
   pub form : HasForm path → HasForm rest
   pub short : length rest + count ≤ length path
 
 -- one more
-pub more : (done : List Segment) (s : Segment) (behind rest : List ℕ) → segment_text s ++ behind ≡ rest
-    → flat_map segment_text (done ++ s ∷ []) ++ behind ≡ flat_map segment_text done ++ rest
-more [] s behind rest is = ap (λ t. t ++ behind) (append-nil (segment_text s)) ∙ is
-more (d ∷ done) s behind rest is =
-    append_assoc (segment_text d) (flat_map segment_text (done ++ s ∷ [])) behind
-    ∙ ap (λ t. segment_text d ++ t) (more done s behind rest is)
-    ∙ sym (append_assoc (segment_text d) (flat_map segment_text done) rest)
+pub onward : (path : List ℕ) (done longer : List Segment) (s : Segment) (rest behind : List ℕ)
+    → ((more : List Segment) → AreSegmentsOf rest more → AreSegmentsOf path (done ++ more))
+    → BeginsWith rest s behind → longer ≡ done ++ s ∷ []
+    → (more : List Segment) → AreSegmentsOf behind more → AreSegmentsOf path (longer ++ more)
+onward path done longer s rest behind so_far next is more h =
+    subst (AreSegmentsOf path) (sym (ap (λ ss. ss ++ more) is ∙ append_assoc done (s ∷ []) more))
+    (so_far (s ∷ more) (behind, next, h))
 
 pub shorter : (s : Segment) (behind rest : List ℕ) → segment_text s ++ behind ≡ rest
     → length behind < length rest

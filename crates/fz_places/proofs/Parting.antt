@@ -1,5 +1,6 @@
 -- A text and the part of it before a byte.
-use Rattle.std.proofs.Common.{◌≡◌, ◌<◌, ◌==◌, ℕ, zero, suc, Bool, true, false, cond, List, [], ◌∷◌, ◌++◌, Option, None, Some, option_map, take, drop, length, refl, ap, arith}
+use Rattle.std.proofs.Common.{◌≡◌, ◌<◌, ◌==◌, ℕ, zero, suc, Bool, true, false, not, ◌&&◌, cond, List, [], ◌∷◌, ◌++◌, Option, None, Some, option_map, take, drop, length, refl, ap, ◌∙◌, arith}
+use Rattle.std.specs.List.{list_all}
 use Rattle.std.proofs.lemmas.Bool.{eqb-true}
 use Rattle.fz_places.specs.Lines.{first_part, parted}
 
@@ -57,3 +58,14 @@ pub joins : (end : ℕ) (bytes part rest : List ℕ) → Some (part, rest) ≡ p
 joins end [] part rest is = cc
 joins end (b ∷ bytes) part rest is =
     again (b == end) end b bytes part rest (parted end bytes) refl (joins end bytes) is
+
+clean_next : (e : Bool) (b end : ℕ) (part : List ℕ) → (b == end) ≡ e
+    → list_all (λ b. not (b == end)) part ≡ true
+    → list_all (λ b. not (b == end)) (cond e [] (b ∷ part)) ≡ true
+clean_next true b end part is all = refl
+clean_next false b end part is all = ap (λ t. not t && list_all (λ b. not (b == end)) part) is ∙ all
+
+-- the first part doesn't have the byte
+pub clean : (end : ℕ) (bytes : List ℕ) → list_all (λ b. not (b == end)) (first_part end bytes) ≡ true
+clean end [] = refl
+clean end (b ∷ bytes) = clean_next (b == end) b end (first_part end bytes) refl (clean end bytes)

@@ -2,8 +2,8 @@
 -- project's profile). A path is a list of segments, the outermost first, and each is
 --     FILE|LINE|COLUMN|LINE|COLUMN|WHAT;
 -- with the first and the last position of what is there, such as `ca|forall`. Of a loop variable
--- WHAT is its name, a sign of equality, and its value. Files without a bar leave a path one list.
-use Rattle.std.specs.Prelude.{◌≡◌, ℕ, ◌-◌, ◌<◌, ◌⊎◌, Bool, true, not, ◌&&◌, ◌==◌, cond, nat_eq, nat_le, List, [], ◌∷◌, ◌++◌, length, take, map, flat_map, Option, Some, None, bytes_eq}
+-- WHAT is its name, a sign of equality, and its value.
+use Rattle.std.specs.Prelude.{◌≡◌, ℕ, ◌-◌, ◌<◌, ◌≤◌, ◌⊎◌, Bool, true, not, ◌&&◌, ◌==◌, cond, nat_eq, nat_le, List, [], ◌∷◌, ◌++◌, length, take, map, Option, Some, None, bytes_eq}
 use Rattle.std.specs.List.{list_all, filter, list_any}
 use Rattle.fz_places.specs.Lines.{first_part, last_part}
 use Rattle.fz_places.specs.declared.path.ModelPlace.{ModelPlace}
@@ -23,19 +23,35 @@ is_digit byte = nat_le 48 byte && nat_le byte 57
 abbrev pub IsNumber : List ℕ → Type 0
 IsNumber text = (0 < length text) × (list_all is_digit text ≡ true)
 
--- A text is one segment, with no semicolon in WHAT. All that is before the last segment of a path
--- could be a part of its file, so a text is such a path just where it is one segment.
-pub record HasForm (text : List ℕ) : Type 0 where
-  pub file : List ℕ
-  pub line : List ℕ
-  pub column : List ℕ
-  pub end_line : List ℕ
-  pub end_column : List ℕ
-  pub what : List ℕ
-  pub is : text ≡ barred file (barred line (barred column
-      (barred end_line (barred end_column (what ++ 59 ∷ [])))))
-  pub numbers : IsNumber line × IsNumber column × IsNumber end_line × IsNumber end_column
-  pub whole : list_all (λ b. not (b == 59)) what ≡ true
+-- its positions are numbers, and WHAT has no semicolon
+pub record IsSegment (s : Segment) : Type 0 where
+  pub line : IsNumber s.line.now
+  pub column : IsNumber s.column.now
+  pub end_line : IsNumber s.end_line.now
+  pub end_column : IsNumber s.end_column.now
+  pub what : list_all (λ b. not (b == 59)) s.what.now ≡ true
+
+-- The first segment of a text, and what comes behind it. A file may have bars and semicolons: of
+-- all segments with which a text begins the first one is that with the shortest file. So where a
+-- text begins with one whose file has no bar, it is this one.
+pub record BeginsWith (whole : List ℕ) (s : Segment) (behind : List ℕ) : Type 0 where
+  pub form : IsSegment s
+  pub text : segment_text s ++ behind ≡ whole
+  pub shortest : (other : Segment) (rest : List ℕ) → IsSegment other
+      → segment_text other ++ rest ≡ whole → length s.file.now ≤ length other.file.now
+
+-- the segments of a path, one behind another to its end
+abbrev pub AreSegmentsOf : List ℕ → List Segment → Type 0
+AreSegmentsOf path [] = path ≡ []
+AreSegmentsOf path (s ∷ ss) =
+    (behind : List ℕ) × BeginsWith path s behind × AreSegmentsOf behind ss
+
+-- A text is one segment. All that is before the last segment of a path could be a part of its file,
+-- so a text is segments just where it is one.
+pub record HasForm (whole : List ℕ) : Type 0 where
+  pub segment : Segment
+  pub form : IsSegment segment
+  pub text : segment_text segment ≡ whole
 
 -- the file that a path names, without its folders, and these
 abbrev pub name_of : List ℕ → List ℕ
@@ -82,14 +98,14 @@ pub record IsPlaceIn (ss : List Segment) (first : List ℕ) (p : ModelPlace) : T
 pub record IsPlaceOf (path : List ℕ) (p : ModelPlace) : Type 0 where
   pub outermost : Segment
   pub others : List Segment
-  pub text : flat_map segment_text (outermost ∷ others) ≡ path
+  pub segments : AreSegmentsOf path (outermost ∷ others)
   pub is : IsPlaceIn (outermost ∷ others) outermost.file.now p
 
 -- no place is in a path that is of another form, or of which each own segment is a loop variable
 pub record IsNowhere (path : List ℕ) : Type 0 where
   pub outermost : Segment
   pub others : List Segment
-  pub text : flat_map segment_text (outermost ∷ others) ≡ path
+  pub segments : AreSegmentsOf path (outermost ∷ others)
   pub none : innermost outermost.file.now None (outermost ∷ others) ≡ None
 
 abbrev pub HasNoPlace : List ℕ → Type 0

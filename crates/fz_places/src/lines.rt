@@ -1,7 +1,8 @@
 //! Lines and characters of a text: the line and the column of a byte, and the parts of that line
 //! before and after it.
 
-ghost use Rattle.std.specs.Prelude.{◌≡◌, ◌≤◌, suc, take, drop, length, filter, option_map, ℕ, List};
+ghost use Rattle.std.specs.Prelude.{◌≡◌, ◌≤◌, ◌==◌, suc, take, drop, length, filter, not, option_map, true, IfSome, ℕ, List};
+ghost use Rattle.std.specs.List.{list_all};
 ghost use Rattle.fz_places.specs.Lines.{begins_character, characters, first_line, first_part, is_end, last_line, last_part, line_ends, parted};
 
 /// The byte that ends a line.
@@ -87,8 +88,9 @@ pub(crate) fn part_len(bytes: &[u8], end: u8) -> usize
 
 /// The part before the first byte that is this, and what is behind that byte.
 pub(crate) fn parted<'a>(bytes: &'a [u8], end: u8) -> Option<(&'a [u8], &'a [u8])>
-    ensures { option_map {U = List ℕ × List ℕ} (λ p. (p.0.now, p.1.now)) result
+    ensures parts { option_map {U = List ℕ × List ℕ} (λ p. (p.0.now, p.1.now)) result
         ≡ parted end bytes.now }
+    ensures first { IfSome result (λ p. list_all (λ b. not (b == end)) p.0.now ≡ true) }
 {
     let count = part_len(bytes, end);
     if count == bytes.len() {

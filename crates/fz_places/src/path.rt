@@ -1,9 +1,9 @@
 //! Where in a MiniZinc model a constraint is from, by the path to it that the compiler writes.
 
-ghost use Rattle.std.specs.Prelude.{◌≡◌, ◌==◌, ◌≤◌, ◌∷◌, ◌++◌, [], IfOk, IfSome, IsNone, OnOk, Some, None, List, ℕ, flat_map, length, map, option_map, take, drop};
+ghost use Rattle.std.specs.Prelude.{◌≡◌, ◌==◌, ◌≤◌, ◌∷◌, ◌++◌, IfOk, IfSome, IsNone, OnOk, Some, None, List, ℕ, length, map, option_map, take, drop};
 ghost use Rattle.std.specs.List.{filter, list_any, prefix_len};
 ghost use Rattle.fz_places.specs.Lines.{first_part, last_part};
-ghost use Rattle.fz_places.specs.Paths.{HasForm, HasNoPlace, IsPlaceIn, IsPlaceOf, folder_of, innermost, is_alike, is_digit, is_loop, is_own, is_own_loop, name_of, segment_text, short_name};
+ghost use Rattle.fz_places.specs.Paths.{AreSegmentsOf, BeginsWith, HasForm, HasNoPlace, IsNumber, IsPlaceIn, IsPlaceOf, IsSegment, folder_of, innermost, is_alike, is_digit, is_loop, is_own, is_own_loop, name_of, segment_text, short_name};
 ghost use Rattle.fz_places.specs.Segments.{behind_bar, behind_segment, number};
 
 use crate::lines::{part_len, part_start, parted};
@@ -72,6 +72,7 @@ fn behind_bar<'a>(text: &'a [u8]) -> Option<&'a [u8]>
 /// The number behind a bar at the front, and what follows.
 fn number<'a>(text: &'a [u8]) -> Option<(&'a [u8], &'a [u8])>
     ensures text { IfSome result (λ n. text.now ≡ 124 ∷ n.0.now ++ n.1.now) }
+    ensures digits { IfSome result (λ n. IsNumber n.0.now) }
     ensures number { option_map {U = List ℕ × List ℕ} (λ n. (n.0.now, n.1.now)) result
         ≡ number text.now }
 {
@@ -86,6 +87,8 @@ fn number<'a>(text: &'a [u8]) -> Option<(&'a [u8], &'a [u8])>
 /// A segment of this file at the front of a text that follows, and what is behind it.
 fn segment_of<'a>(file: &'a [u8], text: &'a [u8]) -> Option<(Segment<'a>, &'a [u8])>
     ensures text { IfSome result (λ s. segment_text s.0 ++ s.1.now ≡ file.now ++ text.now) }
+    ensures form { IfSome result (λ s. IsSegment s.0) }
+    ensures file { IfSome result (λ s. s.0.file.now ≡ file.now) }
     ensures rest { option_map (λ s. s.1.now) result ≡ behind_segment text.now }
 {
     let (line, text) = number(text)?;
@@ -106,14 +109,13 @@ fn segment_of<'a>(file: &'a [u8], text: &'a [u8]) -> Option<(Segment<'a>, &'a [u
 
 /// The segment at the front, whose file is as short as can be, and what is behind it.
 fn first_segment<'a>(text: &'a [u8]) -> Option<(Segment<'a>, &'a [u8])>
-    ensures text { IfSome result (λ s. segment_text s.0 ++ s.1.now ≡ text.now) }
+    ensures segment { IfSome result (λ s. BeginsWith text.now s.0 s.1.now) }
     ensures none { IsNone result → HasForm text.now → ⊥ }
 {
     for length in 0..text.len() {
         let (file, rest) = text.split_at(length);
-        let found = segment_of(file, rest);
-        if found.is_some() {
-            return found;
+        if let Some(found) = segment_of(file, rest) {
+            return Some(found);
         }
     }
     None
@@ -121,7 +123,7 @@ fn first_segment<'a>(text: &'a [u8]) -> Option<(Segment<'a>, &'a [u8])>
 
 /// The segments of a path.
 fn segments_of<'a>(alloc: Global, path: &'a [u8]) -> Result<Option<Vec<Segment<'a>>>, AllocError>
-    ensures text { IfOk result (λ o. IfSome o (λ v. flat_map segment_text v.items ≡ path.now)) }
+    ensures segments { IfOk result (λ o. IfSome o (λ v. AreSegmentsOf path.now v.items)) }
     ensures none { IfOk result (λ o. IsNone o → HasForm path.now → ⊥) }
 {
     let mut segments = Vec::new(alloc);

@@ -1,5 +1,5 @@
 -- A row fails by each of its reasons.
-use Rattle.std.proofs.Common.{◌≡◌, ℤ, false, not, ◌&&◌, ◌||◌, List, Some, int_le, refl, sym, ap, ◌∙◌, map}
+use Rattle.std.proofs.Common.{◌≡◌, ℤ, Bool, cond, true, false, not, ◌&&◌, ◌||◌, List, None, Some, int_le, option_and_then, refl, sym, ap, ◌∙◌, map}
 use Rattle.std.specs.List.{list_all, list_any}
 use Rattle.std.specs.FinSet as sets
 use Rattle.std.proofs.lemmas.Option.{none-some, same_Some}
@@ -15,7 +15,7 @@ use Rattle.fz_builtins.specs.declared.outcome.Outcome.{Outcome}
 use Rattle.fz_builtins.specs.declared.outcome.Outcome.TheVariants.{Truth}
 use Rattle.fz_builtins.specs.Said.{is_result}
 use Rattle.fz_builtins.proofs.RowTests.{holds_at, same_int_either_way}
-use Rattle.fz_reasons.specs.Compared.{comparison, leave, operands}
+use Rattle.fz_reasons.specs.Compared.{comparison, leave, operands, sides_of}
 use Rattle.fz_reasons.specs.Relating.{relates}
 use Rattle.fz_reasons.specs.Elements.{AreUnlike, IsCount, IsOutside}
 use Rattle.fz_reasons.specs.Reasons.{AreSame, Clashes, Counts, HasEven, HasNoLiteral, HasOtherNumber, HasOtherTruth, LiesOutside, NotListed, RowsFail, Says, Unlike, element_kind, neighbours_of, numbers_at}
@@ -26,7 +26,7 @@ use Rattle.fz_reasons.proofs.Numbers.{clash, clash_of_kept}
 use Rattle.fz_reasons.proofs.Truths.{at_most, below, truth_neighbours}
 use Rattle.fz_reasons.proofs.Touring.{entered_twice}
 use Rattle.fz_reasons.proofs.Scheduled.{bin_fails, boxes_fail, load_fails, overlap_fails}
-use Rattle.fz_reasons.proofs.Ordered.{difference_fails, early_fails, end_fails, near_row_fails, no_step_fails, one_way_fails}
+use Rattle.fz_reasons.proofs.Ordered.{beginning_fails, difference_fails, early_fails, end_fails, near_row_fails, no_step_fails, one_way_fails}
 use Rattle.fz_reasons.proofs.SetRows.{member_fails, shared_fails}
 use Rattle.fz_reasons.specs.declared.reason.Operands.{Operands}
 use Rattle.fz_reasons.specs.declared.reason.Relation.{Relation}
@@ -84,12 +84,23 @@ module _ (K : Partial) (xs : List Argument) where
       ap Truth (same_int_either_way (int_at K xs 0) (count_of (ints_at K xs 1) (int_at K xs 2))) ∙ ap outcome_of (same_Some _ c e)
   compares b c e = absurd (none-some c e)
 
+-- what is compared adds no sum up that leaves 128 bits, and doesn't compare so
+unlike_outcome : (c : Operands × Relation) (beyond : Bool) (left right : ℤ) (s : Sides)
+    → cond beyond None (Some (record { left = left; relation = c.1; right = right })) ≡ Some s
+    → relates s.relation s.left s.right ≡ false
+    → sum_outcome (beyond || false) (relates c.1 left right) ≡ Truth false
+unlike_outcome c true left right s is unlike = absurd (none-some s is)
+unlike_outcome c false left right s is unlike =
+    let same : ◌≡◌ {A = Sides} (record { left = left; relation = c.1; right = right }) s = same_Some _ s is in
+    ap (λ t. Truth (relates t.relation t.left t.right)) same ∙ ap Truth unlike
+
 unlike_fails : (b : Builtin) (K : Partial) (xs : List Argument) (s : Sides) → Unlike b K xs s
     → row_outcome (row_at b) K xs ≡ Truth false
 unlike_fails b K xs s h =
-    compares K xs b (h.sides.what, s.relation) h.sides.compared
-    ∙ (λ i. sum_outcome (h.sides.added i || false) (relates s.relation (h.sides.left i) (h.sides.right i)))
-    ∙ ap Truth h.unlike
+    elim (comparison b) as (λ o. comparison b ≡ o → option_and_then (λ c. sides_of c K xs) o ≡ Some s → row_outcome (row_at b) K xs ≡ Truth false) [
+      | None ↦ λ same is. absurd (none-some s is)
+      | Some c ↦ λ same is. compares K xs b c same ∙ unlike_outcome c (leave c.0 K xs) (operands c.0 K xs).0 (operands c.0 K xs).1 s is h.unlike
+    ] refl h.sides
 
 -- ---- a result
 
@@ -236,6 +247,7 @@ fails b K xs (reasons.Difference d) h = difference_fails b K xs d h
 fails b K xs (reasons.Early e) h = early_fails b K xs e h
 fails b K xs (reasons.OneWay w) h = one_way_fails b w.of_first K xs w h
 fails b K xs (reasons.NoStep n) h = no_step_fails b K xs n h
+fails b K xs (reasons.BeginsIn q) h = beginning_fails b K xs q h
 fails b K xs (reasons.EndsIn q) h = end_fails b K xs q h
 fails b K xs (reasons.NearRow n) h = near_row_fails b K xs n h
 fails b K xs (reasons.Arranged a) h = arranged_fails b K xs a h

@@ -12,17 +12,17 @@ use Rattle.fz_builtins.specs.of_meaning.Builtins.{row_at}
 use Rattle.fz_builtins.specs.of_meaning.Meaning.{Argument, Partial}
 use Rattle.fz_builtins.specs.Outcomes.{row_outcome}
 use Rattle.fz_builtins.specs.declared.outcome.Outcome.TheVariants as outcomes
-use Rattle.fz_builtins.specs.of_meaning.Relations.{◌=ℤ◌, as_number, as_places, element_at, is_before, is_same_list, leads_back, lies_between, precedes, precedes_in_sets, refer_back, rises_by_one}
+use Rattle.fz_builtins.specs.of_meaning.Relations.{◌=ℤ◌, as_number, as_places, element_at, is_before, is_same_list, is_word, leads_back, lies_between, precedes, precedes_in_sets, refer_back, rises_by_one}
 use Rattle.fz_builtins.specs.of_kernel.Given.{bools_at, int_at, ints_at, set_at, sets_at}
 use Rattle.fz_reasons.specs.Elements.{IsEarly, IsOneWay, agree, comes_before, differ}
-use Rattle.fz_reasons.specs.Reasons.{ComesEarly, Differs, Ends, IsNearRow, LeadsOneWay, Stops}
+use Rattle.fz_reasons.specs.Reasons.{Begins, ComesEarly, Differs, Ends, IsNearRow, LeadsOneWay, Stops}
 use Rattle.fz_builtins.proofs.of_globals.Ascending.{form_is}
 use Rattle.fz_reasons.proofs.Channels.{in_no_set, no_index_of}
 use Rattle.fz_reasons.proofs.Lists.{and_false, neighbours_fail}
 use Rattle.fz_reasons.proofs.Numbers.{comes_too_early}
 use Rattle.fz_reasons.proofs.Referring.{not_back, set_too_early}
 use Rattle.fz_reasons.proofs.Truths.{truths_before}
-use Rattle.fz_reasons.proofs.Turning.{decides, leads_off, stops}
+use Rattle.fz_reasons.proofs.Turning.{decides, from_no_state, leads_off, no_word}
 use Rattle.fz_reasons.specs.declared.reason.Difference.{Difference}
 use Rattle.fz_reasons.specs.declared.reason.Early.{Early}
 use Rattle.fz_reasons.specs.declared.reason.OneWay.{OneWay}
@@ -178,16 +178,23 @@ pub no_step_fails : (b : Builtin) (K : Partial) (xs : List Argument) (n : NoStep
     → row_outcome (row_at b) K xs ≡ outcomes.Truth false
 unfolding row_outcome row_at
 no_step_fails builtin.FznRegular K xs n h =
-    ap (λ o. outcomes.Truth (option_map_or (λ q. lies_between (pos 1) (int_at K xs 1) q && sets.contains (set_at K xs 5) q) o false))
-    (stops (int_at K xs 1) (int_at K xs 2) (ints_at K xs 3) (ints_at K xs 0) n.place (int_at K xs 4) n.state n.symbol h.reached h.symbol h.none)
+    ap outcomes.Truth (no_word (int_at K xs 1) (int_at K xs 2) (ints_at K xs 3) (set_at K xs 5) (ints_at K xs 0) n.place (int_at K xs 4) n.state n.symbol h.reached h.symbol h.none)
 no_step_fails b K xs n h = absurd h
+
+pub beginning_fails : (b : Builtin) (K : Partial) (xs : List Argument) (q : ℤ) → Begins b K xs q
+    → row_outcome (row_at b) K xs ≡ outcomes.Truth false
+unfolding row_outcome row_at
+beginning_fails builtin.FznRegular K xs q h =
+    ap outcomes.Truth (ap (λ p. is_word (ints_at K xs 0) (int_at K xs 1) (int_at K xs 2) (ints_at K xs 3) p (set_at K xs 5)) h.0
+    ∙ from_no_state (int_at K xs 1) (int_at K xs 2) (ints_at K xs 3) (set_at K xs 5) (ints_at K xs 0) q h.1)
+beginning_fails b K xs q h = absurd h
 
 pub end_fails : (b : Builtin) (K : Partial) (xs : List Argument) (q : ℤ) → Ends b K xs q
     → row_outcome (row_at b) K xs ≡ outcomes.Truth false
 unfolding row_outcome row_at
 end_fails builtin.FznRegular K xs q h =
     ap (λ o. outcomes.Truth (option_map_or (λ q. lies_between (pos 1) (int_at K xs 1) q && sets.contains (set_at K xs 5) q) o false)) h.0
-    ∙ ap outcomes.Truth h.1
+    ∙ (λ i. outcomes.Truth (h.1 i && h.2 i))
 end_fails b K xs q h = absurd h
 
 pub near_row_fails : (b : Builtin) (K : Partial) (xs : List Argument) (n : NearRow) → IsNearRow b K xs n

@@ -1,11 +1,14 @@
--- Lists of successors that turn too early or lead one way, runs of automata that stop, and lists
--- that differ.
-use Rattle.std.proofs.Common.{◌≡◌, ℕ, zero, suc, ◌<◌, ℤ, pos, ◌+ℤ◌, Bool, true, false, ◌&&◌, ◌||◌, List, [], ◌∷◌, Option, None, Some, slice_get, take, option_and_then, refl, sym, ap, ◌∙◌, arith}
+-- Lists of successors that turn too early or lead one way, words that automata don't accept, and
+-- lists that differ.
+use Rattle.std.proofs.Common.{◌≡◌, ℕ, zero, suc, ◌<◌, ℤ, pos, ◌+ℤ◌, ◌-ℤ◌, ◌*ℤ◌, Bool, true, false, ◌&&◌, ◌||◌, if◌then◌else◌, List, [], ◌∷◌, Option, None, Some, slice_get, take, option_and_then, refl, sym, ap, ◌∙◌, arith}
+use Rattle.std.specs.FinSet as sets
 use Rattle.std.specs.Option.{option_map_or}
 use Rattle.std.proofs.lemmas.Option.{none-some, same_Some}
 use Rattle.std.proofs.lemmas.Int.{ints}
 use Rattle.std.proofs.lemmas.Bool.Decides.{Decides-int_eq}
-use Rattle.fz_builtins.specs.of_meaning.Relations.{◌=ℤ◌, element_at, is_before, leads_back, run, step}
+use Rattle.fz_builtins.specs.of_meaning.Relations.{◌=ℤ◌, element_at, is_before, is_word, leads_back, lies_between, run, step}
+use Rattle.fz_base.specs.Sets.{NumberSet}
+use Rattle.fz_reasons.specs.Elements.{has_step}
 use Rattle.fz_reasons.proofs.Lists.{and_false}
 use Rattle.fz_reasons.proofs.Numbers.{itself}
 
@@ -45,20 +48,34 @@ pub goes_on : (states symbols : ℤ) (d : List ℤ) (xs : List ℤ) (i j : ℕ) 
 goes_on states symbols d xs i j first q x p is reached at there =
     ap (λ k. run states symbols d first (take k xs)) is ∙ one_more states symbols d xs i first q x p reached at there
 
-pub stops : (states symbols : ℤ) (d : List ℤ) (xs : List ℤ) (i : ℕ) (first q x : ℤ)
-    → run states symbols d first (take i xs) ≡ Some q → slice_get xs i ≡ Some x
-    → step states symbols d q x ≡ None → run states symbols d first xs ≡ None
-stops states symbols d [] i first q x reached at none = absurd (none-some x at)
-stops states symbols d (y ∷ xs) zero first q x reached at none =
-    let is : first ≡ q = same_Some first q reached in
-    ap (λ p. option_and_then (λ r. run states symbols d r xs) (step states symbols d p y)) is
-    ∙ ap (λ z. option_and_then (λ r. run states symbols d r xs) (step states symbols d q z)) (same_Some y x at)
-    ∙ ap (option_and_then (λ r. run states symbols d r xs)) none
-stops states symbols d (y ∷ xs) (suc i) first q x reached at none =
-    elim (step states symbols d first y) as (λ o. option_and_then (λ r. run states symbols d r (take i xs)) o ≡ Some q → option_and_then (λ r. run states symbols d r xs) o ≡ None) [
-      | None ↦ λ e. refl
-      | Some p ↦ λ e. stops states symbols d xs i p q x e at none
-    ] reached
+module _ (states symbols : ℤ) (d : List ℤ) (last : NumberSet) where
+  abbrev is_end : Option ℤ → Bool
+  is_end o = option_map_or (λ q. lies_between (pos 1) states q && sets.contains last q) o false
+
+  -- from what is no state no word leads to a state
+  pub from_no_state : (xs : List ℤ) (q : ℤ) → lies_between (pos 1) states q ≡ false
+      → is_word xs states symbols d q last ≡ false
+  from_no_state [] q none = ap (λ b. b && sets.contains last q) none
+  from_no_state (x ∷ xs) q none =
+      ap (λ b. is_end (option_and_then (λ p. run states symbols d p xs) (if b && lies_between (pos 1) symbols x then element_at d (((q -ℤ pos 1) *ℤ symbols) +ℤ x) else None))) none
+
+  -- nor where a symbol leads to what is none
+  pub no_word : (xs : List ℤ) (i : ℕ) (first q x : ℤ)
+      → run states symbols d first (take i xs) ≡ Some q → slice_get xs i ≡ Some x
+      → has_step states symbols d q x ≡ false → is_word xs states symbols d first last ≡ false
+  no_word [] i first q x reached at none = absurd (none-some x at)
+  no_word (y ∷ xs) zero first q x reached at none =
+      ap (λ p. is_end (option_and_then (λ r. run states symbols d r xs) (step states symbols d p y))) (same_Some first q reached)
+      ∙ ap (λ z. is_end (option_and_then (λ r. run states symbols d r xs) (step states symbols d q z))) (same_Some y x at)
+      ∙ (elim (step states symbols d q x) as (λ o. option_map_or (lies_between (pos 1) states) o false ≡ false → is_end (option_and_then (λ r. run states symbols d r xs) o) ≡ false) [
+        | None ↦ λ e. refl
+        | Some p ↦ λ e. from_no_state xs p e
+      ] none)
+  no_word (y ∷ xs) (suc i) first q x reached at none =
+      elim (step states symbols d first y) as (λ o. option_and_then (λ r. run states symbols d r (take i xs)) o ≡ Some q → is_end (option_and_then (λ r. run states symbols d r xs) o) ≡ false) [
+        | None ↦ λ e. refl
+        | Some p ↦ λ e. no_word xs i p q x e at none
+      ] reached
 
 -- ---- lexicographic order
 

@@ -1,6 +1,6 @@
 -- The numbers that a row compares, and how (this project's profile). Booleans are compared as 0 and
 -- 1. A row that isn't in `comparison` compares no two numbers, or has a result.
-use Rattle.std.specs.Prelude.{ℤ, Bool, false, not, ◌&&◌, ◌||◌, Option, Some, None, List}
+use Rattle.std.specs.Prelude.{ℤ, Bool, cond, false, not, ◌&&◌, ◌||◌, Option, Some, None, List, option_and_then}
 use Rattle.std.specs.List.{list_all, list_any}
 use Rattle.fz_builtins.specs.of_meaning.Relations.{◌=ᴮ◌, as_number, count_of, products, total, where_true}
 use Rattle.fz_builtins.specs.of_meaning.States.{leaves_128}
@@ -11,6 +11,7 @@ use Rattle.fz_builtins.specs.of_meaning.declared.builtin.Builtin.TheVariants as 
 use Rattle.fz_reasons.specs.declared.reason.Operands.{Operands}
 use Rattle.fz_reasons.specs.declared.reason.Operands.TheVariants as of
 use Rattle.fz_reasons.specs.declared.reason.Relation.{Relation}
+use Rattle.fz_reasons.specs.declared.reason.Sides.{Sides}
 use Rattle.fz_reasons.specs.declared.reason.Relation.TheVariants.{Equal, NotEqual, AtMost, Below, AtLeast, Above}
 
 -- the left and the right number
@@ -65,3 +66,14 @@ comparison builtin.FznAtLeastInt = Some (of.CountLast, AtLeast)
 comparison builtin.FznAtMostInt = Some (of.CountLast, AtMost)
 comparison builtin.FznExactlyInt = Some (of.CountLast, Equal)
 comparison b = None
+
+-- The two numbers of a row that compares two, and how; none where a sum of them leaves 128 bits.
+abbrev pub sides_of : Operands × Relation → Partial → List Argument → Option Sides
+sides_of c K xs = cond (leave c.0 K xs) None (Some (record {
+  left = (operands c.0 K xs).0;
+  relation = c.1;
+  right = (operands c.0 K xs).1;
+}))
+
+abbrev pub sides : Builtin → Partial → List Argument → Option Sides
+sides b K xs = option_and_then (λ c. sides_of c K xs) (comparison b)

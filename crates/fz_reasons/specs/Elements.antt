@@ -5,7 +5,7 @@ use Rattle.std.specs.List.Sorted.{IsSorted, IsPermutation}
 use Rattle.std.specs.Ordering.{int_cmp}
 use Rattle.std.specs.FinSet as sets
 use Rattle.std.specs.Option.{option_map_or}
-use Rattle.fz_builtins.specs.of_meaning.Relations.{◌=ℤ◌, Span, are_apart, count_of, element_at, has_only, is_among, load_of, run, step, used_at}
+use Rattle.fz_builtins.specs.of_meaning.Relations.{◌=ℤ◌, Span, are_apart, count_of, element_at, has_only, is_among, lies_between, load_of, run, step, used_at}
 use Rattle.fz_base.specs.Sets.{NumberSet}
 use Rattle.fz_reasons.specs.Relating.{relates}
 use Rattle.fz_reasons.specs.declared.reason.Relation.{Relation}
@@ -193,11 +193,18 @@ pub record IsNotBack (ss : List NumberSet) (so : ℤ) (ts : List NumberSet) (to'
   pub none : option_map_or (λ t. sets.contains t (so +ℤ pos w.place))
       (element_at ts ((w.value -ℤ to') +ℤ pos 1)) false ≡ false
 
+-- whether a symbol leads from a state to a state, which are counted from 1
+abbrev pub has_step : ℤ → ℤ → List ℤ → ℤ → ℤ → Bool
+has_step states symbols d q x =
+    option_map_or (lies_between (pos 1) states) (step states symbols d q x) false
+
+-- the symbols before the index lead to a state, and from it the one at the index leads to none
 pub record HasNoStep (xs : List ℤ) (states symbols : ℤ) (d : List ℤ) (first : ℤ) (n : NoStep)
     : Type 0 where
   pub reached : run states symbols d first (take n.place xs) ≡ Some n.state
+  pub state : lies_between (pos 1) states n.state ≡ true
   pub symbol : slice_get xs n.place ≡ Some n.symbol
-  pub none : step states symbols d n.state n.symbol ≡ None
+  pub none : has_step states symbols d n.state n.symbol ≡ false
 
 -- a row of the table differs from the list at the index
 pub record IsDifferentRow (xs table : List ℤ) (n : NearRow) : Type 0 where

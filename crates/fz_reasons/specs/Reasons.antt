@@ -18,13 +18,12 @@ use Rattle.fz_builtins.specs.Outcomes.{row_outcome}
 use Rattle.fz_builtins.specs.declared.outcome.Outcome.TheVariants as outcomes
 use Rattle.fz_builtins.specs.Said.{HasResult, is_result, row_with}
 use Rattle.fz_reasons.specs.Arranged.{AddsUp, SaysArranged}
-use Rattle.fz_reasons.specs.Compared.{comparison, leave, operands}
+use Rattle.fz_reasons.specs.Compared.{sides}
 use Rattle.fz_reasons.specs.Elements.{AreBoxes, AreUnlike, BothLast, HasNoStep, IsBin, IsClash, IsCount, IsDifference, IsDifferentRow, IsEarly, IsEarlyInChain, IsEarlySet, IsInNoSet, IsLoad, IsNoIndexOf, IsNotBack, IsOneWay, IsOutside, IsOverlap, IsShared, IsUnsorted, agree, comes_before}
 use Rattle.fz_reasons.specs.Relating.{relates}
 use Rattle.fz_reasons.specs.declared.reason.ElementKind.{ElementKind}
 use Rattle.fz_reasons.specs.declared.reason.ElementKind.TheVariants as kinds
 use Rattle.fz_reasons.specs.declared.reason.Negative.{Negative}
-use Rattle.fz_reasons.specs.declared.reason.Operands.{Operands}
 use Rattle.fz_reasons.specs.declared.reason.Quantity.{Quantity}
 use Rattle.fz_reasons.specs.declared.reason.Quantity.TheVariants as of
 use Rattle.fz_reasons.specs.declared.reason.Relation.{Relation}
@@ -49,17 +48,9 @@ use Rattle.fz_reasons.specs.declared.reason.Reason.TheVariants as reasons
 
 -- ---- two sides
 
--- the row compares these two numbers, and adds no sum up that leaves 128 bits
-pub record AreCompared (b : Builtin) (K : Partial) (xs : List Argument) (s : Sides) : Type 0 where
-  pub what : Operands
-  pub compared : comparison b ≡ Some (what, s.relation)
-  pub left : (operands what K xs).0 ≡ s.left
-  pub right : (operands what K xs).1 ≡ s.right
-  pub added : leave what K xs ≡ false
-
--- and they don't compare as it asks
+-- the row compares two numbers, which don't compare as it asks
 pub record Unlike (b : Builtin) (K : Partial) (xs : List Argument) (s : Sides) : Type 0 where
-  pub sides : AreCompared b K xs s
+  pub sides : sides b K xs ≡ Some s
   pub unlike : relates s.relation s.left s.right ≡ false
 
 -- ---- a result
@@ -274,11 +265,17 @@ Stops builtin.FznRegular K xs n =
     HasNoStep (ints_at K xs 0) (int_at K xs 1) (int_at K xs 2) (ints_at K xs 3) (int_at K xs 4) n
 Stops b K xs n = ⊥
 
--- the automaton ends in what is no state, or not one of the last
+-- the automaton begins in what is no state
+abbrev pub Begins : Builtin → Partial → List Argument → ℤ → Type 0
+Begins builtin.FznRegular K xs q =
+    (int_at K xs 4 ≡ q) × (lies_between (pos 1) (int_at K xs 1) q ≡ false)
+Begins b K xs q = ⊥
+
+-- the automaton ends in a state that isn't one of the last
 abbrev pub Ends : Builtin → Partial → List Argument → ℤ → Type 0
 Ends builtin.FznRegular K xs q =
     (run (int_at K xs 1) (int_at K xs 2) (ints_at K xs 3) (int_at K xs 4) (ints_at K xs 0) ≡ Some q)
-    × ((lies_between (pos 1) (int_at K xs 1) q && sets.contains (set_at K xs 5) q) ≡ false)
+    × (lies_between (pos 1) (int_at K xs 1) q ≡ true) × (sets.contains (set_at K xs 5) q ≡ false)
 Ends b K xs q = ⊥
 
 -- no row of the table is the list; the one that is told differs from it at the index that is told
@@ -375,6 +372,7 @@ Says b K xs (reasons.Difference d) = Differs b K xs d
 Says b K xs (reasons.Early e) = ComesEarly b K xs e
 Says b K xs (reasons.OneWay w) = LeadsOneWay b w.of_first K xs w
 Says b K xs (reasons.NoStep n) = Stops b K xs n
+Says b K xs (reasons.BeginsIn q) = Begins b K xs q
 Says b K xs (reasons.EndsIn q) = Ends b K xs q
 Says b K xs (reasons.NearRow n) = IsNearRow b K xs n
 Says b K xs (reasons.Member m) = IsMisplaced b K xs m

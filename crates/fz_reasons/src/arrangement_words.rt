@@ -1,109 +1,128 @@
 //! Why a row over tours, bins, knapsacks or runs fails, in words. Elements count from 1.
 
 use crate::arrangement::{Arrangement, BinLoad, NoIndex, Ring, Run, Total};
-use crate::element_words::from_one;
+use crate::element_words::{meet_in_bin, say_named};
 use crate::rings::follow;
-use fz_builtins::{ArgumentView, Builtin, Elements};
-use std::alloc::{AllocError, Global};
+use crate::teller::{Teller, from_one};
+use fz_builtins::Builtin;
+use std::alloc::AllocError;
 
 /// The most positions of a ring that are listed.
 const MOST_LISTED: usize = 8;
 
 /// The reason in words.
-pub(crate) fn arrangement_text(
-    alloc: Global,
-    builtin: Builtin,
-    view: &ArgumentView<'_, '_>,
+pub(crate) fn say_arrangement(
+    teller: &mut Teller<'_, '_>,
     found: &Arrangement,
-) -> Result<String, AllocError> {
+) -> Result<(), AllocError> {
     match *found {
-        Arrangement::NoIndex(
-            NoIndex {
-                place,
-                value,
-                low,
-                high,
-            },
-        ) => {
-            match builtin {
-                Builtin::ArraySetElement => {
-                    format!(in alloc; "the index is {value}, not from {low} to {high}")
-                }
-                _ => {
-                    let place = from_one(place);
-                    format!(in alloc; "element {place} is {value}, not from {low} to {high}")
-                }
-            }
-        }
-        Arrangement::Ring(ring) => ring_text(alloc, builtin, view.int(0), &view.elements(1), ring),
-        Arrangement::BinLoad(
-            BinLoad {
-                bin,
-                load,
-                wanted,
-                ..
-            },
-        ) => { format!(in alloc; "in bin {bin} lies {load}, not {wanted}") }
+        Arrangement::NoIndex(found) => say_no_index(teller, found),
+        Arrangement::Ring(ring) => say_ring(teller, ring),
+        Arrangement::BinLoad(load) => say_bin_load(teller, load),
         Arrangement::Weight(Total { total, wanted }) => {
-            format!(in alloc; "the weight is {total}, not {wanted}")
+            meet_taken(teller)?;
+            teller.add(format!(in teller.alloc; "the weight is {total}, not {wanted}")?)?;
+            teller.bracket(3, 0)
         }
         Arrangement::Profit(Total { total, wanted }) => {
-            format!(in alloc; "the profit is {total}, not {wanted}")
+            meet_taken(teller)?;
+            teller.add(format!(in teller.alloc; "the profit is {total}, not {wanted}")?)?;
+            teller.bracket(4, 0)
         }
-        Arrangement::Run(run) => run_text(alloc, builtin, view, run),
+        Arrangement::Run(run) => say_run(teller, run),
     }
+}
+
+fn say_no_index(teller: &mut Teller<'_, '_>, found: NoIndex) -> Result<(), AllocError> {
+    let NoIndex {
+        place,
+        value,
+        low,
+        high,
+    } = found;
+    match teller.builtin {
+        Builtin::ArraySetElement => {
+            teller.add(format!(in teller.alloc; "the index is {value}")?)?;
+            teller.bracket(0, 0)?;
+            teller.add(format!(in teller.alloc; ", not from {low} to {high}")?)
+        }
+        _ => {
+            say_named(teller, "element", 1, place)?;
+            teller.add(format!(in teller.alloc; " is {value}, not from {low} to {high}")?)
+        }
+    }
+}
+
+fn say_bin_load(teller: &mut Teller<'_, '_>, found: BinLoad) -> Result<(), AllocError> {
+    let BinLoad {
+        place,
+        bin,
+        load,
+        wanted,
+    } = found;
+    meet_in_bin(teller, bin)?;
+    teller.add(format!(in teller.alloc; "in bin {bin} lies {load}, not {wanted}")?)?;
+    teller.bracket(0, place)
+}
+
+/// The things of a knapsack of which there are any are in the reason.
+fn meet_taken(teller: &mut Teller<'_, '_>) -> Result<(), AllocError> {
+    let numbers = teller.view.elements(2);
+    for place in 0..numbers.len() {
+        if numbers.int(place) != 0 {
+            teller.meet_as(2, place, "thing")?;
+        }
+    }
+    Ok(())
 }
 
 /// What a run of elements adds up to, or how many of them are in the set.
-fn run_text(
-    alloc: Global,
-    builtin: Builtin,
-    view: &ArgumentView<'_, '_>,
-    run: Run,
-) -> Result<String, AllocError> {
+fn say_run(teller: &mut Teller<'_, '_>, run: Run) -> Result<(), AllocError> {
     let Run { place, count, sum } = run;
     let (one, last) = (from_one(place), place.saturating_add(count));
-    match builtin {
-        Builtin::GecodeAmongSeqInt => {
-            let (low, high) = (view.int(3), view.int(4));
-            format!(in alloc;
-                "of elements {one} to {last} {sum} are in the set, not from {low} to {high}"
-            )
-        }
-        _ => {
-            let (low, high) = (view.int(0), view.int(1));
-            format!(in alloc; "elements {one} to {last} add up to {sum}, not from {low} to {high}")
-        }
+    let is_among = teller.builtin == Builtin::GecodeAmongSeqInt;
+    let list = if is_among { 0 } else { 3 };
+    for element in place..last {
+        teller.meet_as(list, element, "element")?;
     }
+    if is_among {
+        let (low, high) = (teller.view.int(3), teller.view.int(4));
+        return teller.add(format!(in teller.alloc;
+            "of elements {one} to {last} {sum} are in the set, not from {low} to {high}"
+        )?);
+    }
+    let (low, high) = (teller.view.int(0), teller.view.int(1));
+    teller.add(format!(in teller.alloc;
+        "elements {one} to {last} add up to {sum}, not from {low} to {high}"
+    )?)
 }
 
 /// The positions of a ring in their order, by their indices in the list.
-fn ring_text(
-    alloc: Global,
-    builtin: Builtin,
-    first: i64,
-    next: &Elements,
-    ring: Ring,
-) -> Result<String, AllocError> {
-    let mut text = String::new(alloc);
+fn say_ring(teller: &mut Teller<'_, '_>, ring: Ring) -> Result<(), AllocError> {
+    let (first, next) = (teller.view.int(0), teller.view.elements(1));
+    teller.say("the circle ")?;
     let mut position = ring.start;
     for _step in 0..ring.steps.min(MOST_LISTED) {
-        write!(text, "{} → ", index_of(first, position))?;
-        match follow(first, next, position) {
+        teller.add(format!(in teller.alloc; "{} → ", index_of(first, position))?)?;
+        if let Ok(number) = usize::try_from(position) {
+            teller.meet_at(1, number.saturating_sub(1))?;
+        }
+        match follow(first, &next, position) {
             Some(following) => position = following,
             None => break,
         }
     }
     if ring.steps > MOST_LISTED {
-        text.push_str("... → ")?;
+        teller.say("... → ")?;
     }
     let (start, steps, count) = (index_of(first, ring.start), ring.steps, next.len());
-    match builtin {
+    let said = match teller.builtin {
         Builtin::FzcheckSubcircuit => {
-            format!(in alloc; "the circle {text}{start} leaves out others that are moved")
+            format!(in teller.alloc; "{start} leaves out others that are moved")?
         }
-        _ => format!(in alloc; "the circle {text}{start} has {steps} of {count}"),
-    }
+        _ => format!(in teller.alloc; "{start} has {steps} of {count}")?,
+    };
+    teller.add(said)
 }
 
 /// The index of a position, which counts from 1.

@@ -1,12 +1,10 @@
 //! Words that an automaton doesn't accept, and lists that are no row of a table.
 
-ghost use Rattle.std.specs.Prelude.{◌≡◌, ◌⊎◌, ◌&&◌, pos, IfErr, IfOk, IfSome, Some};
-ghost use Rattle.std.specs.FinSet.{contains};
+ghost use Rattle.std.specs.Prelude.{◌≡◌, ◌⊎◌, false, pos, true, IfErr, IfOk, IfSome, IsNone, Some};
 ghost use Rattle.fz_builtins.specs.of_meaning.declared.builtin.Builtin.TheVariants.{FznRegular};
-ghost use Rattle.fz_builtins.specs.of_meaning.Relations.{lies_between, run};
+ghost use Rattle.fz_builtins.specs.of_meaning.Relations.{lies_between, run, step};
 ghost use Rattle.fz_builtins.specs.of_kernel.Views.{arguments_of, assigned, ints};
-ghost use Rattle.fz_builtins.specs.Readings.{int, numbers};
-ghost use Rattle.fz_reasons.specs.Elements.{HasNoStep, IsDifferentRow};
+ghost use Rattle.fz_reasons.specs.Elements.{HasNoStep, IsDifferentRow, has_step};
 ghost use Rattle.fz_reasons.specs.Reasons.{Says, numbers_at};
 
 use crate::places::lies_between;
@@ -53,29 +51,45 @@ fn near_row(
     Ok(nearest(&list, &table))
 }
 
-/// The first symbol that has no step, or the state at the end where that isn't one of the last.
+/// The beginning where that is no state, the first symbol that leads to no state, or the state at the
+/// end where that isn't one of the last.
 #[tactic(auto, unfolding(crate::specs::Reasons::Says))]
 fn by_automaton(view: &ArgumentView<'_, '_>) -> Option<Reason>
     ensures { IfSome result (Says FznRegular (assigned view.now) (arguments_of view.now)) }
 {
     let (list, transitions) = (view.elements(0), view.elements(3));
-    match run(view.int(1), view.int(2), &transitions, view.int(4), &list) {
-        Ok(state) if !is_last(view, state) => Some(Reason::EndsIn(state)),
+    let (states, first) = (view.int(1), view.int(4));
+    if !is_state(states, first) {
+        return Some(Reason::BeginsIn(first));
+    }
+    match run(states, view.int(2), &transitions, first, &list) {
+        Ok(state) if !view.set(5).contains(state) => Some(Reason::EndsIn(state)),
         Ok(_) => None,
         Err(found) => Some(Reason::NoStep(found)),
     }
 }
 
-/// Whether it is one of the states, and of the last ones.
-fn is_last(view: &ArgumentView<'_, '_>, state: i64) -> bool
-    ensures { result ≡ (lies_between (pos 1) (int view.now 1) state
-        && contains (numbers view.now 5) state) }
+fn is_state(states: i64, number: i64) -> bool
+    ensures { result ≡ lies_between (pos 1) states number }
 {
-    let last = view.set(5);
-    lies_between(1, i128::from(view.int(1)), i128::from(state)) && last.contains(state)
+    lies_between(1, i128::from(states), i128::from(number))
 }
 
-/// The state to which a word leads from a state, or the symbol at which it has no step.
+/// The state to which a symbol leads; none where it leads to what is none.
+fn step(states: i64, symbols: i64, transitions: &Elements, state: i64, symbol: i64) -> Option<i64>
+    ensures step { IfSome result
+        (λ q. step states symbols (ints transitions.now) state symbol ≡ Some q) }
+    ensures state { IfSome result (λ q. lies_between (pos 1) states q ≡ true) }
+    ensures none { IsNone result
+        → has_step states symbols (ints transitions.now) state symbol ≡ false }
+{
+    match next_state(states, symbols, transitions, state, symbol) {
+        Some(next) if is_state(states, next) => Some(next),
+        _ => None,
+    }
+}
+
+/// The state to which a word leads from a state, or the symbol that leads to none.
 fn run(
     states: i64,
     symbols: i64,
@@ -83,15 +97,17 @@ fn run(
     first: i64,
     list: &Elements,
 ) -> Result<i64, NoStep>
+    requires state { lies_between (pos 1) states first ≡ true }
     ensures ends { IfOk result
         (λ q. run states symbols (ints transitions.now) first (ints list.now) ≡ Some q) }
+    ensures state { IfOk result (λ q. lies_between (pos 1) states q ≡ true) }
     ensures stops { IfErr result
         (HasNoStep (ints list.now) states symbols (ints transitions.now) first) }
 {
     let mut state = first;
     for place in 0..list.len() {
         let symbol = list.int(place);
-        match next_state(states, symbols, transitions, state, symbol) {
+        match step(states, symbols, transitions, state, symbol) {
             Some(next) => state = next,
             None => {
                 return Err(NoStep {

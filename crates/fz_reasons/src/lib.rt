@@ -23,7 +23,11 @@ mod results;
 mod rings;
 mod rows;
 mod sides;
+mod sum_words;
 mod tasks;
+mod teller;
+mod term_words;
+mod told;
 mod tours;
 mod words;
 
@@ -33,6 +37,6 @@ pub use reason::{
     Neighbours, NoStep, OneWay, Operands, OtherNumber, OtherTruth, Overlap, Quantity, Reason,
     Relation, Sides, Stretch, Why,
 };
-pub use rows::{a_form_fails_by_its_reason, a_row_fails_by_its_reason, holds, reason_of, why};
-pub use sides::sides_of;
+pub use rows::{a_form_fails_by_its_reason, a_row_fails_by_its_reason, why};
+pub use told::{Piece, Told, Who};
 pub use words::{giving_at, reason_at};

@@ -207,7 +207,7 @@ pub struct OneWay {
     pub back: Option<i64>,
 }
 
-/// The index of a symbol that has no step from this state.
+/// The index of a symbol that leads from this state to no state.
 #[derive(Clone, Copy)]
 pub struct NoStep {
     pub place: usize,
@@ -257,8 +257,10 @@ pub enum Reason {
     Difference(Difference),
     Early(Early),
     OneWay(OneWay),
+    /// The automaton begins in this, which is no state.
+    BeginsIn(i64),
     NoStep(NoStep),
-    /// The automaton ends in this, which is no state or not one of the last.
+    /// The automaton ends in this state, which isn't one of the last.
     EndsIn(i64),
     NearRow(NearRow),
     Member(Member),

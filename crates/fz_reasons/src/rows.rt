@@ -1,6 +1,6 @@
 //! Why a row fails.
 
-ghost use Rattle.std.specs.Prelude.{◌≡◌, IfOk, IfSome, true};
+ghost use Rattle.std.specs.Prelude.{◌≡◌, ◌↔◌, IfOk, IfSome, true};
 ghost use Rattle.fz_builtins.specs.of_meaning.Builtins.{row_at};
 ghost use Rattle.fz_builtins.specs.of_meaning.Known.{known_row};
 ghost use Rattle.fz_builtins.specs.of_kernel.Given.{are_read};
@@ -27,18 +27,15 @@ use fz_builtins::{ArgumentView, Builtin, Form, Known, Outcome, Readiness, contro
 use std::alloc::{AllocError, Global};
 
 /// Why the row of a builtin fails at the values that the argument view gives; none where it holds,
-/// and where there is no reason to tell.
-///
-/// # Errors
-///
-/// Out of memory.
+/// and where there is no reason to tell. What has no value is read as 0, false or the empty set, so
+/// its callers see first that there are values.
 #[tactic(auto, unfolding(crate::specs::Reasons::Says))]
-pub fn reason_of(
+pub(crate) fn reason_of(
     alloc: Global,
     builtin: Builtin,
     view: &ArgumentView<'_, '_>,
 ) -> Result<Option<Reason>, AllocError>
-    ensures says { IfOk result (λ o. IfSome o
+    ensures { IfOk result (λ o. IfSome o
         (Says builtin (assigned view.now) (arguments_of view.now))) }
 {
     if let Some(reason) = by_numbers(builtin, view) {
@@ -85,18 +82,15 @@ fn by_numbers(builtin: Builtin, view: &ArgumentView<'_, '_>) -> Option<Reason>
     by_tasks(builtin, view)
 }
 
-/// Whether the row of a builtin holds at the values that the argument view gives.
-///
-/// # Errors
-///
-/// Out of memory.
-pub fn holds(
+/// Whether the row of a builtin holds at the values that the argument view gives; it doesn't where a
+/// number of it can't be computed.
+pub(crate) fn holds(
     alloc: Global,
     builtin: Builtin,
     view: &ArgumentView<'_, '_>,
 ) -> Result<bool, AllocError>
-    ensures exact { IfOk result (λ b. b ≡ true → row_outcome (row_at builtin) (assigned view.now)
-        (arguments_of view.now) ≡ Truth true) }
+    ensures exact { IfOk result (λ b. (b ≡ true) ↔ (row_outcome (row_at builtin)
+        (assigned view.now) (arguments_of view.now) ≡ Truth true)) }
 {
     match of_builtin(alloc, builtin, view)? {
         Outcome::Truth(holds) => Ok(holds),

@@ -1,10 +1,10 @@
 //! The rows that compare two numbers.
 
-ghost use Rattle.std.specs.Prelude.{◌≡◌, IfSome, false};
+ghost use Rattle.std.specs.Prelude.{◌≡◌, IfSome, None, Some, cond};
 ghost use Rattle.fz_builtins.specs.of_kernel.Views.{arguments_of, assigned};
 ghost use Rattle.fz_builtins.specs.of_meaning.Relations.{as_number};
-ghost use Rattle.fz_reasons.specs.Compared.{comparison, leave, operands};
-ghost use Rattle.fz_reasons.specs.Reasons.{AreCompared, Unlike};
+ghost use Rattle.fz_reasons.specs.Compared.{comparison, leave, operands, sides};
+ghost use Rattle.fz_reasons.specs.Reasons.{Unlike};
 
 use crate::reason::{Operands, Relation, Sides};
 use fz_builtins::{
@@ -12,10 +12,10 @@ use fz_builtins::{
     sum_where_true,
 };
 
-/// The numbers that a row compares, and how.
-pub fn sides_of(builtin: Builtin, view: &ArgumentView<'_, '_>) -> Option<Sides>
-    ensures exact { IfSome result
-        (AreCompared builtin (assigned view.now) (arguments_of view.now)) }
+/// The numbers that a row compares, and how; none of a row that compares no two numbers, and where
+/// a sum leaves 128 bits.
+pub(crate) fn sides_of(builtin: Builtin, view: &ArgumentView<'_, '_>) -> Option<Sides>
+    ensures exact { result ≡ sides builtin (assigned view.now) (arguments_of view.now) }
 {
     let (compared, relation) = comparison(builtin)?;
     Some(Sides {
@@ -67,10 +67,8 @@ pub(crate) fn comparison(builtin: Builtin) -> Option<(Operands, Relation)>
 
 /// The left number; none where it is a sum that leaves 128 bits.
 fn left_of(compared: Operands, view: &ArgumentView<'_, '_>) -> Option<i128>
-    ensures number { IfSome result (λ n.
-        (operands compared (assigned view.now) (arguments_of view.now)).0 ≡ n) }
-    ensures added { IfSome result (λ n.
-        leave compared (assigned view.now) (arguments_of view.now) ≡ false) }
+    ensures { result ≡ cond (leave compared (assigned view.now) (arguments_of view.now)) None
+        (Some (operands compared (assigned view.now) (arguments_of view.now)).0) }
 {
     match compared {
         Operands::Scalars => Some(i128::from(view.int(0))),

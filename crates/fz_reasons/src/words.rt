@@ -3,18 +3,16 @@
 ghost use Rattle.std.specs.Prelude.{◌<◌, length};
 ghost use Rattle.fz_builtins.specs.of_meaning.Meaning.{points};
 
-use crate::element_words::{from_one, of_elements};
+use crate::element_words::say_of_elements;
 use crate::reason::{Operands, OtherNumber, OtherTruth, Reason, Relation, Sides, Why};
 use crate::rows::{holds, reason_of, why};
 use crate::sides::{comparison, sides_of};
-use fz_base::SetError;
-use fz_builtins::{
-    ArgumentView, Builtin, Elements, Form, Known, Model, Partial, PointParts, Said, said_of,
-};
+use crate::sum_words::say_sum;
+use crate::teller::Teller;
+use crate::term_words::{result_of, say_front, say_result};
+use crate::told::Told;
+use fz_builtins::{Builtin, Form, Known, Model, Partial, PointParts, Readiness};
 use std::alloc::{AllocError, Global};
-
-/// The most products that are listed.
-const MOST_LISTED: usize = 8;
 
 /// Why the constraint at a point fails, in words; none of another point, and none where there is no
 /// reason to tell.
@@ -27,20 +25,21 @@ pub fn reason_at(
     model: &Model<'_>,
     filling: &Partial,
     point: usize,
-) -> Result<Option<String>, AllocError>
+) -> Result<Option<Told>, AllocError>
     requires in_range { point < length (points model.now) }
 {
-    let Some((known, view)) = known_at(model, filling, point) else {
+    let Some((known, mut teller)) = teller_at(alloc, model, filling, point) else {
         return Ok(None);
     };
-    match why(alloc, known, &view)? {
-        Some(Why::Fails(reason)) => Ok(Some(reason_text(alloc, known.builtin, &view, &reason)?)),
+    match why(alloc, known, &teller.view)? {
+        Some(Why::Fails(reason)) => say_reason(&mut teller, &reason)?,
         Some(Why::Holds) => {
-            let told = held_text(alloc, known.builtin, &view)?;
-            Ok(Some(format!(in alloc; "{told}, but the Boolean is false")?))
+            say_held(&mut teller)?;
+            teller.say(", but the Boolean is false")?;
         }
-        None => Ok(None),
+        None => return Ok(None),
     }
+    Ok(Some(teller.told()))
 }
 
 /// Why the constraint at a point gave its value, in words; none where there is nothing to tell.
@@ -53,67 +52,85 @@ pub fn giving_at(
     model: &Model<'_>,
     filling: &Partial,
     point: usize,
-) -> Result<Option<String>, AllocError>
+) -> Result<Option<Told>, AllocError>
     requires in_range { point < length (points model.now) }
 {
-    let Some((known, view)) = known_at(model, filling, point) else {
+    let Some((known, mut teller)) = teller_at(alloc, model, filling, point) else {
         return Ok(None);
     };
-    match known.form {
-        // that two values are the same, which the values say
-        Form::Base
-            if matches!(
-                known.builtin,
-                Builtin::IntEq | Builtin::BoolEq | Builtin::Bool2Int
-            ) => Ok(None),
-        Form::Base => match result_text(alloc, known.builtin, &view)? {
-            Some(result) => Ok(Some(result)),
-            None if sides_of(known.builtin, &view).is_some() => {
-                Ok(Some(held_text(alloc, known.builtin, &view)?))
-            }
-            None => Ok(None),
-        },
-        Form::Reified | Form::Implied => match reason_of(alloc, known.builtin, &view)? {
-            Some(reason) => Ok(Some(reason_text(alloc, known.builtin, &view, &reason)?)),
-            None if holds(alloc, known.builtin, &view)? => {
-                Ok(Some(held_text(alloc, known.builtin, &view)?))
-            }
-            None => Ok(None),
-        },
+    let is_said = match known.form {
+        Form::Base => say_giving(&mut teller)?,
+        Form::Reified | Form::Implied => say_whether(&mut teller)?,
+    };
+    if is_said {
+        Ok(Some(teller.told()))
+    } else {
+        Ok(None)
     }
 }
 
-/// The row of the constraint at a point, and its arguments.
-fn known_at<'s, 'a>(
+/// The constraint at a point, with its row; none where some value is missing.
+fn teller_at<'s, 'a>(
+    alloc: Global,
     model: &'s Model<'a>,
     filling: &'s Partial,
     point: usize,
-) -> Option<(Known, ArgumentView<'s, 'a>)>
+) -> Option<(Known, Teller<'s, 'a>)>
     requires in_range { point < length (points model.now) }
 {
-    match model.point_parts(point) {
-        PointParts::Constraint(parts) => {
-            Some((parts.posted.known?, ArgumentView::new(parts, filling)))
-        }
-        _ => None,
+    let PointParts::Constraint(parts) = model.point_parts(point) else {
+        return None;
+    };
+    let known = parts.posted.known?;
+    let teller = Teller::new(alloc, known.builtin, parts, filling);
+    match teller.view.readiness(known.shapes()) {
+        Readiness::Ready => Some((known, teller)),
+        Readiness::WrongKind | Readiness::Missing => None,
     }
 }
 
+/// How a base row gave a value: its result, or what it compares. That two values are the same, the
+/// values say.
+fn say_giving(teller: &mut Teller<'_, '_>) -> Result<bool, AllocError> {
+    match teller.builtin {
+        Builtin::IntEq | Builtin::BoolEq | Builtin::Bool2Int => return Ok(false),
+        _ => {}
+    }
+    if let Some(result) = result_of(teller)? {
+        say_result(teller, result)?;
+        return Ok(true);
+    }
+    if sides_of(teller.builtin, &teller.view).is_none() {
+        return Ok(false);
+    }
+    say_held(teller)?;
+    Ok(true)
+}
+
+/// Why the row of a reified form fails, or that it holds.
+fn say_whether(teller: &mut Teller<'_, '_>) -> Result<bool, AllocError> {
+    if let Some(reason) = reason_of(teller.alloc, teller.builtin, &teller.view)? {
+        say_reason(teller, &reason)?;
+        return Ok(true);
+    }
+    let holds = holds(teller.alloc, teller.builtin, &teller.view)?;
+    if holds {
+        say_held(teller)?;
+    }
+    Ok(holds)
+}
+
 /// That a row holds, with both sides where it compares two.
-fn held_text(
-    alloc: Global,
-    builtin: Builtin,
-    view: &ArgumentView<'_, '_>,
-) -> Result<String, AllocError> {
-    let Some(sides) = sides_of(builtin, view) else {
-        return String::from_str(alloc, "what it reifies holds");
+fn say_held(teller: &mut Teller<'_, '_>) -> Result<(), AllocError> {
+    let Some(sides) = sides_of(teller.builtin, &teller.view) else {
+        return teller.say("what it reifies holds");
     };
-    let left = left_text(alloc, builtin, view, sides)?;
+    say_left(teller, sides)?;
     match sides.relation {
-        Relation::Equal => Ok(left),
-        relation => {
-            let (sign, right) = (sign(relation), right_text(alloc, builtin, sides)?);
-            format!(in alloc; "{left} {sign}{right}")
+        Relation::Equal => Ok(()),
+        _ => {
+            teller.say(" ")?;
+            say_right(teller, sides)
         }
     }
 }
@@ -130,228 +147,143 @@ pub(crate) fn sign(relation: Relation) -> &'static str {
     }
 }
 
+/// Whether Booleans are compared.
+fn are_truths(operands: Operands) -> bool {
+    match operands {
+        Operands::Truths
+        | Operands::And
+        | Operands::Or
+        | Operands::Xor
+        | Operands::All
+        | Operands::Any => true,
+        Operands::Scalars
+        | Operands::Products
+        | Operands::Weights
+        | Operands::Count
+        | Operands::CountLast => false,
+    }
+}
+
 /// The left one of two sides as it is computed, and its value.
-fn left_text(
-    alloc: Global,
-    builtin: Builtin,
-    view: &ArgumentView<'_, '_>,
-    sides: Sides,
-) -> Result<String, AllocError> {
+fn say_left(teller: &mut Teller<'_, '_>, sides: Sides) -> Result<(), AllocError> {
+    let Some((operands, _)) = comparison(teller.builtin) else {
+        return Ok(());
+    };
     let left = sides.left;
-    match comparison(builtin) {
-        Some((Operands::Products, _)) => {
-            let sum = sum_text(alloc, &view.elements(0), &view.elements(1))?;
-            format!(in alloc; "{sum} = {left}")
+    match operands {
+        Operands::Products => say_sum(teller)?,
+        Operands::Weights => {
+            meet_true(teller)?;
+            teller.say("the sum where it is true is ")?;
         }
-        Some((Operands::Weights, _)) => format!(in alloc; "the sum where it is true is {left}"),
-        Some((Operands::Count, _)) => comes_text(alloc, view.int(1), left),
-        Some((Operands::CountLast, _)) => comes_text(alloc, view.int(2), left),
-        Some((Operands::Scalars, _)) | None => format!(in alloc; "{left}"),
-        Some(_) => {
-            let (front, left) = (
-                front_text(alloc, builtin, view)?,
-                value_text(alloc, true, left)?,
-            );
-            format!(in alloc; "{front}{left}")
+        Operands::Count => {
+            let counted = teller.view.int(1);
+            return say_count(teller, 0, counted, left);
         }
-    }
-}
-
-/// The right one of two sides.
-fn right_text(alloc: Global, builtin: Builtin, sides: Sides) -> Result<String, AllocError> {
-    let is_truth = matches!(
-        comparison(builtin),
-        Some((
-            Operands::Truths
-                | Operands::And
-                | Operands::Or
-                | Operands::Xor
-                | Operands::All
-                | Operands::Any,
-            _,
-        ))
-    );
-    value_text(alloc, is_truth, sides.right)
-}
-
-/// A number, or the Boolean that it stands for.
-pub(crate) fn value_text(alloc: Global, is_truth: bool, value: i128) -> Result<String, AllocError> {
-    match value {
-        0 if is_truth => String::from_str(alloc, "false"),
-        _ if is_truth => String::from_str(alloc, "true"),
-        _ => format!(in alloc; "{value}"),
-    }
-}
-
-pub(crate) fn comes_text(alloc: Global, value: i64, count: i128) -> Result<String, AllocError> {
-    format!(in alloc; "{value} comes {count} times")
-}
-
-/// The products of a sum: of more than so many the greatest ones in their order, and how many are
-/// left out.
-fn sum_text(alloc: Global, a: &Elements, b: &Elements) -> Result<String, AllocError> {
-    let count = a.len().min(b.len());
-    let least = least_listed(alloc, a, b)?;
-    let mut text = String::new(alloc);
-    let mut listed: usize = 0;
-    for place in 0..count {
-        let (factor, value) = (a.int(place), b.int(place));
-        if listed < MOST_LISTED && size_of(factor, value) >= least {
-            let plus = if listed > 0 { " + " } else { "" };
-            if factor == 1 {
-                write!(text, "{plus}{value}")?;
-            } else {
-                write!(text, "{plus}{factor}·{value}")?;
+        Operands::CountLast => {
+            let counted = teller.view.int(2);
+            return say_count(teller, 1, counted, left);
+        }
+        Operands::Scalars | Operands::Truths => {
+            if let Some(variable) = teller.variable(0, 0) {
+                teller.name(variable)?;
+                teller.say(" = ")?;
             }
-            listed += 1;
+        }
+        Operands::And | Operands::Or | Operands::Xor | Operands::All | Operands::Any => {
+            say_front(teller)?;
         }
     }
-    let left_out = count.saturating_sub(listed);
-    if left_out > 0 {
-        write!(text, " + {left_out} more")?;
-    }
-    Ok(text)
+    teller.say_value(are_truths(operands), left)
 }
 
-fn size_of(factor: i64, value: i64) -> u128 {
-    u128::from(factor.unsigned_abs()) * u128::from(value.unsigned_abs())
+/// The Booleans that are true are in the reason.
+fn meet_true(teller: &mut Teller<'_, '_>) -> Result<(), AllocError> {
+    let truths = teller.view.elements(1);
+    for place in 0..truths.len() {
+        if truths.truth(place) {
+            teller.meet_at(1, place)?;
+        }
+    }
+    Ok(())
 }
 
-/// The size from which on products are listed.
-fn least_listed(alloc: Global, a: &Elements, b: &Elements) -> Result<u128, AllocError> {
-    let mut sizes = Vec::new(alloc);
-    for place in 0..a.len().min(b.len()) {
-        sizes.push(size_of(a.int(place), b.int(place)))?;
-    }
-    sizes.sort_unstable();
-    match sizes.len().checked_sub(MOST_LISTED) {
-        Some(place) if place < sizes.len() => Ok(sizes[place]),
-        _ => Ok(0),
+/// How often a number is an element of a list.
+pub(crate) fn say_count(
+    teller: &mut Teller<'_, '_>,
+    list: usize,
+    value: i64,
+    count: i128,
+) -> Result<(), AllocError> {
+    teller.meet_equal(list, value)?;
+    teller.add(format!(in teller.alloc; "{value} comes {count} times")?)
+}
+
+/// The right one of two sides, behind the sign.
+fn say_right(teller: &mut Teller<'_, '_>, sides: Sides) -> Result<(), AllocError> {
+    let Some((operands, _)) = comparison(teller.builtin) else {
+        return Ok(());
+    };
+    teller.say(sign(sides.relation))?;
+    teller.say_value(are_truths(operands), sides.right)?;
+    match operands {
+        Operands::CountLast => teller.bracket(0, 0),
+        Operands::Scalars | Operands::Truths | Operands::All | Operands::Any => {
+            teller.bracket(1, 0)
+        }
+        Operands::Products
+        | Operands::Weights
+        | Operands::Count
+        | Operands::And
+        | Operands::Or
+        | Operands::Xor => teller.bracket(2, 0),
     }
 }
 
-/// A reason of a row in words.
-fn reason_text(
-    alloc: Global,
-    builtin: Builtin,
-    view: &ArgumentView<'_, '_>,
-    reason: &Reason,
-) -> Result<String, AllocError> {
+/// A reason of a row.
+fn say_reason(teller: &mut Teller<'_, '_>, reason: &Reason) -> Result<(), AllocError> {
     match *reason {
         Reason::Sides(sides) => {
-            let left = left_text(alloc, builtin, view, sides)?;
-            let (sign, right) = (sign(sides.relation), right_text(alloc, builtin, sides)?);
-            format!(in alloc; "{left}, not {sign}{right}")
+            say_left(teller, sides)?;
+            teller.say(", not ")?;
+            say_right(teller, sides)
         }
-        Reason::Number(OtherNumber { value, .. }) => match result_text(alloc, builtin, view)? {
-            Some(result) => format!(in alloc; "{result}, not {value}"),
-            None => String::from_str(alloc, "it has another value"),
-        },
-        Reason::Truth(OtherTruth { value, .. }) => match result_text(alloc, builtin, view)? {
-            Some(result) => format!(in alloc; "{result}, not {value}"),
-            None => String::from_str(alloc, "it has another value"),
-        },
-        Reason::NoLiteral => String::from_str(alloc, "no literal is true"),
-        Reason::Even => String::from_str(alloc, "an even number of elements are true"),
-        Reason::Same => String::from_str(alloc, "the sets are the same"),
-        _ => of_elements(alloc, builtin, view, reason),
-    }
-}
-
-/// The result of a row by its other arguments, as it is computed; none of a row without one.
-fn result_text(
-    alloc: Global,
-    builtin: Builtin,
-    view: &ArgumentView<'_, '_>,
-) -> Result<Option<String>, AllocError> {
-    let front = front_text(alloc, builtin, view)?;
-    match said_of(alloc, builtin, false, view) {
-        Ok(Said::Number(_, Some(number))) => Ok(Some(format!(in alloc; "{front}{number}")?)),
-        Ok(Said::Boolean(_, Some(truth))) => Ok(Some(format!(in alloc; "{front}{truth}")?)),
-        Ok(Said::Number(_, None) | Said::Boolean(_, None)) => {
-            Ok(Some(format!(in alloc; "{front}no value")?))
+        Reason::Number(
+            OtherNumber {
+                argument,
+                value,
+                ..
+            },
+        ) => {
+            say_other(teller)?;
+            teller.say_value(false, i128::from(value))?;
+            teller.bracket(argument, 0)
         }
-        Ok(Said::Whether(_) | Said::Set(_, _) | Said::Given(_, _)) => Ok(None),
-        Err(SetError::Memory) => Err(AllocError),
-    }
-}
-
-/// How a result is told: which element decides on it, or the term whose value it is.
-fn front_text(
-    alloc: Global,
-    builtin: Builtin,
-    view: &ArgumentView<'_, '_>,
-) -> Result<String, AllocError> {
-    match literals_text(alloc, builtin, view)? {
-        Some(front) => Ok(front),
-        None => term_text(alloc, builtin, view),
-    }
-}
-
-/// The term whose value is the result, with a sign of equality behind it.
-fn term_text(
-    alloc: Global,
-    builtin: Builtin,
-    view: &ArgumentView<'_, '_>,
-) -> Result<String, AllocError> {
-    let (a, b) = (view.int(0), view.int(1));
-    match builtin {
-        Builtin::IntPlus => format!(in alloc; "{a} + {b} = "),
-        Builtin::IntMinus => format!(in alloc; "{a} - {b} = "),
-        Builtin::IntTimes => format!(in alloc; "{a}·{b} = "),
-        Builtin::IntMin => format!(in alloc; "min({a}, {b}) = "),
-        Builtin::IntMax => format!(in alloc; "max({a}, {b}) = "),
-        Builtin::IntAbs => format!(in alloc; "|{a}| = "),
-        Builtin::IntDiv => format!(in alloc; "{a} div {b} = "),
-        Builtin::IntMod => format!(in alloc; "{a} mod {b} = "),
-        Builtin::IntPow if a < 0 => format!(in alloc; "({a})^{b} = "),
-        Builtin::IntPow => format!(in alloc; "{a}^{b} = "),
-        Builtin::ArrayIntElement | Builtin::ArrayBoolElement => format!(in alloc; "element {a} = "),
-        Builtin::ArrayIntMaximum => String::from_str(alloc, "the greatest element is "),
-        Builtin::ArrayIntMinimum => String::from_str(alloc, "the least element is "),
-        Builtin::GecodeMaximumArgIntOffset => String::from_str(alloc, "the greatest has index "),
-        Builtin::GecodeMinimumArgIntOffset => String::from_str(alloc, "the least has index "),
-        Builtin::SetCard => String::from_str(alloc, "the number of elements is "),
-        Builtin::FznCountEq => format!(in alloc; "the number of times {b} comes is "),
-        Builtin::FznAmong => String::from_str(alloc, "the number of elements in the set is "),
-        Builtin::FznNvalue => String::from_str(alloc, "the number of values is "),
-        Builtin::BoolLinEq => String::from_str(alloc, "the sum where it is true is "),
-        _ => connective_text(alloc, builtin, view),
-    }
-}
-
-fn connective_text(
-    alloc: Global,
-    builtin: Builtin,
-    view: &ArgumentView<'_, '_>,
-) -> Result<String, AllocError> {
-    let (a, b) = (view.truth(0), view.truth(1));
-    match builtin {
-        Builtin::BoolAnd | Builtin::BoolAndImp => format!(in alloc; "{a} and {b} = "),
-        Builtin::BoolOr | Builtin::BoolOrImp => format!(in alloc; "{a} or {b} = "),
-        Builtin::BoolXor | Builtin::BoolXorImp => format!(in alloc; "{a} xor {b} = "),
-        Builtin::BoolNot => format!(in alloc; "not {a} = "),
-        _ => Ok(String::new(alloc)),
-    }
-}
-
-/// Which element decides on whether all are true, or whether one is.
-fn literals_text(
-    alloc: Global,
-    builtin: Builtin,
-    view: &ArgumentView<'_, '_>,
-) -> Result<Option<String>, AllocError> {
-    let (decides, all) = match builtin {
-        Builtin::ArrayBoolAnd | Builtin::ArrayBoolAndImp => (false, "each element is true: "),
-        Builtin::ArrayBoolOr | Builtin::ArrayBoolOrImp => (true, "no element is true: "),
-        _ => return Ok(None),
-    };
-    let elements = view.elements(0);
-    for place in 0..elements.len() {
-        if elements.truth(place) == decides {
-            let place = from_one(place);
-            return Ok(Some(format!(in alloc; "element {place} is {decides}: ")?));
+        Reason::Truth(
+            OtherTruth {
+                argument,
+                value,
+                ..
+            },
+        ) => {
+            say_other(teller)?;
+            teller.say_value(true, i128::from(value))?;
+            teller.bracket(argument, 0)
         }
+        Reason::NoLiteral => teller.say("no literal is true"),
+        Reason::Even => teller.say("an even number of elements are true"),
+        Reason::Same => teller.say("the sets are the same"),
+        _ => say_of_elements(teller, reason),
     }
-    Ok(Some(String::from_str(alloc, all)?))
+}
+
+/// That the result is another one.
+fn say_other(teller: &mut Teller<'_, '_>) -> Result<(), AllocError> {
+    match result_of(teller)? {
+        Some(result) => {
+            say_result(teller, result)?;
+            teller.say(", not ")
+        }
+        None => teller.say("it isn't "),
+    }
 }

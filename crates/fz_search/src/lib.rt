@@ -31,7 +31,7 @@ mod subsets;
 mod tables;
 mod work;
 
-pub use found::{Found, Left, Refutation};
+pub use found::{Found, Left, Narrower, Narrowing, Refutation};
 pub use fz_bounds::{
     Argument, ConstraintParts, Domain, Goal, Kind, LoadError, Model, ModelError, Opening, Overview,
     Partial, Point, PointParts, Posted, Scalar, Scalars, Slot, State, Term, Variable, What, Wide,

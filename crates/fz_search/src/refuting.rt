@@ -6,7 +6,7 @@ ghost use Rattle.fz_search.specs.Found.{IsFoundFor};
 ghost use Rattle.fz_search.specs.Refuted.{HaveNoSolution, HoldAll, KeepSolutions};
 
 use crate::conflict::Conflict;
-use crate::found::{Found, Left, Refutation};
+use crate::found::{Found, Left, Narrower, Narrowing, Refutation};
 use crate::grounds::Step;
 use crate::index::Search;
 use fz_bounds::{Bounds, Model, Partial, Tightened, cannot_hold};
@@ -14,6 +14,32 @@ use std::alloc::{AllocError, Global};
 
 /// At most so many variables are told of a point.
 const MOST_LEFT: usize = 12;
+
+/// A variable with its bounds.
+fn left_in(bounds: &Bounds, variable: usize) -> Option<Left> {
+    let ends = bounds.ends(variable)?;
+    Some(Left {
+        variable,
+        low: ends.low,
+        high: ends.high,
+    })
+}
+
+/// Notes a step, where the bounds of its variable were these and became narrower.
+fn note(
+    steps: &mut Vec<Narrowing>,
+    bounds: &Bounds,
+    before: Option<Left>,
+    by: Narrower,
+) -> Result<(), AllocError> {
+    if let Some(before) = before
+        && let Some(left) = left_in(bounds, before.variable)
+        && (before.low < left.low || left.high < before.high)
+    {
+        steps.push(Narrowing { left, by })?;
+    }
+    Ok(())
+}
 
 /// The bounds of the first variables of a point that have no value.
 fn left_at(
@@ -29,24 +55,20 @@ fn left_at(
         if filling.has(variable) || left.len() >= MOST_LEFT {
             continue;
         }
-        if let Some(ends) = bounds.ends(variable) {
-            let (low, high) = (ends.low, ends.high);
-            left.push(Left {
-                variable,
-                low,
-                high,
-            })?;
+        if let Some(here) = left_in(bounds, variable) {
+            left.push(here)?;
         }
     }
     Ok(left)
 }
 
-/// Takes one step again, where its point shows it. The answer is the point where it leaves the
-/// variable nothing.
+/// Takes one step again, where its point shows it, and notes it. The answer is the point where it
+/// leaves the variable nothing.
 fn take(
     alloc: Global,
     model: &Model<'_>,
     bounds: &mut Bounds,
+    taken: &mut Vec<Narrowing>,
     step: Step,
 ) -> Result<Option<usize>, AllocError>
     ensures in_range { IfOk result (λ o. IfSome o (λ k. k < length (points model.now))) }
@@ -56,10 +78,15 @@ fn take(
     if step.point >= model.points() {
         return Ok(None);
     }
+    let before = left_in(bounds, step.variable);
     let (low, high) = (step.ends.low, step.ends.high);
     match bounds.tighten(alloc, model, step.point, step.variable, low, high)? {
         Tightened::Empty => Ok(Some(step.point)),
-        Tightened::Narrowed | Tightened::Unshown => Ok(None),
+        Tightened::Narrowed => {
+            note(taken, bounds, before, Narrower::Point(step.point))?;
+            Ok(None)
+        }
+        Tightened::Unshown => Ok(None),
     }
 }
 
@@ -68,6 +95,7 @@ fn retake(
     alloc: Global,
     model: &Model<'_>,
     bounds: &mut Bounds,
+    taken: &mut Vec<Narrowing>,
     steps: &[Step],
 ) -> Result<Option<usize>, AllocError>
     ensures in_range { IfOk result (λ o. IfSome o (λ k. k < length (points model.now))) }
@@ -75,7 +103,7 @@ fn retake(
     ensures none { IfOk result (λ o. IfSome o (λ _. HaveNoSolution model.now bounds.old)) }
 {
     for step in steps {
-        let found = take(alloc, model, bounds, *step)?;
+        let found = take(alloc, model, bounds, taken, *step)?;
         if found.is_some() {
             return Ok(found);
         }
@@ -89,6 +117,7 @@ fn refute(
     alloc: Global,
     model: &Model<'_>,
     bounds: &mut Bounds,
+    taken: &mut Vec<Narrowing>,
     steps: &[Step],
     point: usize,
 ) -> Result<Option<usize>, AllocError>
@@ -96,7 +125,7 @@ fn refute(
     ensures kept { IfOk result (λ _. KeepSolutions model.now bounds.old bounds.new) }
     ensures none { IfOk result (λ o. IfSome o (λ _. HaveNoSolution model.now bounds.old)) }
 {
-    let found = retake(alloc, model, bounds, steps)?;
+    let found = retake(alloc, model, bounds, taken, steps)?;
     if found.is_some() {
         return Ok(found);
     }
@@ -116,12 +145,13 @@ fn lose(
     alloc: Global,
     model: &Model<'_>,
     bounds: &mut Bounds,
+    taken: &mut Vec<Narrowing>,
     conflict: &Conflict,
     guess: Step,
 ) -> Result<bool, AllocError>
     ensures kept { IfOk result (λ _. KeepSolutions model.now bounds.old bounds.new) }
 {
-    let early = retake(alloc, model, bounds, &conflict.before)?;
+    let early = retake(alloc, model, bounds, taken, &conflict.before)?;
     if early.is_some() {
         return Ok(false);
     }
@@ -134,7 +164,16 @@ fn lose(
     }
     let mut supposed = bounds.copy(alloc, model)?;
     supposed.narrow(guess.variable, ends.kind, number, number);
-    let refutation = refute(alloc, model, &mut supposed, &conflict.steps, conflict.point)?;
+    let mut tried = Vec::new(alloc);
+    let steps = &conflict.steps;
+    let refutation = refute(
+        alloc,
+        model,
+        &mut supposed,
+        &mut tried,
+        steps,
+        conflict.point,
+    )?;
     match refutation {
         Some(_) => Ok(bounds.take(guess.variable, ends.kind, number)),
         None => Ok(false),
@@ -149,6 +188,7 @@ pub(crate) fn learned(
     model: &Model<'_>,
     filling: &Partial,
     bounds: &mut Bounds,
+    taken: &mut Vec<Narrowing>,
     conflict: &Conflict,
 ) -> Result<Option<Found>, AllocError>
     requires inside { HoldAll model.now filling.now bounds.old }
@@ -156,13 +196,19 @@ pub(crate) fn learned(
     ensures inside { IfOk result (λ _. HoldAll model.now filling.now bounds.new) }
 {
     if let Some(guess) = conflict.guess {
-        let lost = lose(alloc, model, bounds, conflict, guess)?;
-        return Ok(if lost { None } else { Some(Found::Nothing) });
+        let before = left_in(bounds, guess.variable);
+        if !lose(alloc, model, bounds, taken, conflict, guess)? {
+            return Ok(Some(Found::Nothing));
+        }
+        note(taken, bounds, before, Narrower::Trial(guess.ends.low))?;
+        return Ok(None);
     }
-    let found = refute(alloc, model, bounds, &conflict.steps, conflict.point)?;
+    let found = refute(alloc, model, bounds, taken, &conflict.steps, conflict.point)?;
     let Some(point) = found else {
         return Ok(Some(Found::Nothing));
     };
     let left = left_at(alloc, known, filling, bounds, point)?;
-    Ok(Some(Found::Refuted(Refutation { point, left })))
+    let mut steps = Vec::new(alloc);
+    std::mem::swap(&mut steps, taken);
+    Ok(Some(Found::Refuted(Refutation { point, left, steps })))
 }

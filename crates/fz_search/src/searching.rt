@@ -7,7 +7,7 @@ ghost use Rattle.fz_search.specs.Refuted.{HoldAll};
 
 use crate::conflict::Conflict;
 use crate::ends::{End, Ends};
-use crate::found::Found;
+use crate::found::{Found, Narrowing};
 use crate::grounds::NO_POINT;
 use crate::index::Search;
 use crate::proposal::copied;
@@ -234,6 +234,7 @@ fn attempt(
     task: &Task<'_, '_>,
     way: Way,
     bounds: &mut Bounds,
+    taken: &mut Vec<Narrowing>,
     budget: &mut Budget,
 ) -> Result<Option<Found>, AllocError>
     requires fits { IsPartial task.now.model.now task.now.filling.now }
@@ -250,14 +251,20 @@ fn attempt(
                 model,
                 filling,
             } = *task;
-            learned(alloc, known, model, filling, bounds, &conflict)
+            learned(alloc, known, model, filling, bounds, taken, &conflict)
         }
         None => Ok(Some(found)),
     }
 }
 
-/// Goes one way as often as numbers are taken from the bounds by that.
-fn go(task: &Task<'_, '_>, way: Way, bounds: &mut Bounds) -> Result<Found, AllocError>
+/// Goes one way as often as numbers are taken from the bounds by that. The steps that are taken again
+/// are noted.
+fn go(
+    task: &Task<'_, '_>,
+    way: Way,
+    bounds: &mut Bounds,
+    taken: &mut Vec<Narrowing>,
+) -> Result<Found, AllocError>
     requires fits { IsPartial task.now.model.now task.now.filling.now }
     requires inside { HoldAll task.now.model.now task.now.filling.now bounds.old }
     ensures found { IfOk result (IsFoundFor task.now.model.now task.now.filling.now) }
@@ -265,7 +272,7 @@ fn go(task: &Task<'_, '_>, way: Way, bounds: &mut Bounds) -> Result<Found, Alloc
 {
     let mut budget = Budget::new(task.known, task.model);
     for _ in 0..MOST_LOST {
-        if let Some(found) = attempt(task, way, bounds, &mut budget)? {
+        if let Some(found) = attempt(task, way, bounds, taken, &mut budget)? {
             return Ok(found);
         }
     }
@@ -278,8 +285,9 @@ fn go_each(task: &Task<'_, '_>, ways: &[Way], bounds: &mut Bounds) -> Result<Fou
     requires inside { HoldAll task.now.model.now task.now.filling.now bounds.old }
     ensures found { IfOk result (IsFoundFor task.now.model.now task.now.filling.now) }
 {
+    let mut taken = Vec::new(task.alloc);
     for way in ways {
-        let found = go(task, *way, bounds)?;
+        let found = go(task, *way, bounds, &mut taken)?;
         if !matches!(found, Found::Nothing) {
             return Ok(found);
         }

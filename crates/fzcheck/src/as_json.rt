@@ -5,8 +5,10 @@ use fz_check::{
     Answer, CheckError, ClaimKind, Fault, Judged, Reason, Refutation, Refuter, Span, Verdict,
     claim_text, refusal_fault,
 };
-use fz_explain::{FixedNote, MOST_RANGES, Message, Note, Origin, Remarks, Value};
-use json::Writer;
+use fz_explain::{
+    Bounds, FixedNote, Kind, Known, MOST_RANGES, Message, Note, Origin, Remarks, Unbound, Value,
+};
+use fz_files::Object;
 use std::alloc::{AllocError, Global};
 
 /// How many blocks have which verdict.
@@ -43,208 +45,170 @@ impl Counts {
     }
 }
 
-/// An object to which members are added.
-#[derive(Drop)]
-struct Object {
-    alloc: Global,
-    writer: Writer,
+fn add_place(object: &mut Object, line: usize, column: usize) -> Result<(), AllocError> {
+    object.count("line", line)?;
+    object.count("column", column)
 }
 
-impl Object {
-    fn new(alloc: Global) -> Result<Object, AllocError> {
-        let mut writer = Writer::new(Vec::new(alloc));
-        writer.begin_object()?;
-        Ok(Object { alloc, writer })
+/// Adds where a message is, and what it says, where there is one.
+fn add_message(object: &mut Object, message: Option<&Message>) -> Result<(), AllocError> {
+    match message {
+        Some(message) => {
+            add_place(object, message.line, message.column)?;
+            object.text("message", &message.said)
+        }
+        None => Ok(()),
     }
+}
 
-    fn text(&mut self, key: &str, text: &str) -> Result<(), AllocError> {
-        self.writer.key(key)?;
-        self.writer.string(text)
-    }
+fn add_fault(object: &mut Object, fault: Fault<'_>) -> Result<(), AllocError> {
+    let (point, name) = match fault {
+        Fault::Printed(name) => ("printed", name),
+        Fault::Domain(name) => ("domain", name),
+        Fault::Definition(name) => ("definition", name),
+        Fault::Constraint(number, name) => {
+            object.text("point", "constraint")?;
+            object.count("number", number)?;
+            return object.word("name", name);
+        }
+        Fault::NotBetter(now, before) => {
+            object.text("point", "objective")?;
+            object.number("now", now)?;
+            return object.number("before", before);
+        }
+    };
+    object.text("point", point)?;
+    object.word("name", name)
+}
 
-    /// A member whose value is a name, a word of the language: these are ASCII.
-    fn word(&mut self, key: &str, word: &[u8]) -> Result<(), AllocError> {
-        self.text(key, str::from_utf8(word).unwrap_or(""))
-    }
-
-    fn count(&mut self, key: &str, count: usize) -> Result<(), AllocError> {
-        self.writer.key(key)?;
-        self.writer.u64(count as u64)
-    }
-
-    fn number(&mut self, key: &str, number: i64) -> Result<(), AllocError> {
-        self.writer.key(key)?;
-        self.writer.i64(number)
-    }
-
-    fn place(&mut self, line: usize, column: usize) -> Result<(), AllocError> {
-        self.count("line", line)?;
-        self.count("column", column)
-    }
-
-    /// Where a message is, and what it says, where there is one.
-    fn message(&mut self, message: Option<&Message>) -> Result<(), AllocError> {
-        match message {
-            Some(message) => {
-                self.place(message.line, message.column)?;
-                self.text("message", &message.said)
-            }
-            None => Ok(()),
+fn add_reason(object: &mut Object, reason: Reason<'_>) -> Result<(), AllocError> {
+    match reason {
+        Reason::NoValue(name) => {
+            object.text("reason", "no value")?;
+            object.word("name", name)
+        }
+        Reason::Unknown(number, name) => {
+            object.text("reason", "not known")?;
+            object.count("number", number)?;
+            object.word("name", name)
+        }
+        Reason::TooLarge(number) => {
+            object.text("reason", "too large")?;
+            object.count("number", number)
+        }
+        Reason::NotShownBetter(now, found) => {
+            object.text("reason", "not shown better")?;
+            object.number("now", now)?;
+            object.number("found", found)
         }
     }
+}
 
-    fn fault(&mut self, fault: Fault<'_>) -> Result<(), AllocError> {
-        let (point, name) = match fault {
-            Fault::Printed(name) => ("printed", name),
-            Fault::Domain(name) => ("domain", name),
-            Fault::Definition(name) => ("definition", name),
-            Fault::Constraint(number, name) => {
-                self.text("point", "constraint")?;
-                self.count("number", number)?;
-                return self.word("name", name);
+/// Adds a member whose value is that of a variable. Of the ranges of a set as many are told as in
+/// the text of a message, and how many are left out.
+fn add_value(alloc: Global, object: &mut Object, value: &Value) -> Result<(), AllocError> {
+    match value {
+        Value::Int(number) => object.number("value", *number),
+        Value::Bool(truth) => object.truth("value", *truth),
+        Value::Set(set) => {
+            let ranges = set.ranges(alloc)?;
+            object.begin_list("value")?;
+            for range in ranges.iter().take(MOST_RANGES) {
+                object.range(range.lo, range.hi)?;
             }
-            Fault::NotBetter(now, before) => {
-                self.text("point", "objective")?;
-                self.number("now", now)?;
-                return self.number("before", before);
-            }
-        };
-        self.text("point", point)?;
-        self.word("name", name)
-    }
-
-    fn reason(&mut self, reason: Reason<'_>) -> Result<(), AllocError> {
-        match reason {
-            Reason::NoValue(name) => {
-                self.text("reason", "no value")?;
-                self.word("name", name)
-            }
-            Reason::Unknown(number, name) => {
-                self.text("reason", "not known")?;
-                self.count("number", number)?;
-                self.word("name", name)
-            }
-            Reason::TooLarge(number) => {
-                self.text("reason", "too large")?;
-                self.count("number", number)
-            }
-            Reason::NotShownBetter(now, found) => {
-                self.text("reason", "not shown better")?;
-                self.number("now", now)?;
-                self.number("found", found)
-            }
+            object.end_list()?;
+            add_left_out(object, ranges.len().saturating_sub(MOST_RANGES))
         }
     }
+}
 
-    /// A member whose value is that of a variable. Of the ranges of a set as many are told as in
-    /// the text of a message, and how many are left out.
-    fn value(&mut self, value: &Value) -> Result<(), AllocError> {
-        match value {
-            Value::Int(number) => self.number("value", *number),
-            Value::Bool(truth) => {
-                self.writer.key("value")?;
-                self.writer.boolean(*truth)
-            }
-            Value::Set(set) => {
-                let ranges = set.ranges(self.alloc)?;
-                self.writer.key("value")?;
-                self.writer.begin_array()?;
-                for range in ranges.iter().take(MOST_RANGES) {
-                    self.writer.begin_array()?;
-                    self.writer.i64(range.lo)?;
-                    self.writer.i64(range.hi)?;
-                    self.writer.end_array()?;
-                }
-                self.writer.end_array()?;
-                self.left_out(ranges.len().saturating_sub(MOST_RANGES))
-            }
+/// Adds the bounds of a variable.
+fn add_bounds(object: &mut Object, bounds: Bounds) -> Result<(), AllocError> {
+    let Bounds { low, high, kind } = bounds;
+    match kind {
+        Kind::Bool => {
+            object.truth("low", low != 0)?;
+            object.truth("high", high != 0)
+        }
+        Kind::Int | Kind::Set => {
+            object.number("low", low)?;
+            object.number("high", high)
         }
     }
+}
 
-    /// How many are left out, where some are.
-    fn left_out(&mut self, count: usize) -> Result<(), AllocError> {
-        if count == 0 {
-            return Ok(());
-        }
-        self.count("left_out", count)
+/// Adds how many are left out, where some are.
+fn add_left_out(object: &mut Object, count: usize) -> Result<(), AllocError> {
+    if count == 0 {
+        return Ok(());
     }
+    object.count("left_out", count)
+}
 
-    fn note(&mut self, note: &Note) -> Result<(), AllocError> {
-        self.writer.begin_object()?;
-        self.text("name", &note.name)?;
+fn add_note(alloc: Global, object: &mut Object, note: &Note) -> Result<(), AllocError> {
+    object.begin_element()?;
+    object.text("name", &note.name)?;
+    if let Some(element) = &note.element {
+        object.text("element", element)?;
+    }
+    if let Some(role) = &note.role {
+        object.text("role", role)?;
+    }
+    match &note.known {
+        Known::Value(value) => add_value(alloc, object, value)?,
+        Known::Narrowed(bounds) | Known::Within(bounds) => add_bounds(object, *bounds)?,
+        Known::Nothing => {}
+    }
+    match &note.origin {
+        Origin::Printed => object.text("source", "printed")?,
+        Origin::Given(giver, line, remarks) => {
+            object.text("source", giver)?;
+            if let Some(line) = line {
+                object.count("line", *line)?;
+            }
+            add_remarks(object, remarks)?;
+        }
+        Origin::Nothing => {}
+    }
+    if !note.behind.is_empty() {
+        object.texts("behind", &note.behind)?;
+    }
+    object.end()
+}
+
+/// Adds what the compiler wrote at a point, where it wrote something.
+fn add_remarks(object: &mut Object, remarks: &Remarks) -> Result<(), AllocError> {
+    if remarks.names.is_empty() && remarks.place.is_none() {
+        return Ok(());
+    }
+    object.begin("model")?;
+    object.texts("names", &remarks.names)?;
+    if let Some(place) = &remarks.place {
+        object.text("place", place)?;
+    }
+    object.texts("loops", &remarks.loops)?;
+    if let Some(quote) = &remarks.quote {
+        object.text("line", &quote.text)?;
+    }
+    object.end()
+}
+
+/// Adds what is fixed, where something is.
+fn add_fixed(object: &mut Object, fixed: &[FixedNote]) -> Result<(), AllocError> {
+    if fixed.is_empty() {
+        return Ok(());
+    }
+    object.begin_list("fixed")?;
+    for note in fixed {
+        object.begin_element()?;
+        object.text("name", &note.name)?;
         if let Some(element) = &note.element {
-            self.text("element", element)?;
+            object.text("element", element)?;
         }
-        if let Some(value) = &note.value {
-            self.value(value)?;
-        }
-        match &note.origin {
-            Origin::Printed => self.text("source", "printed")?,
-            Origin::Given(giver, line, remarks) => {
-                self.text("source", giver)?;
-                if let Some(line) = line {
-                    self.count("line", *line)?;
-                }
-                self.remarks(remarks)?;
-            }
-            Origin::Nothing => {}
-        }
-        if !note.behind.is_empty() {
-            self.texts("behind", &note.behind)?;
-        }
-        self.writer.end_object()
+        object.text("value", &note.value)?;
+        object.end()?;
     }
-
-    /// A member that tells what the compiler wrote at a point, where it wrote something.
-    fn remarks(&mut self, remarks: &Remarks) -> Result<(), AllocError> {
-        if remarks.names.is_empty() && remarks.place.is_none() {
-            return Ok(());
-        }
-        self.writer.key("model")?;
-        self.writer.begin_object()?;
-        self.texts("names", &remarks.names)?;
-        if let Some(place) = &remarks.place {
-            self.text("place", place)?;
-        }
-        self.texts("loops", &remarks.loops)?;
-        self.writer.end_object()
-    }
-
-    /// A member that lists what is fixed, where something is.
-    fn fixed(&mut self, fixed: &[FixedNote]) -> Result<(), AllocError> {
-        if fixed.is_empty() {
-            return Ok(());
-        }
-        self.writer.key("fixed")?;
-        self.writer.begin_array()?;
-        for note in fixed {
-            self.writer.begin_object()?;
-            self.text("name", &note.name)?;
-            if let Some(element) = &note.element {
-                self.text("element", element)?;
-            }
-            self.text("value", &note.value)?;
-            self.writer.end_object()?;
-        }
-        self.writer.end_array()
-    }
-
-    fn texts(&mut self, key: &str, texts: &[String]) -> Result<(), AllocError> {
-        self.writer.key(key)?;
-        self.writer.begin_array()?;
-        for text in texts {
-            self.writer.string(text)?;
-        }
-        self.writer.end_array()
-    }
-
-    /// The object on a line.
-    fn line(mut self) -> Result<Vec<u8>, AllocError> {
-        self.writer.end_object()?;
-        let mut line = self.writer.into_inner();
-        line.extend_from_slice(b"\n")?;
-        Ok(line)
-    }
+    object.end_list()
 }
 
 /// The line of a block, whose verdict is about this line and column.
@@ -259,18 +223,21 @@ pub fn block_line(
         Verdict::Satisfied => object.text("verdict", "satisfied")?,
         Verdict::Violated(fault) => {
             object.text("verdict", "violated")?;
-            object.fault(fault)?;
+            add_fault(&mut object, fault)?;
         }
         Verdict::Undecided(reason) => {
             object.text("verdict", "undecided")?;
-            object.reason(reason)?;
+            add_reason(&mut object, reason)?;
         }
     }
     if let Some((line, column)) = place {
-        object.place(line, column)?;
+        add_place(&mut object, line, column)?;
     }
     if let Some(objective) = judged.objective {
         object.number("objective", objective)?;
+        if judged.found {
+            object.truth("found", true)?;
+        }
     }
     object.line()
 }
@@ -288,8 +255,7 @@ pub fn refuted_line(alloc: Global, refutation: &Refutation<'_>) -> Result<Vec<u8
     let mut object = Object::new(alloc)?;
     object.word("claim", claim_text(refutation.claim.kind))?;
     object.count("after", refutation.claim.after)?;
-    object.writer.key("refuted_by")?;
-    object.writer.begin_object()?;
+    object.begin("refuted_by")?;
     let number = match refutation.by {
         Refuter::Block(number) | Refuter::Behind(number) => number,
         Refuter::Known(source) => {
@@ -298,23 +264,24 @@ pub fn refuted_line(alloc: Global, refutation: &Refutation<'_>) -> Result<Vec<u8
         }
     };
     object.count("block", number)?;
-    object.writer.end_object()?;
+    object.end()?;
     object.line()
 }
 
 /// The line of what was cut off, with its byte range.
 pub fn cut_line(alloc: Global, span: Span) -> Result<Vec<u8>, AllocError> {
     let mut object = Object::new(alloc)?;
-    object.writer.key("cut")?;
-    object.writer.begin_array()?;
-    object.writer.u64(span.start as u64)?;
-    object.writer.u64(span.end as u64)?;
-    object.writer.end_array()?;
+    object.pair("cut", span.start, span.end)?;
     object.line()
 }
 
-/// The line of the answer.
-pub fn answer_line(alloc: Global, answer: Answer, counts: Counts) -> Result<Vec<u8>, AllocError> {
+/// The line of the answer, with the printed variables that nothing binds, where there are some.
+pub fn answer_line(
+    alloc: Global,
+    answer: Answer,
+    counts: Counts,
+    unconstrained: Option<&Unbound>,
+) -> Result<Vec<u8>, AllocError> {
     let (word, place) = match answer {
         Answer::Accepted(_) => ("accepted", None),
         Answer::Rejected(number) => ("rejected", Some(("block", number))),
@@ -331,6 +298,12 @@ pub fn answer_line(alloc: Global, answer: Answer, counts: Counts) -> Result<Vec<
     object.count("satisfied", counts.satisfied)?;
     object.count("violated", counts.violated)?;
     object.count("undecided", counts.undecided)?;
+    if let Some(printed) = unconstrained {
+        object.texts("unconstrained", &printed.names)?;
+        if printed.left_out > 0 {
+            object.count("unconstrained_left_out", printed.left_out)?;
+        }
+    }
     object.line()
 }
 
@@ -352,7 +325,21 @@ pub fn refusal_line(
             object.count("end", place.end)?;
         }
     }
-    object.message(message)?;
+    add_message(&mut object, message)?;
+    object.line()
+}
+
+/// The line of a refusal for a file that can't be read, and why.
+pub fn unread_line(
+    alloc: Global,
+    error: &CheckError,
+    file: &str,
+    told: &str,
+) -> Result<Vec<u8>, AllocError> {
+    let mut object = Object::new(alloc)?;
+    object.text("refused", refused_word(error))?;
+    object.text("file", file)?;
+    object.text("message", told)?;
     object.line()
 }
 
@@ -373,7 +360,7 @@ pub fn names_line(
         }
         None => object.text("fault", "TooLong")?,
     }
-    object.message(message)?;
+    add_message(&mut object, message)?;
     object.line()
 }
 
@@ -396,22 +383,21 @@ pub fn explanation_line(
 ) -> Result<Vec<u8>, AllocError> {
     let mut object = Object::new(alloc)?;
     object.count("explained", block)?;
-    object.message(Some(message))?;
-    object.remarks(&message.remarks)?;
+    add_message(&mut object, Some(message))?;
+    add_remarks(&mut object, &message.remarks)?;
     if let Some(reason) = &message.reason {
         object.text("reason", reason)?;
     }
-    object.writer.key("variables")?;
-    object.writer.begin_array()?;
+    object.begin_list("variables")?;
     for note in &message.variables {
-        object.note(note)?;
+        add_note(alloc, &mut object, note)?;
     }
-    object.writer.end_array()?;
-    object.left_out(message.left_out)?;
+    object.end_list()?;
+    add_left_out(&mut object, message.left_out)?;
     if message.behind_left_out > 0 {
         object.count("behind_left_out", message.behind_left_out)?;
     }
-    object.fixed(&message.fixed)?;
+    add_fixed(&mut object, &message.fixed)?;
     object.texts("notes", &message.notes)?;
     object.line()
 }

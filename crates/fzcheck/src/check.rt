@@ -1,21 +1,19 @@
 //! The command `check`.
 
-use crate::as_json::refusal_line;
-use crate::explain::{LARGER, explanation, has_larger, meaning};
+use crate::as_json::{refusal_line, unread_line};
+use crate::explain::explanation;
 use crate::known::{Unlearned, claims_of};
 use crate::names::check_with_names;
-use crate::refuse::{refuse, refuse_at, refuse_file, unread};
+use crate::refuse::{Detail, refuse, refuse_fault, refuse_file, unread, unread_text};
 use crate::teller::Teller;
-use crate::waiting::InPlace;
 use crate::{limits_of, read_text};
 use fz_check::{Answer, CheckError, Claims, Completion, Ending, MOST_READS, check_events, status};
 use fz_command::{CheckOptions, Explaining, Form};
 use fz_explain::{Explainer, Message, NameTable, Text};
-use fz_files::{NOTHING, Recent, Recorder};
-use std::alloc::Global;
+use fz_files::{InPlace, NOTHING, Recent, Recorder, find_input};
+use std::alloc::{AllocError, Global};
 use std::cell::RefCell;
 use std::io::{Read, Write};
-use std::os::fd::AsFd;
 use std::{fs, io};
 
 /// The name of the stream in messages, where it is on standard input.
@@ -67,13 +65,6 @@ pub fn check_files<'a>(
     }
 }
 
-/// Fails where standard input isn't open. This is checked before a file is opened: a file that is
-/// opened while standard input is closed gets its descriptor, and would be read in its place.
-fn find_input(rt: &HostRuntime) -> io::Result<()> {
-    rt.stdin().as_fd().try_clone_to_owned()?;
-    Ok(())
-}
-
 /// Checks the stream that one reader gives against the model that the other gives. Before each read
 /// of the stream, the lines for what was read so far are written.
 fn check_readers<M: Read + Drop, S: Read + Drop>(
@@ -111,8 +102,9 @@ pub fn check_stream<S: Read + Drop>(
 ) -> u8 {
     let options = task.options;
     let recent = RefCell::new(Recent::new(rt.alloc()));
-    let stored = match (options.explains, options.form) {
-        (Explaining::Nothing, Form::Text) => None,
+    let detail = Detail::of(rt, options.explains != Explaining::Nothing);
+    let stored = match (detail, options.form) {
+        (Detail::Nothing, Form::Text) => None,
         _ => Some(&recent),
     };
     let waiting = RefCell::new(Vec::new(rt.alloc()));
@@ -145,12 +137,13 @@ pub fn check_stream<S: Read + Drop>(
     match outcome {
         Ok(answer) => {
             teller.tell();
+            teller.tell_unconstrained();
             status(&Ok(answer))
         }
         Err(CheckError::Read) => {
             refuse_reading(rt, task, CheckError::Read, task.stream, stream.failure())
         }
-        Err(error) => refuse_check(rt, task, &text, stored, &error),
+        Err(error) => refuse_check(rt, task, &text, stored, &error, detail),
     }
 }
 
@@ -200,36 +193,46 @@ pub fn refuse_reading(
     name: &str,
     failure: Option<&io::Error>,
 ) -> u8 {
-    if let Form::Json = task.options.form {
-        write_refusal(rt, &error, None);
+    if let Form::Json = task.options.form
+        && let Ok(line) = reading_line(rt.alloc(), &error, name, failure)
+    {
+        let _ = rt.stdout().write_all(&line);
     }
     refuse_file(rt, &error, name, failure)
 }
 
-/// Refuses the check. Where its fault is, is told with `--explain`, and in JSON.
+/// The line of JSON of such a refusal.
+fn reading_line(
+    alloc: Global,
+    error: &CheckError,
+    name: &str,
+    failure: Option<&io::Error>,
+) -> Result<Vec<u8>, AllocError> {
+    match error {
+        CheckError::Read => { unread_line(alloc, error, name, &unread_text(alloc, name, failure)?) }
+        _ => refusal_line(alloc, error, None),
+    }
+}
+
+/// Refuses the check. Where its fault is, is told with `--explain`, to a terminal, and in JSON.
 fn refuse_check(
     rt: &HostRuntime,
     task: &Task<'_>,
     model: &Text<'_>,
     stored: Option<&RefCell<Recent>>,
     error: &CheckError,
+    detail: Detail,
 ) -> u8 {
     let message = match stored {
         Some(recent) => fault_message(rt.alloc(), task, model, recent, error),
         None => None,
     };
+    let name = match error {
+        CheckError::Model(_) => task.model,
+        _ => task.stream,
+    };
     match task.options.form {
-        Form::Text => {
-            let told = refuse_at(rt, error, message.as_ref());
-            if stored.is_some() && message.is_none() && has_larger(error, task.options.size) {
-                let name = match error {
-                    CheckError::Model(_) => task.model,
-                    _ => task.stream,
-                };
-                let _ = eprintln!(rt; "{name}: {}, {LARGER}", meaning(error));
-            }
-            told
-        }
+        Form::Text => { refuse_fault(rt, error, name, message.as_ref(), detail, task.options.size) }
         Form::Json => {
             write_refusal(rt, error, message.as_ref());
             refuse(rt, error)

@@ -5,6 +5,7 @@ use fz_check::{BlockError, CheckError, ModelError, StreamError, SyntaxError, Tol
 use fz_command::Size;
 use fz_explain::{Message, Text, message_at};
 use fz_files::{Passed, count_blocks};
+use fz_words::{Given, Refused, meaning as syntax_meaning};
 use std::alloc::{AllocError, Global};
 
 /// What helps against a limit that is larger with an option.
@@ -46,9 +47,16 @@ pub fn explanation(
     };
     let start = place.start.saturating_sub(text.passed.bytes);
     let before = text.bytes.get(..start).unwrap_or(text.bytes);
-    let said = match block_number(before, text.passed, error) {
-        Some(number) => format!(in alloc; "{}, in block {}", meaning(error), number)?,
-        None => String::from_str(alloc, meaning(error))?,
+    let refused = refused_text(text, start, error);
+    let said = match refused.and_then(Refused::look) {
+        Some(look) => String::from_str(alloc, look)?,
+        None => {
+            let wrong = wrong(alloc, refused, error)?;
+            match block_number(before, text.passed, error) {
+                Some(number) => format!(in alloc; "{wrong}, in block {number}")?,
+                None => wrong,
+            }
+        }
     };
     let mut message = message_at(alloc, text, place, said)?;
     if let Some(message) = &mut message
@@ -57,6 +65,37 @@ pub fn explanation(
         message.notes.push(String::from_str(alloc, LARGER)?)?;
     }
     Ok(message)
+}
+
+/// The text that was refused at this offset, where it is one of another form than it should have.
+fn refused_text<'a>(text: &Text<'a>, at: usize, error: &CheckError) -> Option<Refused<'a>> {
+    let given = match error {
+        CheckError::Model(_) => Given::Model,
+        CheckError::Stream(StreamError::Item(_) | StreamError::Unfinished(_)) => Given::Stream,
+        _ => return None,
+    };
+    let Text { name, bytes, .. } = *text;
+    Some(Refused {
+        given,
+        name,
+        bytes,
+        at,
+    })
+}
+
+/// What is wrong, in words: of a fault of grammar what was expected.
+fn wrong(
+    alloc: Global,
+    refused: Option<Refused<'_>>,
+    error: &CheckError,
+) -> Result<String, AllocError> {
+    match (refused, error) {
+        (Some(refused), CheckError::Model(fault))
+        | (Some(refused), CheckError::Stream(StreamError::Item(fault))) => {
+            refused.wrong(alloc, fault)
+        }
+        _ => String::from_str(alloc, meaning(error)),
+    }
 }
 
 /// The number of the block that a fault is in, where it is a fault of the stream.
@@ -81,19 +120,6 @@ pub fn meaning(error: &CheckError) -> &'static str {
         CheckError::Memory => "no memory",
         CheckError::Read => "a read failed",
         CheckError::Write => "a write failed",
-    }
-}
-
-fn syntax_meaning(error: &SyntaxError) -> &'static str {
-    match error {
-        SyntaxError::TooLong => "the text is too long",
-        SyntaxError::BadByte(_) => "no word, number or sign begins so",
-        SyntaxError::TooLarge(_) => "this number doesn't fit 64 bits",
-        SyntaxError::Float(_) => "floats aren't read",
-        SyntaxError::Syntax(_) => "the grammar has something else here",
-        SyntaxError::TooDeep(_) => "annotations are nested too deep",
-        SyntaxError::TooMany(_) => "there are too many of these",
-        SyntaxError::Memory => "no memory",
     }
 }
 

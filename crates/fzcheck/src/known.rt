@@ -1,12 +1,16 @@
 //! What known streams tell, by which claims of the checked one are refuted.
 
+ghost use Rattle.std.specs.Prelude.{◌≡◌, ◌≢◌, IfOk};
+ghost use Rattle.fz_check.specs.declared.claims.Claims.TheVariants.{NotJudged};
+ghost use Rattle.fz_command.specs.declared.words.Judging.TheVariants.{Nothing};
+
 use crate::check::completion_of;
 use crate::limits_of;
 use fz_check::{
     BlockError, CheckError, Claims, Known, Listener, MOST_READS, Model, Verdict, block_text, learn,
     read_model, refusal_text,
 };
-use fz_command::CheckOptions;
+use fz_command::{CheckOptions, Judging};
 use fz_files::Recorder;
 use std::alloc::AllocError;
 use std::io::Write;
@@ -27,25 +31,45 @@ pub fn claims_of<'k>(
     options: CheckOptions,
     model: &[u8],
     names: &[&'k str],
-) -> Result<Claims<'k>, Unlearned<'k>> {
-    if !options.judges_claims {
-        return Ok(Claims::NotJudged);
+) -> Result<Claims<'k>, Unlearned<'k>>
+    ensures unasked { options.judging ≡ Nothing → IfOk result (λ claims. claims ≡ NotJudged) }
+    ensures asked { options.judging ≢ Nothing → IfOk result (λ claims. claims ≢ NotJudged) }
+{
+    match options.judging {
+        Judging::Nothing => Ok(Claims::NotJudged),
+        Judging::Asked => Ok(Claims::Judged(known_of(rt, options, model, names)?)),
+        Judging::Implied => {
+            let _ = eprintln!(rt; "{AS_IF_ASKED}");
+            Ok(Claims::Judged(known_of(rt, options, model, names)?))
+        }
     }
+}
+
+/// What is told where claims are judged for their streams alone.
+const AS_IF_ASKED: &str = "--known without --claims: claims are judged as if it were there";
+
+/// What is known by the streams in these files.
+fn known_of<'k>(
+    rt: &HostRuntime,
+    options: CheckOptions,
+    model: &[u8],
+    names: &[&'k str],
+) -> Result<Known<'k>, Unlearned<'k>> {
     let mut known = Known::nothing();
     if names.is_empty() {
-        return Ok(Claims::Judged(known));
+        return Ok(known);
     }
     let model = match read_model(rt.alloc(), model, limits_of(options.size)) {
         Ok(model) => model,
         Err(CheckError::Memory) => return Err(not_learned(CheckError::Memory, "", None)),
         // The check refuses it too, and tells why.
-        Err(_) => return Ok(Claims::Judged(known)),
+        Err(_) => return Ok(known),
     };
     let is_only = names.len() == 1;
     for name in names {
         learn_file(rt, options, &model, name, is_only, &mut known)?;
     }
-    Ok(Claims::Judged(known))
+    Ok(known)
 }
 
 /// Learns of the stream in a file.
@@ -87,7 +111,7 @@ fn learn_file<'k>(
             );
             Ok(())
         }
-        Err(error) => Err(not_learned(error, name, None)),
+        Err(error) => Err(not_learned(error, name, reader.into_failure())),
     }
 }
 

@@ -12,7 +12,6 @@ mod names;
 mod refuse;
 mod show;
 mod teller;
-mod waiting;
 
 use check::check_files;
 use fz_check::{CheckError, Limits};
@@ -52,31 +51,44 @@ fn run(rt: &HostRuntime) -> u8 {
         Ok(args) => args,
         Err(error) => return refuse_words(rt, error.kind()),
     };
-    let words: Vec<String> = match args.collect(rt.alloc()) {
-        Ok(words) => words,
-        Err(_) => return refuse(rt, &CheckError::Memory),
-    };
-    match read_words(rt.alloc(), &words) {
-        Ok(
-            Request::Show {
-                model,
-                printing,
-                size,
-            },
-        ) => show_file(rt, model, printing, limits_of(size)),
-        Ok(
-            Request::Check {
-                model,
-                stream,
-                names,
-                known,
-                options,
-            },
-        ) => check_files(rt, model, stream, names, &known, options),
-        Err(Refused::Help) => show_help(rt),
-        Err(Refused::Version) => show_version(rt),
-        Err(Refused::Wrong(error)) => refuse_wrong(rt, &error),
-        Err(Refused::Memory) => refuse(rt, &CheckError::Memory),
+    let words: Result<Vec<String>, _> = args.collect(rt.alloc());
+    match words {
+        Ok(words) => obey(rt, &words),
+        Err(_) => refuse(rt, &CheckError::Memory),
+    }
+}
+
+fn obey(rt: &HostRuntime, words: &[String]) -> u8 {
+    match read_words(rt.alloc(), words) {
+        Ok(request) => carry_out(rt, &request),
+        Err(refused) => refuse_request(rt, &refused),
+    }
+}
+
+fn carry_out(rt: &HostRuntime, request: &Request<'_>) -> u8 {
+    match request {
+        Request::Show {
+            model,
+            printing,
+            size,
+        } => show_file(rt, model, *printing, *size),
+        Request::Check {
+            model,
+            stream,
+            names,
+            known,
+            options,
+        } => check_files(rt, model, *stream, *names, known, *options),
+    }
+}
+
+/// The answer to words that ask for no command.
+fn refuse_request(rt: &HostRuntime, refused: &Refused) -> u8 {
+    match refused {
+        Refused::Help => show_help(rt),
+        Refused::Version => show_version(rt),
+        Refused::Wrong(told) => refuse_wrong(rt, told),
+        Refused::Memory => refuse(rt, &CheckError::Memory),
     }
 }
 

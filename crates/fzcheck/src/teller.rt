@@ -6,13 +6,16 @@ ghost use Rattle.fz_check.specs.Report.{event_line};
 use crate::as_json::{
     Counts, answer_line, block_line, claim_line, cut_line, explanation_line, refuted_line,
 };
-use crate::waiting::{Waiting, add_line};
 use fz_check::{Answer, Event, Judged, Taker, TextTaker, Verdict};
 use fz_command::{CheckOptions, Explaining, Form};
-use fz_explain::{Case, Explainer, Message, Text};
-use fz_files::{Passed, Progress, Recent};
+use fz_explain::{Case, Explainer, Message, Remarks, Text, Unbound};
+use fz_files::{Passed, Progress, Recent, Recorder, Waiting, add_line, read_up_to};
 use std::alloc::AllocError;
 use std::cell::RefCell;
+use std::fs;
+
+/// The most bytes of a MiniZinc model of which a line is quoted.
+const MOST_QUOTED: u32 = 16_777_216;
 
 /// Takes the events of a check.
 #[derive(Drop)]
@@ -29,6 +32,8 @@ pub struct Teller<'r, 'n> {
     counts: Counts,
     /// The number and the explanation of the block that the answer so far names.
     told: Option<(usize, Message)>,
+    /// The printed variables that nothing binds, where there are some.
+    unconstrained: Option<Unbound>,
 }
 
 impl<'r, 'n> Teller<'r, 'n> {
@@ -51,6 +56,7 @@ impl<'r, 'n> Teller<'r, 'n> {
             progress: Progress::new(rt),
             counts: Counts::new(),
             told: None,
+            unconstrained: None,
         }
     }
 
@@ -64,6 +70,27 @@ impl<'r, 'n> Teller<'r, 'n> {
         if let Some((number, message)) = self.told.take() {
             // Without memory for an explanation there is none.
             let _ = self.tell_message(number, &message);
+        }
+    }
+
+    /// Tells which printed variables nothing binds.
+    pub fn tell_unconstrained(&self) {
+        if let Form::Text = self.options.form
+            && let Some(printed) = &self.unconstrained
+            && let Ok(text) = printed.text(self.rt.alloc())
+        {
+            let _ = eprint!(self.rt; "{text}");
+        }
+    }
+
+    /// Finds them at the first block, where they are to be told. Without memory none are.
+    #[inline(never)]
+    fn find_unconstrained(&mut self, judged: &Judged<'_, '_>) {
+        if let (Explaining::Nothing, Form::Text) = (self.options.explains, self.options.form) {
+            return;
+        }
+        if let Ok(found) = self.explainer.unconstrained(self.rt.alloc(), judged.model) {
+            self.unconstrained = found;
         }
     }
 
@@ -124,10 +151,11 @@ impl<'r, 'n> Teller<'r, 'n> {
     fn explanation(&mut self, judged: &Judged<'_, '_>) -> Option<(usize, Message)> {
         let case = case_of(self.stream, self.recent, judged).ok()?;
         let alloc = self.rt.alloc();
-        let message = self
+        let mut message = self
             .explainer
             .explanation(alloc, judged.model, &case)
             .ok()??;
+        quote(self.rt, &mut message.remarks);
         Some((judged.number, message))
     }
 
@@ -141,7 +169,7 @@ impl<'r, 'n> Teller<'r, 'n> {
             Event::Cut(span) => cut_line(alloc, *span)?,
             Event::Answer(answer) => {
                 self.tell();
-                answer_line(alloc, *answer, self.counts)?
+                answer_line(alloc, *answer, self.counts, self.unconstrained.as_ref())?
             }
         };
         add_line(self.waiting, &line)
@@ -173,6 +201,7 @@ fn case_of<'e, 'a>(
         number: judged.number,
         block,
         verdict: judged.verdict,
+        refuted: judged.refuted,
         stream: Text {
             name: stream,
             bytes: block.text,
@@ -185,6 +214,23 @@ fn case_of<'e, 'a>(
     })
 }
 
+/// Quotes the line of the MiniZinc model, where its file is there.
+fn quote(rt: &HostRuntime, remarks: &mut Remarks) {
+    let Some(source) = &remarks.source else {
+        return;
+    };
+    let Ok(file) = fs::open(rt, &source.file) else {
+        return;
+    };
+    let mut file = Recorder::new(file, None);
+    if let Ok(text) = read_up_to(rt.alloc(), &mut file, MOST_QUOTED)
+        && text.len() <= MOST_QUOTED as usize
+    {
+        // Without memory for it there is no quote.
+        let _ = remarks.read(rt.alloc(), &text);
+    }
+}
+
 impl Taker for Teller<'_, '_> {
     ghost text = { event_line };
 
@@ -192,6 +238,11 @@ impl Taker for Teller<'_, '_> {
         TextTaker.take(event, line)?;
         if let Event::Answer(Answer::ClaimRejected(_)) = event {
             self.forget();
+        }
+        if let Event::Block(judged) = event
+            && judged.number == 1
+        {
+            self.find_unconstrained(judged);
         }
         if let Form::Json = self.options.form {
             self.add(event)?;

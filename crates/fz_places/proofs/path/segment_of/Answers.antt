@@ -17,4 +17,4 @@ onto f l c e d w r s t u v x y at1 at2 at3 at4 at5 at6 =
 pub returns-clause-text : goal.returns-clause-text
 returns-clause-text c =
     onto c.args.file.now c.in_ok-line.line.now c.in_ok-column.column.now c.in_ok-end_line.end_line.now c.in_ok-end_column.end_column.now c.in_ok-what.what.now c.in_ok-what.rest.now c.args.text.now c.in_ok-line.text.now c.in_ok-column.text.now c.in_ok-end_line.text.now c.in_ok-end_column.text.now c.in_ok-behind_bar.field-0.now
-    c.in_ok-line.ensures.text c.in_ok-column.ensures.text c.in_ok-end_line.ensures.text c.in_ok-end_column.ensures.text c.in_ok-behind_bar.ensures.bar (joins 59 c.in_ok-behind_bar.field-0.now c.in_ok-what.what.now c.in_ok-what.rest.now c.in_ok-what.ensures)
+    c.in_ok-line.ensures.text c.in_ok-column.ensures.text c.in_ok-end_line.ensures.text c.in_ok-end_column.ensures.text c.in_ok-behind_bar.ensures.bar (joins 59 c.in_ok-behind_bar.field-0.now c.in_ok-what.what.now c.in_ok-what.rest.now c.in_ok-what.ensures.parts)

@@ -1,6 +1,6 @@
-use Rattle.std.proofs.Common.{◌≡◌, Some, take, FitsSigned, w64, to_z, sym, ◌∙◌, arith, rules}
+use Rattle.std.proofs.Common.{◌≡◌, Some, pos, true, take, FitsSigned, w64, to_z, ◌∙◌, arith, rules}
 use Rattle.std.proofs.lemmas.Int.{to_z-of_z}
-use Rattle.fz_builtins.specs.of_meaning.Relations.{run, step}
+use Rattle.fz_builtins.specs.of_meaning.Relations.{lies_between, run, step}
 use Rattle.fz_builtins.specs.of_kernel.Views.{ints}
 use Rattle.fz_reasons.proofs.Turning.{goes_on}
 use Rattle.fz_reasons.proofs.automata.run.Goals as goal
@@ -21,6 +21,10 @@ loop-place-preserved c =
     let fits_q : FitsSigned w64 q = search rules in
     let fits_x : FitsSigned w64 x = search rules in
     let fits_next : FitsSigned w64 c.in-Some.next = search rules in
-    let so_far : run states symbols d first (take i xs) ≡ Some q = simp to_z-of_z at c.loop-place.invariant in
-    let stepped : c.next_state.result ≡ step states symbols d q x = simp to_z-of_z at c.next_state.ensures.exact in
-    simp to_z-of_z (goes_on states symbols d xs i _ first q x c.in-Some.next (omega arith) so_far c.int-symbol.ensures.read (sym stepped ∙ c.in-Some.is))
+    let so_far : run states symbols d first (take i xs) ≡ Some q = simp to_z-of_z at c.loop-place.invariant.reached in
+    let stepped : step states symbols d q x ≡ Some c.in-Some.next = simp to_z-of_z at c.in-Some.ensures.step in
+    let lies : lies_between (pos 1) states c.in-Some.next ≡ true = simp to_z-of_z at c.in-Some.ensures.state in
+    record {
+      reached = simp to_z-of_z (goes_on states symbols d xs i _ first q x c.in-Some.next (omega arith) so_far c.int-symbol.ensures.read stepped);
+      state = simp to_z-of_z lies;
+    }

@@ -8,9 +8,5 @@ returns-in-Empty-clause-kept c = kept c.args.model.now c.args.step.point _ _ (om
 pub returns-in-Empty-clause-none : goal.returns-in-Empty-clause-none
 returns-in-Empty-clause-none c = none c.args.model.now c.args.step.point _ (omega arith) (c.in_ok-tighten.ensures.empty c.in-Empty.is)
 
-pub returns-in-Narrowed : goal.returns-in-Narrowed
-returns-in-Narrowed c = record {
-  in_range = tt;
-  kept = kept c.args.model.now c.args.step.point _ _ (omega arith) c.in_ok-tighten.ensures.kept;
-  none = tt;
-}
+pub returns-in_ok-note-in-Narrowed-clause-kept : goal.returns-in_ok-note-in-Narrowed-clause-kept
+returns-in_ok-note-in-Narrowed-clause-kept c = kept c.args.model.now c.args.step.point _ _ (omega arith) c.in_ok-tighten.ensures.kept

@@ -1,6 +1,8 @@
 use Rattle.std.proofs.Common.{◌≡◌, ℤ, Option, None, Some, IfSome, refl, sym, ap, subst, ◌∙◌}
 use Rattle.fz_search.specs.Found.{IsFoundFor}
-use Rattle.fz_search.specs.of_model.Meaning.{Model, Partial, objective}
+use Rattle.fz_search.specs.of_model.Meaning.{Assignment, Model, Partial, objective, whole}
+use Rattle.fz_search.specs.of_model.Openings.{HasEach}
+use Rattle.fz_search.specs.of_model.States.{IsKnownSolution}
 use Rattle.fz_search.specs.of_model.Shown.{point_name}
 use Rattle.fz_judge.specs.Solutions.{Block}
 use Rattle.fz_judge.specs.Completed.{IsCompleted, LacksValuesAtMost}
@@ -8,10 +10,10 @@ use Rattle.fz_judge.specs.Completed.IsCompleted.{Found, AsFilled}
 use Rattle.fz_judge.specs.Verdict.{Reason, Verdict}
 use Rattle.fz_judge.specs.Verdict.Verdict.{Satisfied, Undecided, Violated}
 use Rattle.fz_judge.specs.BlockView.{located_block}
-use Rattle.fz_judge.specs.Judged.{JudgeState}
+use Rattle.fz_judge.specs.Judged.{IsOfPoint, JudgeState}
 use Rattle.fz_judge.specs.View.{fault_view, reason_view}
-use Rattle.fz_judge.specs.Working.{IsFound, IsRefutedAt}
-use Rattle.fz_judge.proofs.Refuting.{refuted_at, refuted_told}
+use Rattle.fz_judge.specs.Working.{IsFound}
+use Rattle.fz_judge.proofs.Refuting.{of_point, refuted_told}
 use Rattle.fz_judge.proofs.judge.Judge.undecided.Goals as goal
 
 found_told : (m : Model) (block : Block) (before : Option ℤ) (F : Partial) (v : Verdict)
@@ -23,13 +25,17 @@ found_told m block before F v kept (Some k) is lacks (K, fits, satisfied, kept_i
     subst (λ n. IsCompleted m block before F v Satisfied n) (sym kept_is ∙ same) (Found K lacks fits satisfied)
 found_told m block before F v kept None is lacks found = absurd cc
 
+-- no known-solution has the values
+abbrev HasNoneWith : Model → Partial → Type 0
+HasNoneWith m F = (A : Assignment) → IsKnownSolution m A → HasEach F (whole A) → ⊥
+
 -- nothing is found, and the verdict stays
 stays : (s : JudgeState) (block : Block) (F : Partial) (r : Reason) (o : Option ℤ)
     → o ≡ objective s.model F → IsCompleted s.model block s.found F (Undecided r) (Undecided r) o
 stays s block F r o is = rw is (AsFilled (λ (e : ◌≡◌ {A = Verdict} (Undecided r) Satisfied). cc))
 
 pub returns-in_default : goal.returns-in_default
-returns-in_default c = record { told = stays c.args.self.now (located_block c.args.block.now) c.args.filling.now (reason_view c.args.reason) c.args.now c.requires.objective; same = refl }
+returns-in_default c = record { told = stays c.args.self.now (located_block c.args.block.now) c.args.filling.now (reason_view c.args.reason) c.args.now c.requires.objective; refuted = tt; same = refl }
 
 pub returns-in-Some-clause-told : goal.returns-in-Some-clause-told
 returns-in-Some-clause-told c =
@@ -39,15 +45,21 @@ returns-in-Some-clause-told c =
 pub returns-in-Values-clause-told : goal.returns-in-Values-clause-told
 returns-in-Values-clause-told c = stays c.args.self.now (located_block c.args.block.now) c.args.filling.now (reason_view c.args.reason) c.args.now c.requires.objective
 
-pub returns-in-Refuted-clause-told : goal.returns-in-Refuted-clause-told
-returns-in-Refuted-clause-told c =
+pub returns-in-Refuted : goal.returns-in-Refuted
+returns-in-Refuted c =
     let told = ap (λ r. Undecided (reason_view r)) c.in-NoValue.is in
     let f = fault_view c.fault_named-fault.result in
+    let k = c.in-Refuted.found.point in
     let (within, none) = subst (IsFoundFor c.self.inside.model.now c.args.filling.now) c.in-Refuted.is c.in_ok-values.ensures.found in
-    let there : IsRefutedAt c.self.inside.model.now c.args.filling.now f = refuted_at c.self.inside.model.now c.args.filling.now c.in-Refuted.found.point (point_name c.point.result) f within c.point.ensures.told c.fault_named-fault.ensures none in
-    let at : IsRefutedAt c.args.self.now.model c.args.filling.now f = subst (λ (s : JudgeState). IsRefutedAt s.model c.args.filling.now f) c.self.view_is there in
-    subst (λ w. IsCompleted c.args.self.now.model (located_block c.args.block.now) c.args.self.now.found c.args.filling.now w (Violated f) c.args.now) (sym told)
-    (refuted_told c.args.self.now.model (located_block c.args.block.now) c.args.self.now.found c.args.filling.now _ f c.args.now c.requires.filling at c.requires.objective)
+    let there : IsOfPoint c.self.inside.model.now k (Violated f) = of_point c.self.inside.model.now k (point_name c.point.result) f within c.point.ensures.told c.fault_named-fault.ensures in
+    let here : IsOfPoint c.args.self.now.model k (Violated f) = subst (λ (s : JudgeState). IsOfPoint s.model k (Violated f)) c.self.view_is there in
+    let nobody : HasNoneWith c.args.self.now.model c.args.filling.now = subst (λ (s : JudgeState). HasNoneWith s.model c.args.filling.now) c.self.view_is none in
+    record {
+      told = subst (λ w. IsCompleted c.args.self.now.model (located_block c.args.block.now) c.args.self.now.found c.args.filling.now w (Violated f) c.args.now) (sym told)
+          (refuted_told c.args.self.now.model (located_block c.args.block.now) c.args.self.now.found c.args.filling.now _ k (Violated f) c.args.now c.requires.filling here nobody c.requires.objective);
+      refuted = here;
+      same = c.self.view_is;
+    }
 
 pub returns-clause-told : goal.returns-clause-told
 returns-clause-told c = stays c.args.self.now (located_block c.args.block.now) c.args.filling.now (reason_view c.args.reason) c.args.now c.requires.objective
