@@ -182,7 +182,7 @@ def verdicts(place):
     place.file("plan", plan.replace("first = dig", "first = pour"))
     _, report, _ = place.run(COMMAND, "model.mzn", "data.dzn", "--output", "plan", "--json")
     explained = [json.loads(line) for line in report.splitlines()][2]
-    expect("explained in JSON", [("first", "pour"), ("start[dig]", 0)],
+    expect("explained in JSON", [("first", "pour"), ("start[pour]", 3)],
            [(one.get("element", one["name"]), one["value"]) for one in explained["variables"][:2]])
 
 
