@@ -33,6 +33,12 @@ def die_with_parent():
     ctypes.CDLL(None).prctl(1, signal.SIGKILL)
 
 
+def stand_back():
+    """Leaves the processors to the crate that all others wait for, wherever that can use them."""
+    die_with_parent()
+    os.nice(10)
+
+
 class Crate:
     """A crate, the line of crates.txt that names it, and the crates that it stands on."""
 
@@ -46,7 +52,7 @@ class Crate:
         files = glob.glob(f"{self.folder}/src/**/*.rt", recursive=True)
         self.functions = sum(len(re.findall(r"\bfn \w", text_of(it))) for it in files)
 
-    def start(self, jobs):
+    def start(self, jobs, begin):
         """Starts the proof. What earlier runs kept of the crate is moved into its tree."""
         shutil.rmtree(self.tree, ignore_errors=True)
         for it in (*self.below, self):
@@ -63,7 +69,7 @@ class Crate:
         with open(self.log, "w", encoding="utf-8") as log:
             self.process = subprocess.Popen(
                 words, cwd=self.room, stdin=subprocess.DEVNULL, stdout=log,
-                stderr=subprocess.STDOUT, preexec_fn=die_with_parent)
+                stderr=subprocess.STDOUT, preexec_fn=begin)
 
     def put_back(self):
         if os.path.isdir(f"{self.room}/out"):
@@ -119,13 +125,16 @@ class Build:
 
     def start(self, lanes):
         """Starts what is ready. Most of the proof is one chain of crates, so the crate with the
-        most behind it gets all the processes, and one beside it gets one."""
+        most behind it gets all the processes, and one beside it gets one, which stands back."""
         waiting = [it for it in self.crates if it not in (*self.proved, *self.running)]
         ready = [it for it in waiting if {*it.deps} <= {*self.proved}]
         ready.sort(key=self.behind.get, reverse=True)
         for crate in ready[: lanes - len(self.running)]:
             most = max(map(self.behind.get, self.running), default=0)
-            crate.start(self.jobs if self.behind[crate] > most else 1)
+            if self.behind[crate] > most:
+                crate.start(self.jobs, die_with_parent)
+            else:
+                crate.start(1, stand_back)
             self.running.append(crate)
 
     def end(self, crate, log):

@@ -154,13 +154,6 @@ pub len-numbers_of : (f : ℤ) (rs : List Range) → AreInOrder f rs
 unfolding numbers_of
 len-numbers_of f rs o = len-from_list f _ (Rise-flat_map f rs o) ∙ length-flat_map rs
 
--- how many numbers a range has
-pub len-numbers_between : (lo hi : ℤ) → len (numbers_between lo hi) ≡ count_between lo hi
-unfolding numbers_between
-len-numbers_between lo hi =
-    let rise : Rise lo (counting_from lo (count_between lo hi)) = rw (← append-nil (counting_from lo (count_between lo hi))) (Rise-counting lo lo (count_between lo hi) [] (omega (arith, ints)) tt) in
-    len-from_list lo _ rise ∙ length-counting_from lo (count_between lo hi)
-
 -- ranges in order that begin at f or above have no more numbers than there are from f on
 pub count_up_to : (f : ℤ) (rs : List Range) → AreInOrder f rs → f ≤ℤ (highest +ℤ pos 1)
     → (f +ℤ pos (sum_by (λ r. count_between r.lo r.hi) rs)) ≤ℤ (highest +ℤ pos 1)

@@ -5,14 +5,14 @@ use Rattle.std.specs.List.Sorted.{IsPermutation}
 use Rattle.std.specs.Ordering.{int_eq}
 use Rattle.std.proofs.lemmas.List.Sorted.{list_any-IsPermutation}
 use Rattle.std.specs.Cmp.{int_cmp_total, both_ways}
-use Rattle.std.specs.FinSet.{contains, from_list, contains-from_list, union, intersection, difference, is_subset, contains-union, contains-intersection, contains-difference, is_subset-contains, contains-is_subset}
+use Rattle.std.specs.FinSet.{contains, from_list, contains-from_list, is_subset, contains-union, contains-intersection, contains-difference, is_subset-contains, contains-is_subset}
 use Rattle.fz_base.specs.declared.ranges.Range.{Range}
 use Rattle.fz_base.specs.declared.ranges.Rule.{Rule}
 use Rattle.fz_base.specs.declared.ranges.Rule.TheVariants.{Union, Intersect, Minus, Symdiff}
-use Rattle.fz_base.specs.Sets.{NumberSet, numbers_between, symmetric_difference, LiesWithin, IsOnly}
+use Rattle.fz_base.specs.Sets.{NumberSet, numbers_between, LiesWithin, IsOnly}
 use Rattle.fz_base.specs.declared.kept.Numbers.{Numbers}
 use Rattle.fz_base.specs.declared.kept.Numbers.TheVariants.{Low, Ranges}
-use Rattle.fz_base.specs.Keeping.{has, set_of, AreKept}
+use Rattle.fz_base.specs.Keeping.{combined, has, set_of, AreKept}
 use Rattle.fz_base.specs.Ranges.{lowest, AreInOrder, covers, is_between, keeps}
 use Rattle.fz_base.proofs.Numbers.{contains-numbers_of, contains-numbers_between, contains-symmetric_difference, same_numbers}
 use Rattle.fz_base.proofs.Covers.{covered_fits}
@@ -39,6 +39,13 @@ pub listed_made : (numbers : List ℤ) (out : Numbers)
     → ((x : ℤ) → has out x ≡ list_any (int_eq x) numbers) → set_of out ≡ from_list numbers
 listed_made numbers out is = made out (from_list numbers) (λ x. is x ∙ sym (contains-from_list int_cmp_total numbers x))
 
+contains-combined : (rule : Rule) (s t : NumberSet) (x : ℤ)
+    → contains (combined rule s t) x ≡ keeps rule (contains s x) (contains t x)
+contains-combined Union s t x = contains-union int_cmp_total s t x
+contains-combined Intersect s t x = contains-intersection int_cmp_total s t x
+contains-combined Minus s t x = contains-difference int_cmp_total s t x
+contains-combined Symdiff s t x = contains-symmetric_difference s t x
+
 -- ranges in order cover the same where they are the same, and only there
 pub same_covered : (a b : List Range) → AreInOrder lowest a → AreInOrder lowest b → (r : Bool)
     → (r ≡ true ↔ (a ≡ b)) → (r ≡ true ↔ ((x : ℤ) → covers a x ≡ covers b x))
@@ -50,21 +57,9 @@ pub sorted_listed : (numbers sorted : List ℤ) → IsPermutation numbers sorted
 sorted_listed numbers sorted moved x = sym (list_any-IsPermutation (int_eq x) numbers sorted moved)
 
 module _ (s t : NumberSet) (a b : Numbers) (is_a : (x : ℤ) → has a x ≡ contains s x) (is_b : (x : ℤ) → has b x ≡ contains t x) where
-  pub union_made : (out : Numbers) → ((x : ℤ) → has out x ≡ keeps Union (has a x) (has b x))
-      → set_of out ≡ union s t
-  union_made out kept = made out (union s t) (λ x. kept x ∙ rw (is_a x, is_b x) (sym (contains-union int_cmp_total s t x)))
-
-  pub intersection_made : (out : Numbers)
-      → ((x : ℤ) → has out x ≡ keeps Intersect (has a x) (has b x)) → set_of out ≡ intersection s t
-  intersection_made out kept = made out (intersection s t) (λ x. kept x ∙ rw (is_a x, is_b x) (sym (contains-intersection int_cmp_total s t x)))
-
-  pub difference_made : (out : Numbers) → ((x : ℤ) → has out x ≡ keeps Minus (has a x) (has b x))
-      → set_of out ≡ difference s t
-  difference_made out kept = made out (difference s t) (λ x. kept x ∙ rw (is_a x, is_b x) (sym (contains-difference int_cmp_total s t x)))
-
-  pub symmetric_difference_made : (out : Numbers) → ((x : ℤ)
-      → has out x ≡ keeps Symdiff (has a x) (has b x)) → set_of out ≡ symmetric_difference s t
-  symmetric_difference_made out kept = made out (symmetric_difference s t) (λ x. kept x ∙ rw (is_a x, is_b x) (sym (contains-symmetric_difference s t x)))
+  pub combined_made : (rule : Rule) (out : Numbers)
+      → ((x : ℤ) → has out x ≡ keeps rule (has a x) (has b x)) → set_of out ≡ combined rule s t
+  combined_made rule out kept = made out (combined rule s t) (λ x. kept x ∙ (λ i. keeps rule (is_a x i) (is_b x i)) ∙ sym (contains-combined rule s t x))
 
   pub is_subset_is : (r : Bool) → (r ≡ true ↔ ((x : ℤ) → has a x ≡ true → has b x ≡ true))
       → r ≡ is_subset s t
@@ -79,32 +74,17 @@ module _ (s t : NumberSet) (a b : Numbers) (is_a : (x : ℤ) → has a x ≡ con
     λ e. h.1 (λ x. is_a x ∙ ap (λ u. contains u x) e ∙ sym (is_b x)),
   )
 
-  -- a set whose ranges cover the result of the operation is that result
-  is_kept_is : (rule : Rule) (u v : NumberSet) (c : Numbers) → ((x : ℤ) → has c x ≡ contains u x)
-      → ((x : ℤ) → contains v x ≡ keeps rule (contains s x) (contains t x)) → (r : Bool)
-      → (r ≡ true ↔ ((x : ℤ) → has c x ≡ keeps rule (has a x) (has b x))) → (r ≡ true ↔ (u ≡ v))
-  is_kept_is rule u v c is_c has r h = (
-    λ e. same_numbers u v (λ x. sym (is_c x) ∙ h.0 e x ∙ (λ i. keeps rule (is_a x i) (is_b x i)) ∙ sym (has x)),
-    λ e. h.1 (λ x. is_c x ∙ ap (λ w. contains w x) e ∙ has x ∙ (λ i. keeps rule (sym (is_a x) i) (sym (is_b x) i))),
+  pub is_combined_is : (rule : Rule) (u : NumberSet) (c : Numbers)
+      → ((x : ℤ) → has c x ≡ contains u x) → (r : Bool)
+      → (r ≡ true ↔ ((x : ℤ) → has c x ≡ keeps rule (has a x) (has b x)))
+      → (r ≡ true ↔ (u ≡ combined rule s t))
+  is_combined_is rule u c is_c r h = (
+    λ e. same_numbers u (combined rule s t) (λ x. sym (is_c x) ∙ h.0 e x ∙ result x),
+    λ e. h.1 (λ x. is_c x ∙ ap (λ w. contains w x) e ∙ sym (result x)),
   )
-
-  module _ (u : NumberSet) (c : Numbers) (is_c : (x : ℤ) → has c x ≡ contains u x) (r : Bool) where
-    pub is_union_is : (r ≡ true ↔ ((x : ℤ) → has c x ≡ keeps Union (has a x) (has b x)))
-        → (r ≡ true ↔ (u ≡ union s t))
-    is_union_is h = is_kept_is Union u (union s t) c is_c (contains-union int_cmp_total s t) r h
-
-    pub is_intersection_is : (r ≡ true ↔ ((x : ℤ) → has c x ≡ keeps Intersect (has a x) (has b x)))
-        → (r ≡ true ↔ (u ≡ intersection s t))
-    is_intersection_is h = is_kept_is Intersect u (intersection s t) c is_c (contains-intersection int_cmp_total s t) r h
-
-    pub is_difference_is : (r ≡ true ↔ ((x : ℤ) → has c x ≡ keeps Minus (has a x) (has b x)))
-        → (r ≡ true ↔ (u ≡ difference s t))
-    is_difference_is h = is_kept_is Minus u (difference s t) c is_c (contains-difference int_cmp_total s t) r h
-
-    pub is_symmetric_difference_is : (r ≡ true ↔ ((x : ℤ)
-        → has c x ≡ keeps Symdiff (has a x) (has b x)))
-        → (r ≡ true ↔ (u ≡ symmetric_difference s t))
-    is_symmetric_difference_is h = is_kept_is Symdiff u (symmetric_difference s t) c is_c (contains-symmetric_difference s t) r h
+    where
+      result : (x : ℤ) → keeps rule (has a x) (has b x) ≡ contains (combined rule s t) x
+      result x = (λ i. keeps rule (is_a x i) (is_b x i)) ∙ sym (contains-combined rule s t x)
 
 pub lies_within_is : (s : NumberSet) (a : Numbers) → ((x : ℤ) → has a x ≡ contains s x)
     → (lo hi : ℤ) (r : Bool) → (r ≡ true ↔ ((x : ℤ) → has a x ≡ true → (lo ≤ℤ x) × (x ≤ℤ hi)))

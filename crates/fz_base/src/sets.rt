@@ -1,7 +1,7 @@
 // Finite sets of integers.
 ghost use Rattle.std.specs.Prelude.{◌≡◌, ◌≤◌, ◌^◌, ◌↔◌, ℤ, IsTrue, IfNone, IfOk, IfSome};
 ghost use Rattle.std.specs.FinSet as set;
-ghost use Rattle.fz_base.specs.Keeping.{set_of, AreKept};
+ghost use Rattle.fz_base.specs.Keeping.{combined, has, set_of, AreKept};
 ghost use Rattle.fz_base.specs.Ranges.{lowest, AreInOrder, covers};
 ghost use Rattle.fz_base.specs.Sets.{numbers_between, symmetric_difference, LiesWithin, Has64Bits, IsOnly};
 
@@ -59,11 +59,29 @@ fn set_of(numbers: Numbers) -> IntSet
 impl IntSet {
     /// The numbers as they are stored.
     #[inline(always)]
+    #[tactic(auto, using(crate::proofs::SetRelations::seen))]
     fn kept(&self) -> &Numbers
         ensures kept { AreKept result.now }
         ensures same { set_of result.now ≡ self.now }
+        ensures seen { (x : ℤ) → has result.now x ≡ set.contains self.now x }
     {
         &self.numbers
+    }
+
+    /// Whether the set is the result of the operation on two others.
+    #[inline(always)]
+    fn is_combined(&self, a: &IntSet, b: &IntSet, rule: Rule) -> bool
+        ensures { IsTrue result ↔ (self.now ≡ combined rule a.now b.now) }
+    {
+        self.kept().are_kept(a.kept(), b.kept(), rule)
+    }
+
+    /// The result of the operation on this set and another.
+    #[inline(always)]
+    fn combined(&self, alloc: Global, other: &IntSet, rule: Rule) -> Result<IntSet, SetError>
+        ensures { IfOk result (λ s. s ≡ combined rule self.now other.now) }
+    {
+        Ok(set_of(self.kept().combine(alloc, other.kept(), rule)?))
     }
 }
 
@@ -92,7 +110,6 @@ impl IntSet {
 impl IntSet {
     /// Whether the number is in the set.
     #[inline]
-    #[tactic(auto, using(crate::proofs::SetRelations::seen))]
     pub fn contains(&self, number: i64) -> bool
         ensures { result ≡ set.contains self.now number }
     {
@@ -147,6 +164,7 @@ impl IntSet {
 
     /// Whether each number of the set is from `lo` to `hi`, both included.
     #[inline]
+    #[tactic(auto, using(crate::proofs::SetRelations::lies_within_is))]
     pub fn within(&self, lo: i64, hi: i64) -> bool
         ensures exact { IsTrue result ↔ LiesWithin lo hi self.now }
 
@@ -165,7 +183,7 @@ impl IntSet {
     pub fn is_union(&self, a: &IntSet, b: &IntSet) -> bool
         ensures { IsTrue result ↔ (self.now ≡ set.union a.now b.now) }
     {
-        self.kept().are_kept(a.kept(), b.kept(), Rule::Union)
+        self.is_combined(a, b, Rule::Union)
     }
 
     /// Whether this set is what is in both.
@@ -173,7 +191,7 @@ impl IntSet {
     pub fn is_intersection(&self, a: &IntSet, b: &IntSet) -> bool
         ensures { IsTrue result ↔ (self.now ≡ set.intersection a.now b.now) }
     {
-        self.kept().are_kept(a.kept(), b.kept(), Rule::Intersect)
+        self.is_combined(a, b, Rule::Intersect)
     }
 
     /// Whether this set is what is in the first and not in the second.
@@ -181,7 +199,7 @@ impl IntSet {
     pub fn is_difference(&self, a: &IntSet, b: &IntSet) -> bool
         ensures { IsTrue result ↔ (self.now ≡ set.difference a.now b.now) }
     {
-        self.kept().are_kept(a.kept(), b.kept(), Rule::Minus)
+        self.is_combined(a, b, Rule::Minus)
     }
 
     /// Whether this set is what is in exactly one of the two.
@@ -189,7 +207,7 @@ impl IntSet {
     pub fn is_symmetric_difference(&self, a: &IntSet, b: &IntSet) -> bool
         ensures { IsTrue result ↔ (self.now ≡ symmetric_difference a.now b.now) }
     {
-        self.kept().are_kept(a.kept(), b.kept(), Rule::Symdiff)
+        self.is_combined(a, b, Rule::Symdiff)
     }
 }
 
@@ -200,32 +218,28 @@ impl IntSet {
     pub fn union(&self, alloc: Global, other: &IntSet) -> Result<IntSet, SetError>
         ensures { IfOk result (λ s. s ≡ set.union self.now other.now) }
     {
-        let numbers = self.kept().combine(alloc, other.kept(), Rule::Union)?;
-        Ok(set_of(numbers))
+        self.combined(alloc, other, Rule::Union)
     }
 
     /// What is in both sets.
     pub fn intersect(&self, alloc: Global, other: &IntSet) -> Result<IntSet, SetError>
         ensures { IfOk result (λ s. s ≡ set.intersection self.now other.now) }
     {
-        let numbers = self.kept().combine(alloc, other.kept(), Rule::Intersect)?;
-        Ok(set_of(numbers))
+        self.combined(alloc, other, Rule::Intersect)
     }
 
     /// What is in this set and not in the other.
     pub fn minus(&self, alloc: Global, other: &IntSet) -> Result<IntSet, SetError>
         ensures { IfOk result (λ s. s ≡ set.difference self.now other.now) }
     {
-        let numbers = self.kept().combine(alloc, other.kept(), Rule::Minus)?;
-        Ok(set_of(numbers))
+        self.combined(alloc, other, Rule::Minus)
     }
 
     /// What is in exactly one of the two sets.
     pub fn symdiff(&self, alloc: Global, other: &IntSet) -> Result<IntSet, SetError>
         ensures { IfOk result (λ s. s ≡ symmetric_difference self.now other.now) }
     {
-        let numbers = self.kept().combine(alloc, other.kept(), Rule::Symdiff)?;
-        Ok(set_of(numbers))
+        self.combined(alloc, other, Rule::Symdiff)
     }
 
     /// A set with the same numbers.

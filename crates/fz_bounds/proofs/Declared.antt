@@ -1,11 +1,10 @@
 -- Domains, definitions and arrays that hold under no assignment.
-use Rattle.std.proofs.Common.{◌≡◌, ℕ, zero, suc, ℤ, pos, ◌≤ℤ◌, true, false, List, [], ◌∷◌, Option, None, Some, refl, sym, ap, subst, ◌∙◌, slice_get, IfSome, IsSomeAnd, IsTrue}
+use Rattle.std.proofs.Common.{◌≡◌, ℕ, zero, suc, ℤ, ◌≤ℤ◌, true, false, List, [], ◌∷◌, Option, None, Some, refl, sym, ap, subst, ◌∙◌, slice_get, IfSome, IsSomeAnd, IsTrue}
 use Rattle.std.proofs.lemmas.Option.{same_Some}
 use Rattle.std.specs.FinSet.{contains}
 use Rattle.std.specs.List.{AllByRecursion}
 use Rattle.fz_base.specs.Sets.{LiesWithin, NumberSet}
 use Rattle.fz_base.specs.declared.value.Value.{Value}
-use Rattle.fz_base.specs.declared.value.Value.TheVariants.{Int, Bool as Truth, Set}
 use Rattle.fz_model.specs.declared.Kind.{Kind}
 use Rattle.fz_model.specs.declared.Kind.TheVariants.{Int as IntKind, Bool as BoolKind, Set as SetKind}
 use Rattle.fz_model.specs.declared.Domain.{Domain}
@@ -91,19 +90,6 @@ variable_at B n e at A inside' = value_between B n e at A inside'
 pub fixed_at : (B : Ranges) (v : Value) (e : Ends) → AreEnds v v e → LiesAt B (Fixed v) e
 fixed_at B v e at A inside' = number_between e.low e.high e.kind (Some v) at.low_told at.high_told
     (subst (λ z. is_at_most z v ≡ true) at.low_is (at_most_itself v), subst (λ z. is_at_most v z ≡ true) at.high_is (at_most_itself v))
-
-pub ints_same : (j k : Kind) (a b : ℤ) → j ≡ IntKind → k ≡ IntKind → number_as j a ≡ number_as k b
-    → a ≡ b
-ints_same IntKind IntKind a b e f same = ap number_in same
-  where
-    number_in : Value → ℤ
-    number_in (Int n) = n
-    number_in (Truth t) = pos 0
-    number_in (Set s) = pos 0
-ints_same IntKind BoolKind a b e f same = cc
-ints_same IntKind SetKind a b e f same = cc
-ints_same BoolKind k a b e f same = cc
-ints_same SetKind k a b e f same = cc
 
 pub not_admitted : (d : Domain) (k : Kind) (a : ℤ) (v : Value) → k ≡ IntKind → v ≡ number_as k a
     → admits d a ≡ false → inside d v ≡ false

@@ -10,11 +10,6 @@ given_anew [] n v = refl
 given_anew (o ∷ K) zero v = refl
 given_anew (o ∷ K) (suc n) v = ap (λ L. o ∷ L) (given_anew K n v)
 
-pub given_twice : (K : Partial) (n : ℕ) (v w : Value) → give (give K n v) n w ≡ give K n w
-given_twice [] n v w = refl
-given_twice (o ∷ K) zero v w = refl
-given_twice (o ∷ K) (suc n) v w = ap (λ L. o ∷ L) (given_twice K n v w)
-
 -- where there is no such variable
 pub none_to_give : (K : Partial) (n : ℕ) (v : Value) → length (without K n) ≤ n
     → without K n ≡ give K n v
@@ -41,16 +36,6 @@ as_long (p ∷ K) zero o = refl
 as_long (p ∷ K) (suc n) o = ap suc (as_long K n o)
 
 -- ---- one partial assignment under another
-
-pub both_given : (K L : Partial) (n : ℕ) (v : Value) → HasEach K L → length L ≡ length K
-    → HasEach (give K n v) (give L n v)
-both_given [] L n v under as_many k u e = cc
-both_given (o ∷ K) [] n v under as_many k u e = absurd (omega arith)
-both_given (o ∷ K) (p ∷ L) zero v under as_many zero u e = e
-both_given (o ∷ K) (p ∷ L) zero v under as_many (suc k) u e = under (suc k) u e
-both_given (o ∷ K) (p ∷ L) (suc n) v under as_many zero u e = under zero u e
-both_given (o ∷ K) (p ∷ L) (suc n) v under as_many (suc k) u e =
-    both_given K L n v (λ k. under (suc k)) (omega arith) k u e
 
 pub one_less : (K L : Partial) (n : ℕ) (v : Value) → HasEach K L → length L ≡ length K
     → HasEach (without K n) (give L n v)

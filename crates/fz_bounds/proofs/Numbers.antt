@@ -199,12 +199,6 @@ left_inside m k B C n e low high l h at below above c least most p here A inside
     let (a, is, from, to) = left_between m k B n e low high at below above p here A inside holds in
     still_inside B C A n e.kind a l h c is (subst (λ z. z ≤ℤ a) (sym least) from) (subst (λ z. a ≤ℤ z) (sym most) to) inside
 
-pub least_above : (x y : ℤ) → y ≤ℤ int_max x y
-least_above x y = omega (arith, ints, clamps)
-
-pub most_below : (x y : ℤ) → int_min x y ≤ℤ y
-most_below x y = omega (arith, ints, clamps)
-
 pub kinds_same : (j k : Kind) → same_kind j k ≡ true → j ≡ k
 kinds_same IntKind IntKind e = refl
 kinds_same BoolKind BoolKind e = refl

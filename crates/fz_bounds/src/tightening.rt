@@ -88,9 +88,9 @@ impl Bounds {
         Ok(Tightened::Narrowed)
     }
 
-    /// Takes a number from the bounds of a variable, where it is one of several and an end, and
-    /// tells whether it did: for where nothing that is sought has the variable at that number.
-    /// It takes no memory.
+    /// Drops the least or the greatest number of a variable's bounds, where it is this one and
+    /// others are left, and tells whether it did. The caller knows that nothing it looks for gives
+    /// the variable that number. It takes no memory.
     pub fn take(&mut self, variable: usize, kind: Kind, number: i64) -> bool
         ensures kept { (A : Assignment) → IsInside self.old A
             → (IsInside (narrowed self.old variable (number_as kind number)

@@ -195,10 +195,6 @@ ended_no_part Cut e is = (let no : Err (stream_refusal e) ≡ Ok Part = is in cc
 
 -- ---- where a reader stands
 
-pub running : {limits : Limits} → (s : ReaderState) (given : List ℕ) (parts : List StreamPart) → HasRead limits s given parts
-    → s.splitter.stage ≢ Finished
-running s given parts h f = let no : Running ≡ Finished = sym h.fits.running ∙ f in cc
-
 -- one that has not ended stands where it has read
 pub stands_reading : {limits : Limits} → (s : ReaderState) (left : Option (List ℕ)) (given : List ℕ)
     (parts : List StreamPart) → s.splitter.stage ≢ Finished → StandsAt limits s left given parts
@@ -209,14 +205,6 @@ stands_reading s left given parts going st = ⊎_elim (λ h. h.0) (λ h. absurd 
 pub stands_at_end : {limits : Limits} → (s : ReaderState) (left : Option (List ℕ)) (given : List ℕ)
     (parts : List StreamPart) → s.pieces.at_end ≡ true → StandsAt limits s left given parts → IsAtEnd left
 stands_at_end s left given parts e st = ⊎_elim (λ h. h.1 e) (λ h. h.0) st
-
--- and one that has ended at the end of a text
-pub stands_ended : {limits : Limits} → (s : ReaderState) (left : Option (List ℕ)) (given : List ℕ)
-    (parts : List StreamPart) → s.splitter.stage ≡ Finished → StandsAt limits s left given parts
-    → IsAtEnd left × IsStreamTextWithin limits given parts
-stands_ended {limits} s left given parts finished st =
-    ⊎_elim (λ h. absurd (running s given parts h.0 finished))
-    (λ (h : IsAtEnd left × HasEnded limits s given parts). (h.0, h.1.text)) st
 
 pub read_inside : {limits : Limits} → (s : ReaderState) (left : Option (List ℕ)) (given : List ℕ)
     (parts : List StreamPart) → HasRead limits s given parts → EndInside limits left given parts

@@ -104,7 +104,7 @@ impl<'m, 'a, 'k> Jury<'m, 'a, 'k> {
         )
     }
 
-    /// Hears of the claim that comes next. It gives by what the claim is refuted, where it is.
+    /// Judges the next claim of the stream. It gives the solution that refutes it, if there is one.
     pub(crate) fn hear_claim(&mut self, kind: ClaimKind) -> Option<Refutation<'k>>
         ensures refutation { result ≡ claim_refutation self.old.judge.model.aim self.old.claims
             self.old.tally.blocks self.old.ledger kind }

@@ -61,8 +61,8 @@ impl Ledger {
         self.refuted = Some(first);
     }
 
-    /// Hears of the next claim, which comes after so many blocks. It gives by what it is refuted,
-    /// where it is.
+    /// Judges the next claim, which comes after so many blocks. It gives the solution that refutes
+    /// it, if there is one.
     pub(crate) fn hear_claim<'k>(
         &mut self,
         goal: &Goal,

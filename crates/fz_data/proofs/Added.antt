@@ -17,9 +17,9 @@ use Rattle.fz_names.specs.of_meaning.Meaning.{Place, declared_points, definition
 use Rattle.fz_names.specs.of_meaning.Meaning.Place.{Scalar, Array}
 use Rattle.fz_names.specs.of_meaning.Meaning.Declared.{Parameter, ScalarVariable, ArrayOfVariables}
 use Rattle.fz_names.specs.of_meaning.Meaning.Point.{DomainPoint, ArrayPoint}
-use Rattle.fz_names.specs.of_meaning.Names.{parts, kind_of_base, domain_of, is_scalar, is_scalar_variable, number_of, literal_of, term_of, place_of_declared, definition_of, declared_of, variable_declared, declares}
+use Rattle.fz_names.specs.of_meaning.Names.{kind_of_base, domain_of, is_scalar, is_scalar_variable, number_of, literal_of, scalars, declared_elements, place_of_declared, definition_of, declared_of, variable_declared}
 use Rattle.fz_names.proofs.of_meaning.Scope.{same_kind_is}
-use Rattle.fz_names.proofs.of_meaning.KnownNames.{next_number, number_here}
+use Rattle.fz_names.proofs.of_meaning.KnownNames.{declares, next_number, number_here}
 use Rattle.fz_data.specs.declared.parts.Array as the_array
 use Rattle.fz_names.specs.Naming.{Declared as declarations}
 use Rattle.fz_data.specs.declared.parts.DeclaredPoint.TheVariants as points
@@ -70,14 +70,14 @@ module _ (us : List Variable) (zs : List the_array.Array) (n : ℕ) where
 module _ (all known : List Decl) (d : Decl) (rest : List Decl) (split : all ≡ known ++ d ∷ rest) (new : declares known d.name.text ≡ false)
     (k : List ℕ) (v : Variable) (named : k ≡ d.name.text) (scalar : is_scalar d ≡ true)
     (varies : d.is_var ≡ true) (view : variable_view v ≡ variable_declared d)
-    (definition : v.definition ≡ definition_of all d.value) (vs : List Variable) (count : length vs ≡ next_number known) (xs : List the_array.Array) where
+    (definition : v.definition ≡ definition_of (scalars all) d.value) (vs : List Variable) (count : length vs ≡ next_number known) (xs : List the_array.Array) where
   is_one : is_scalar_variable d ≡ true
   is_one = ap (λ b. b && is_scalar d) varies ∙ scalar
 
   number : length vs ≡ number_of all d.name.text
   number = count ∙ sym (number_here known d rest new is_one) ∙ ap (λ ds. number_of ds d.name.text) (sym split)
 
-  variable_is : declared_of all d ≡ ScalarVariable (variable_declared d) (definition_of all d.value)
+  variable_is : declared_of all d ≡ ScalarVariable (variable_declared d) (definition_of (scalars all) d.value)
   variable_is = cond-true d.is_var _ _ varies ∙ cond-true (is_scalar d) _ _ scalar
 
   variable_place : place_of_declared all d
@@ -129,16 +129,16 @@ all_cond P true x h = (h, tt)
 all_cond P false x h = tt
 
 module _ (all known : List Decl) (d : Decl) (k : List ℕ) (x : the_array.Array) (named : k ≡ d.name.text) (list : is_scalar d ≡ false) (varies : x.is_variable ≡ d.is_var) (name : x.name.now ≡ d.name.text)
-    (kind : x.kind ≡ kind_of_base d.base) (domain : x.domain ≡ domain_of d.base) (elements : elements_of x ≡ map (term_of all) (parts d.value)) (vs : List Variable) (xs : List the_array.Array) where
+    (kind : x.kind ≡ kind_of_base d.base) (domain : x.domain ≡ domain_of d.base) (elements : elements_of x ≡ declared_elements all d) (vs : List Variable) (xs : List the_array.Array) where
   array_place : place_of_declared all d
-      ≡ Array d.name.text (kind_of_base d.base) (map (term_of all) (parts d.value))
+      ≡ Array d.name.text (kind_of_base d.base) (declared_elements all d)
   array_place = cond-false (is_scalar d) _ _ list
 
   array_is : declared_of all d ≡ cond d.is_var (ArrayOfVariables d.name.text (kind_of_base d.base)
-      (domain_of d.base) (map (term_of all) (parts d.value)))
+      (domain_of d.base) (declared_elements all d))
       (Parameter d.name.text (Array d.name.text (kind_of_base d.base)
-      (map (term_of all) (parts d.value))))
-  array_is = λ i. cond d.is_var (cond (list i) (ScalarVariable (variable_declared d) (definition_of all d.value)) (ArrayOfVariables d.name.text (kind_of_base d.base) (domain_of d.base) (map (term_of all) (parts d.value)))) (Parameter d.name.text (array_place i))
+      (declared_elements all d)))
+  array_is = λ i. cond d.is_var (cond (list i) (ScalarVariable (variable_declared d) (definition_of (scalars all) d.value)) (ArrayOfVariables d.name.text (kind_of_base d.base) (domain_of d.base) (declared_elements all d))) (Parameter d.name.text (array_place i))
 
   declared_is : array_declared x ≡ declared_of all d
   declared_is = (λ i. cond (varies i) (ArrayOfVariables (name i) (kind i) (domain i) (elements i)) (Parameter (name i) (Array (name i) (kind i) (elements i)))) ∙ sym array_is

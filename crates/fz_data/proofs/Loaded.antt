@@ -1,14 +1,13 @@
 -- What was read is laid out as the model of the tree.
-use Rattle.std.proofs.Common.{◌≡◌, List, [], ◌∷◌, ◌++◌, map, Vec, Global, Some, None, refl, sym, ap, subst, ◌∙◌, flat_map, append_assoc}
+use Rattle.std.proofs.Common.{◌≡◌, List, [], ◌∷◌, ◌++◌, map, Vec, Global, None, Some, refl, sym, ap, subst, ◌∙◌, flat_map, append_assoc}
 use Rattle.std.specs.List.{AllByRecursion}
 use Rattle.std.proofs.lemmas.List.{append-nil}
 use Rattle.fz_names.specs.of_meaning.declared.error.ModelError.{ModelError}
-use Rattle.fz_names.specs.of_meaning.declared.kind.Kind.TheVariants.{Int as IntKind}
 use Rattle.fz_names.specs.of_meaning.Located.{Decl, LocatedTree}
 use Rattle.fz_names.specs.of_meaning.Meaning.{declared_points, numbered_from, place_named, variable_of, first_some, find_name, row_of}
-use Rattle.fz_names.specs.of_meaning.Names.{goal_parts, number_of, place_of_declared, declared_of, posted_of, aim_of, model_of, decls_fault, constraint_fault, constraints_fault, goal_fault, first_fault}
+use Rattle.fz_names.specs.of_meaning.Names.{kinds, places, number_of, place_of_declared, declared_of, posted_of, aim_of, model_of, decls_fault, constraints_fault, goal_fault, first_fault}
 use Rattle.fz_names.proofs.of_meaning.NamedKinds.{name_fits}
-use Rattle.fz_names.proofs.of_meaning.Scope.{literal_is_of}
+use Rattle.fz_names.proofs.of_meaning.Scope.{literal_is_of, variables_are}
 use Rattle.fz_data.specs.Kinds.{PlaceFits, PostedFits}
 use Rattle.fz_names.specs.of_meaning.View.{Tells}
 use Rattle.fz_names.proofs.of_meaning.KnownNames.{next_number, number_here}
@@ -20,16 +19,14 @@ use Rattle.fz_data.specs.declared.scope.Scope.{Scope}
 use Rattle.fz_data.specs.declared.store.Store.{Store}
 use Rattle.fz_data.specs.Parts.{posted_view, kept_row, goal_view, declared_point}
 use Rattle.fz_data.specs.Layout.{model_view, named_place, IsLaidOut, IsPlaced}
-use Rattle.fz_data.specs.Scope.{posted_in, aim_in, faults_in, constraint_fault_in}
+use Rattle.fz_data.specs.Scope.{constraint_fault_in, kinds_in, place_in}
 use Rattle.fz_data.specs.Posting.{Posts}
-use Rattle.fz_data.specs.Stands.{Declares, StandsFor, entry_view, entry_place, is_kept, declared_pair}
+use Rattle.fz_data.specs.Stands.{Declares, StandsFor, entry_view, is_kept, declared_pair}
 use Rattle.fz_names.proofs.of_meaning.ScanSteps.{in_constraints, in_goal, nowhere}
-use Rattle.fz_data.proofs.Finds.{first_some-same}
 use Rattle.fz_data.proofs.Grown.{longer_none}
 use Rattle.fz_data.proofs.OwnKinds.{HasKind, HasOwnKind, own_kinds, posted_fit}
 use Rattle.fz_data.proofs.Tells.{tells_further}
-use Rattle.fz_data.proofs.Stands.{variables_known}
-use Rattle.fz_data.proofs.Knows.{faults_same, constraint_same, all_posted_same, aim_same}
+use Rattle.fz_data.proofs.Knows.{knows, places_now, same_kinds}
 
 -- ---- names
 
@@ -49,10 +46,6 @@ module _ (all : List Decl) (s : Scope) (st : StandsFor all all s) where
       ≡ map (declared_of all) all
   declared_now = (λ i. map (entry_view (sym (append-nil s.variables.items) i) (sym (append-nil s.arrays.items) i)) s.names) ∙ st.declared [] []
 
-  pairs_now : map (entry_place s.variables.items s.arrays.items) s.names
-      ≡ map (declared_pair all) all
-  pairs_now = (λ i. map (entry_place (sym (append-nil s.variables.items) i) (sym (append-nil s.arrays.items) i)) s.names) ∙ st.places [] []
-
   points_now : map (declared_point s.variables.items s.arrays.items) s.points.items
       ≡ flat_map declared_points (numbered_from 0 (map (declared_of all) all))
   points_now = (λ i. map (declared_point (sym (append-nil s.variables.items) i) (sym (append-nil s.arrays.items) i)) s.points.items) ∙ st.points [] []
@@ -69,32 +62,28 @@ module _ (all : List Decl) (s : Scope) (st : StandsFor all all s) where
 
 module _ (t : LocatedTree) (s : Scope) (held : Store) (cs : Vec the_posted.Posted Global) (g : the_goal.Goal) (st : StandsFor t.decls t.decls s) (clean : decls_fault [] t.decls ≡ None)
     (posted : map (posted_view s.variables.items s.arrays.items held) cs.items
-    ≡ map (posted_in s) t.constraints)
-    (sound : faults_in s (Some IntKind) (goal_parts t.solve.goal) ≡ None) (aim : goal_view g ≡ aim_in s t.solve.goal) where
+    ≡ map (posted_of (place_in s)) t.constraints)
+    (aim : goal_view g ≡ aim_of (place_in s) t.solve.goal) where
   abbrev pub fields : Inside
   fields = record { names = s.names; variables = s.variables; arrays = s.arrays; points = s.points; constraints = cs; goal = g; store = held }
 
   new : AreNew [] t.decls
   new = are_new [] t.decls clean
 
-  aim_is : goal_view g ≡ aim_of t.decls t.solve.goal
-  aim_is = aim ∙ aim_same t.decls t.decls s st [] (sym (append-nil t.decls)) t.solve.goal (sym (faults_same t.decls t.decls s st (Some IntKind) (goal_parts t.solve.goal)) ∙ sound)
-
-  posted_is : map (posted_view s.variables.items s.arrays.items held) cs.items
-      ≡ map (posted_of t.decls) t.constraints
-  posted_is = posted ∙ all_posted_same t.decls s st new t.constraints
+  same : place_in s ≡ places t.decls
+  same = λ i x. knows t.decls t.decls s st x i
 
   pub model_is : model_view fields ≡ model_of t
-  model_is = λ i. record { declared = declared_now t.decls s st i; constraints = posted_is i; aim = aim_is i }
+  model_is = λ i. record { declared = declared_now t.decls s st i; constraints = (posted ∙ ap (λ at. map (posted_of at) t.constraints) same) i; aim = (aim ∙ ap (λ at. aim_of at t.solve.goal) same) i }
 
   own : AllByRecursion HasOwnKind t.decls
-  own = own_kinds t.decls s.variables.items s.arrays.items s.names t.decls (pairs_now t.decls s st)
+  own = own_kinds t.decls s.variables.items s.arrays.items s.names t.decls (places_now t.decls t.decls s st)
 
-  pub laid_out : map kept_row cs.items ≡ map row_of (map (posted_in s) t.constraints)
+  pub laid_out : map kept_row cs.items ≡ map row_of (map (posted_of (place_in s)) t.constraints)
       → IsLaidOut fields
   laid_out rows = record {
-    variables = ap (flat_map variable_of) (declared_now t.decls s st) ∙ variables_known t.decls t.decls ∙ sym st.variables;
-    places = ap (λ qs. map named_place (numbered_from 0 qs)) (declared_now t.decls s st) ∙ ap (map named_place) (numbered_is t) ∙ named_pairs t.decls [] t.decls refl new ∙ sym (pairs_now t.decls s st);
+    variables = ap (flat_map variable_of) (declared_now t.decls s st) ∙ variables_are t.decls t.decls ∙ sym st.variables;
+    places = ap (λ qs. map named_place (numbered_from 0 qs)) (declared_now t.decls s st) ∙ ap (map named_place) (numbered_is t) ∙ named_pairs t.decls [] t.decls refl new ∙ sym (places_now t.decls t.decls s st);
     points = ap (λ qs. flat_map declared_points (numbered_from 0 qs)) (declared_now t.decls s st) ∙ sym (points_now t.decls s st);
     placed = placed_now t.decls s st;
     kept = kept_now t.decls s st;
@@ -107,11 +96,11 @@ module _ (t : LocatedTree) (s : Scope) (held : Store) (cs : Vec the_posted.Poste
 
 module _ (t : LocatedTree) (s : Scope) (st : StandsFor t.decls t.decls s) (clean : decls_fault [] t.decls ≡ None) where
   constraints_same : first_some (constraint_fault_in s) t.constraints
-      ≡ constraints_fault t.decls t.constraints
-  constraints_same = first_some-same (constraint_fault_in s) (constraint_fault t.decls) (constraint_same t.decls t.decls s st) t.constraints
+      ≡ constraints_fault (kinds t.decls) t.constraints
+  constraints_same = ap (λ at. constraints_fault at t.constraints) (same_kinds t.decls t.decls s st)
 
-  goal_same : faults_in s (Some IntKind) (goal_parts t.solve.goal) ≡ goal_fault t.decls t.solve.goal
-  goal_same = faults_same t.decls t.decls s st (Some IntKind) (goal_parts t.solve.goal)
+  goal_same : goal_fault (kinds_in s) t.solve.goal ≡ goal_fault (kinds t.decls) t.solve.goal
+  goal_same = ap (λ at. goal_fault at t.solve.goal) (same_kinds t.decls t.decls s st)
 
   pub told_in_constraints : (e : ModelError)
       → Tells e (first_some (constraint_fault_in s) t.constraints) → Tells e (first_fault t)
@@ -119,10 +108,10 @@ module _ (t : LocatedTree) (s : Scope) (st : StandsFor t.decls t.decls s) (clean
 
   module _ (known : first_some (constraint_fault_in s) t.constraints ≡ None) where
     pub told_in_goal : (e : ModelError)
-        → Tells e (faults_in s (Some IntKind) (goal_parts t.solve.goal)) → Tells e (first_fault t)
+        → Tells e (goal_fault (kinds_in s) t.solve.goal) → Tells e (first_fault t)
     told_in_goal e h = tells_further e _ (first_fault t) (λ y here. in_goal t y clean (sym constraints_same ∙ known) (sym goal_same ∙ here)) h
 
-    pub none_anywhere : faults_in s (Some IntKind) (goal_parts t.solve.goal) ≡ None
+    pub none_anywhere : goal_fault (kinds_in s) t.solve.goal ≡ None
         → first_fault t ≡ None
     none_anywhere sound = nowhere t clean (sym constraints_same ∙ known) (sym goal_same ∙ sound)
 
@@ -134,19 +123,19 @@ module _ (t : LocatedTree) (s : Scope) (declares : Declares t.decls s) where
 
   module _ (held : Store) (cs : Vec the_posted.Posted Global) (posts : Posts s t.constraints held cs.items) where
     pub goal_told : (e : ModelError)
-        → Tells e (faults_in s (Some IntKind) (goal_parts t.solve.goal)) → Tells e (first_fault t)
+        → Tells e (goal_fault (kinds_in s) t.solve.goal) → Tells e (first_fault t)
     goal_told = told_in_goal t s all_stand declares.clean posts.clean
 
-    module _ (g : the_goal.Goal) (sound : faults_in s (Some IntKind) (goal_parts t.solve.goal) ≡ None) (aim : goal_view g ≡ aim_in s t.solve.goal) where
+    module _ (g : the_goal.Goal) (sound : goal_fault (kinds_in s) t.solve.goal ≡ None) (aim : goal_view g ≡ aim_of (place_in s) t.solve.goal) where
       pub posted_now : map (posted_view s.variables.items s.arrays.items held) cs.items
-          ≡ map (posted_in s) t.constraints
+          ≡ map (posted_of (place_in s)) t.constraints
       posted_now = posts.views held (longer_none held)
 
-      pub all_laid_out : IsLaidOut (fields t s held cs g all_stand declares.clean posted_now sound aim)
-      all_laid_out = laid_out t s held cs g all_stand declares.clean posted_now sound aim posts.rows
+      pub all_laid_out : IsLaidOut (fields t s held cs g all_stand declares.clean posted_now aim)
+      all_laid_out = laid_out t s held cs g all_stand declares.clean posted_now aim posts.rows
 
-      pub loaded_model : model_view (fields t s held cs g all_stand declares.clean posted_now sound aim) ≡ model_of t
-      loaded_model = model_is t s held cs g all_stand declares.clean posted_now sound aim
+      pub loaded_model : model_view (fields t s held cs g all_stand declares.clean posted_now aim) ≡ model_of t
+      loaded_model = model_is t s held cs g all_stand declares.clean posted_now aim
 
       pub no_fault_told : first_fault t ≡ None
       no_fault_told = none_anywhere t s all_stand declares.clean posts.clean sound

@@ -1,5 +1,5 @@
 -- Loops over parts of the tree: what was found so far, and the first answer.
-use Rattle.std.proofs.Common.{◌≡◌, ℕ, ◌+◌, ◌<◌, ◌≤◌, true, false, cond, List, [], ◌∷◌, ◌++◌, map, length, take, get_or, Option, Some, None, is_some, refl, sym, ap, subst, ◌∙◌, arith}
+use Rattle.std.proofs.Common.{◌≡◌, ℕ, ◌+◌, ◌<◌, ◌≤◌, true, false, cond, List, [], ◌∷◌, ◌++◌, map, length, take, get_or, Option, Some, None, option_map, is_some, refl, sym, ap, subst, ◌∙◌, arith}
 use Rattle.std.specs.List.{AllByRecursion}
 use Rattle.std.specs.Map.{lookup}
 use Rattle.std.proofs.lemmas.List.{map-append}
@@ -10,12 +10,18 @@ use Rattle.fz_names.specs.Naming.{has_text}
 use Rattle.fz_tree.specs.Tree as tree
 use Rattle.fz_tree.specs.View.{arg_list, bare_arg}
 use Rattle.fz_tree.specs.declared.tree.NoteArg.{NoteArg}
-use Rattle.fz_data.specs.Scope.{only_arg}
+use Rattle.fz_names.specs.of_meaning.Names.{only_arg}
 
 pub two_more : {A B C : Type 0} (f : B → C) (g : A → B) (xs : List A) (i : ℕ) (x : A)
     → i < length xs → x ≡ get_or xs i x
     → map f (map g (take (i + 1) xs)) ≡ map f (map g (take i xs)) ++ f (g x) ∷ []
 two_more f g xs i x lt at = ap (map f) (take_one_more g xs i x lt at) ∙ map-append f (map g (take i xs)) (g x ∷ [])
+
+-- a name has a kind where it is declared
+pub has_kind : {A B C : Type 0} (f : B → C) (g : A → B) (o : Option A)
+    → is_some (option_map f (option_map g o)) ≡ is_some o
+has_kind f g None = refl
+has_kind f g (Some x) = refl
 
 -- the first answer
 some_answer : {A : Type 0} (o : Option A) → is_some o ≡ true → (y : A) × (o ≡ Some y)

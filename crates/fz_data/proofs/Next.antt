@@ -1,37 +1,37 @@
 -- One more declaration.
-use Rattle.std.proofs.Common.{◌≡◌, ℕ, true, cond, List, [], ◌∷◌, ◌++◌, length, Option, Some, None, is_some, is_none, refl, sym, ap, ◌∙◌}
+use Rattle.std.proofs.Common.{◌≡◌, ℕ, true, cond, List, [], ◌∷◌, ◌++◌, length, Option, Some, None, is_some, is_none, option_map, refl, sym, ap, ◌∙◌}
 use Rattle.std.specs.Map.{lookup}
 use Rattle.std.proofs.lemmas.List.{length-map}
 use Rattle.fz_names.specs.of_meaning.Located.{Decl}
-use Rattle.fz_names.specs.of_meaning.Names.{parts, kind_of_base, differs_in_length, variable_declared, scalar_variables, Fault, decl_fault}
-use Rattle.fz_names.specs.of_meaning.Names.FaultKind.{DuplicateName, WrongLength}
-use Rattle.fz_names.proofs.of_meaning.KnownNames.{parts_clean, next_number}
-use Rattle.fz_names.proofs.of_meaning.ScanSteps.{is_new, first_none}
+use Rattle.fz_names.specs.of_meaning.Names.{parts, kind_of_base, variable_declared, scalar_variables, Fault, name_fault, fault_at_decl, decl_fault}
+use Rattle.fz_names.proofs.of_meaning.KnownNames.{is_new, parts_clean, next_number}
+use Rattle.fz_names.proofs.of_meaning.ScanSteps.{first_none}
 use Rattle.fz_data.specs.declared.scope.Item.{Item}
 use Rattle.fz_data.specs.declared.scope.Item.TheVariants as items
 use Rattle.fz_data.specs.declared.scope.Scope.{Scope}
 use Rattle.fz_data.specs.Parts.{variable_view}
+use Rattle.fz_data.specs.Declarations.{declared_place}
 use Rattle.fz_names.specs.Naming.{has_text}
-use Rattle.fz_data.specs.Scope.{IsNewName, IsAdded, IsItem, name_fault_in, decl_fault_in, faults_in, kept_with, new_variables, new_arrays, new_points}
+use Rattle.fz_data.specs.Scope.{IsNewName, IsAdded, IsItem, place_kind, kinds_in, kept_with, new_variables, new_arrays, new_points}
 use Rattle.fz_data.specs.Stands.{StandsFor}
 use Rattle.fz_data.proofs.Stands.{Adds, stands_more}
 use Rattle.fz_data.proofs.Added.{adds_parameter, adds_variable, adds_array}
-use Rattle.fz_data.proofs.Knows.{decl_same, terms_same, definition_same}
+use Rattle.fz_data.proofs.Knows.{same_kinds, terms_same, definition_same}
 
 -- a declaration without a fault has a new name
-not_some : {A : Type 0} (o : Option A) (f : Fault) (g : Option Fault)
-    → cond (is_some o) (Some f) g ≡ None → is_none o ≡ true
-not_some None f g e = refl
-not_some (Some x) f g e = cc
+not_some : {A B C : Type 0} (h : B → C) (k : A → B) (o : Option A) (f : Fault) (g : Option Fault)
+    → cond (is_some (option_map h (option_map k o))) (Some f) g ≡ None → is_none o ≡ true
+not_some h k None f g e = refl
+not_some h k (Some x) f g e = cc
 
-pub new_name : (s : Scope) (d : Decl) → decl_fault_in s d ≡ None → IsNewName s d.name.text
+pub new_name : (s : Scope) (d : Decl) → fault_at_decl (kinds_in s) d ≡ None
+    → IsNewName s d.name.text
 new_name s d e =
-    not_some (lookup (has_text d.name.text) s.names) (DuplicateName, d.name.span) (cond (differs_in_length d) (Some (WrongLength, d.name.span)) None)
-    (first_none (name_fault_in s d) (faults_in s (Some (kind_of_base d.base)) (parts d.value)) e)
+    not_some place_kind (declared_place s.variables.items s.arrays.items) (lookup (has_text d.name.text) s.names) _ _ (first_none (name_fault (kinds_in s) d) _ e)
 
-module _ (all known rest : List Decl) (d : Decl) (split : all ≡ known ++ d ∷ rest) (s : Scope) (st : StandsFor all known s) (clean : decl_fault_in s d ≡ None) (k : List ℕ) (named : k ≡ d.name.text) where
+module _ (all known rest : List Decl) (d : Decl) (split : all ≡ known ++ d ∷ rest) (s : Scope) (st : StandsFor all known s) (clean : fault_at_decl (kinds_in s) d ≡ None) (k : List ℕ) (named : k ≡ d.name.text) where
   clean_here : decl_fault known d ≡ None
-  clean_here = sym (decl_same all known s st d) ∙ clean
+  clean_here = ap (λ at. fault_at_decl at d) (sym (same_kinds all known s st)) ∙ clean
 
   count : length s.variables.items ≡ next_number known
   count = sym (length-map s.variables.items variable_view) ∙ ap length st.variables ∙ length-map (scalar_variables known) variable_declared

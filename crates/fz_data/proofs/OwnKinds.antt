@@ -1,6 +1,6 @@
 -- In the model of a tree without faults, whose scalar parameters have values of their kinds, each
 -- scalar that a name stands for or that is in a constraint has the kind that it is read with.
-use Rattle.std.proofs.Common.{◌≡◌, cond, List, [], ◌∷◌, map, Option, Some, None, slice_get, refl, sym, ap, ◌∙◌}
+use Rattle.std.proofs.Common.{◌≡◌, cond, List, [], ◌∷◌, map, Option, Some, None, option_map, slice_get, refl, sym, ap, ◌∙◌}
 use Rattle.std.specs.List.{AllByRecursion}
 use Rattle.std.specs.Option.{option_map_or}
 use Rattle.fz_base.specs.declared.value.Value.{Value}
@@ -12,7 +12,7 @@ use Rattle.fz_names.specs.of_meaning.Located.{Basic, Constraint, Decl, Expr, Loc
 use Rattle.fz_names.specs.of_meaning.Located.Basic.{Lit, Named}
 use Rattle.fz_names.specs.of_meaning.Located.Expr.{One, Several}
 use Rattle.fz_names.specs.of_meaning.Meaning.Place.{Array}
-use Rattle.fz_names.specs.of_meaning.Names.{argument_of, declaration, literal_of, model_of, number_of, place_of, place_of_declared, posted_of, decls_fault}
+use Rattle.fz_names.specs.of_meaning.Names.{argument_of, declaration, literal_of, model_of, number_of, place_of, place_of_declared, places, posted_of, decls_fault}
 use Rattle.fz_names.proofs.of_meaning.NamedKinds.{ParameterIs, declared_fits}
 use Rattle.fz_names.proofs.of_meaning.Scope.{literal_is_of}
 use Rattle.fz_names.proofs.of_meaning.Values.{no}
@@ -66,31 +66,31 @@ module _ (all : List Decl) (vs : List Variable) (xs : List the_array.Array) wher
 -- ---- the scalars of a tree's constraints
 
 module _ (t : LocatedTree) (clean : decls_fault [] t.decls ≡ None) (own : AllByRecursion HasOwnKind t.decls) where
-  part_fits : (b : Basic) → PlaceFits (model_of t) (place_of t.decls b)
+  part_fits : (b : Basic) → PlaceFits (model_of t) (place_of (places t.decls) b)
   part_fits (Lit l) = refl
   part_fits (Named x) = by_declaration (declaration t.decls x.text) refl
     where
       by_declaration : (o : Option Decl) → declaration t.decls x.text ≡ o
-          → PlaceFits (model_of t) (option_map_or (place_of_declared t.decls) o
-          (Array x.text IntKind []))
+          → PlaceFits (model_of t)
+          (option_map_or (λ p. p) (option_map (place_of_declared t.decls) o) (Array x.text IntKind []))
       by_declaration None found = tt
       by_declaration (Some d) found = declared_fits HasKind t clean literal_is_of own x.text d found
 
   parts_fit : (bs : List Basic) → AllByRecursion (PlaceFits (model_of t))
-      (map (place_of t.decls) bs)
+      (map (place_of (places t.decls)) bs)
   parts_fit [] = tt
   parts_fit (b ∷ bs) = (part_fits b, parts_fit bs)
 
-  argument_fits : (e : Expr) → ArgumentFits (model_of t) (argument_of t.decls e)
+  argument_fits : (e : Expr) → ArgumentFits (model_of t) (argument_of (places t.decls) e)
   argument_fits (One b) = part_fits b
   argument_fits (Several bs) = parts_fit bs
 
   arguments_fit : (es : List Expr)
-      → AllByRecursion (ArgumentFits (model_of t)) (map (argument_of t.decls) es)
+      → AllByRecursion (ArgumentFits (model_of t)) (map (argument_of (places t.decls)) es)
   arguments_fit [] = tt
   arguments_fit (e ∷ es) = (argument_fits e, arguments_fit es)
 
   pub posted_fit : (cs : List Constraint)
-      → AllByRecursion (PostedFits (model_of t)) (map (posted_of t.decls) cs)
+      → AllByRecursion (PostedFits (model_of t)) (map (posted_of (places t.decls)) cs)
   posted_fit [] = tt
   posted_fit (c ∷ cs) = (arguments_fit c.args, posted_fit cs)

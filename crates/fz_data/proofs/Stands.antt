@@ -1,18 +1,18 @@
 -- What was declared so far stands for the declarations that were read, whatever more variables and
 -- arrays come.
-use Rattle.std.proofs.Common.{◌≡◌, ℕ, suc, ◌+◌, Bool, true, false, cond, ◌&&◌, List, [], ◌∷◌, ◌++◌, map, length, refl, sym, ap, subst, ◌∙◌, flat_map, append_assoc, arith}
+use Rattle.std.proofs.Common.{◌≡◌, ℕ, suc, ◌+◌, cond, List, [], ◌∷◌, ◌++◌, map, length, refl, sym, ap, subst, ◌∙◌, flat_map, append_assoc, arith}
 use Rattle.std.specs.List.{AllByRecursion}
 use Rattle.std.proofs.lemmas.List.{map-append, append-nil, length-map}
 use Rattle.std.proofs.lemmas.Grind.{flat_map-append}
 use Rattle.fz_names.specs.of_meaning.Located.{Decl}
 use Rattle.fz_names.specs.of_meaning.Meaning as meaning
 use Rattle.fz_names.specs.of_meaning.Meaning.{declared_points, numbered_from, variable_of}
-use Rattle.fz_names.specs.of_meaning.Meaning.Place.{Array}
 use Rattle.fz_names.specs.of_meaning.Meaning.Declared.{Parameter, ScalarVariable, ArrayOfVariables}
-use Rattle.fz_names.specs.of_meaning.Names.{parts, kind_of_base, domain_of, is_scalar, is_scalar_variable, scalar_variables, term_of, place_of_declared, definition_of, declared_of, variable_declared}
+use Rattle.fz_names.specs.of_meaning.Names.{is_scalar_variable, scalar_variables, declared_of, variable_declared}
 use Rattle.fz_names.proofs.of_meaning.Lists.{all_append}
 use Rattle.fz_names.proofs.of_meaning.KnownNames.{next_number, scalars_more}
 use Rattle.fz_names.proofs.of_meaning.Names.{numbered_decl}
+use Rattle.fz_names.proofs.of_meaning.Scope.{variables_are}
 use Rattle.fz_data.specs.declared.parts.Array as the_array
 use Rattle.fz_data.specs.declared.parts.DeclaredPoint.{DeclaredPoint}
 use Rattle.fz_data.specs.declared.parts.Variable.{Variable}
@@ -22,28 +22,9 @@ use Rattle.fz_data.specs.Stands.{Entry, entry_view, entry_place, is_kept, declar
 
 -- ---- numbers
 
--- the scalar variables of declarations
-variable_one : (all : List Decl) (d : Decl) → variable_of (declared_of all d)
-    ≡ map variable_declared (cond (is_scalar_variable d) (d ∷ []) [])
-variable_one all d =
-    elim d.is_var as (λ b. variable_of (cond b (cond (is_scalar d) (ScalarVariable (variable_declared d) (definition_of all d.value)) (ArrayOfVariables d.name.text (kind_of_base d.base) (domain_of d.base) (map (term_of all) (parts d.value)))) (Parameter d.name.text (place_of_declared all d))) ≡ map variable_declared (cond (b && is_scalar d) (d ∷ []) [])) [
-      | false ↦ refl
-      | true ↦ elim (is_scalar d) as (λ c. variable_of (cond c (ScalarVariable (variable_declared d) (definition_of all d.value)) (ArrayOfVariables d.name.text (kind_of_base d.base) (domain_of d.base) (map (term_of all) (parts d.value)))) ≡ map variable_declared (cond c (d ∷ []) [])) [ true ↦ refl | false ↦ refl ]
-    ]
-
-one_in_front : (b : Bool) (d : Decl) (ds : List Decl) → map variable_declared (cond b (d ∷ []) [])
-    ++ map variable_declared ds ≡ map variable_declared (cond b (d ∷ ds) ds)
-one_in_front true d ds = refl
-one_in_front false d ds = refl
-
-pub variables_known : (all ds : List Decl)
-    → flat_map variable_of (map (declared_of all) ds) ≡ map variable_declared (scalar_variables ds)
-variables_known all [] = refl
-variables_known all (d ∷ ds) = (λ i. variable_one all d i ++ variables_known all ds i) ∙ one_in_front (is_scalar_variable d) d (scalar_variables ds)
-
 how_many_known : (all ds : List Decl)
     → length (flat_map variable_of (map (declared_of all) ds)) ≡ next_number ds
-how_many_known all ds = ap length (variables_known all ds) ∙ length-map (scalar_variables ds) variable_declared
+how_many_known all ds = ap length (variables_are all ds) ∙ length-map (scalar_variables ds) variable_declared
 
 -- one more declaration has the number of the scalar variables before it
 numbered_push : (n : ℕ) (qs : List meaning.Declared) (q : meaning.Declared)

@@ -11,7 +11,8 @@ use Rattle.fz_data.specs.declared.store.Argument.{Argument}
 use Rattle.fz_data.specs.declared.store.Store.{Store}
 use Rattle.fz_data.specs.declared.parts.Posted.{Posted}
 use Rattle.fz_data.specs.declared.scope.Scope.{Scope}
-use Rattle.fz_data.specs.Scope.{constraint_fault_in, posted_in}
+use Rattle.fz_names.specs.of_meaning.Names.{posted_of}
+use Rattle.fz_data.specs.Scope.{constraint_fault_in, place_in}
 use Rattle.fz_data.specs.Slots.{IsGrown, segment}
 use Rattle.fz_data.specs.Parts.{place_view, argument_view, posted_view, kept_row}
 
@@ -49,5 +50,6 @@ pub record Posts (s : Scope) (known : List Constraint) (store : Store)
     (found : List Posted) : Type 0 where
   pub clean : first_some (constraint_fault_in s) known ≡ None
   pub views : (later : Store) → IsLonger store later
-      → map (posted_view s.variables.items s.arrays.items later) found ≡ map (posted_in s) known
-  pub rows : map kept_row found ≡ map row_of (map (posted_in s) known)
+      → map (posted_view s.variables.items s.arrays.items later) found
+      ≡ map (posted_of (place_in s)) known
+  pub rows : map kept_row found ≡ map row_of (map (posted_of (place_in s)) known)

@@ -40,9 +40,6 @@ pub record IsNameFaultWithin (limits : Limits) (source : List ℕ) (e : ModelErr
   pub text : IsTextOfAllWithin limits source all
   pub tells : Tells e (first_fault (located_all all))
 
-abbrev pub IsNameFault : List ℕ → ModelError → Type 0
-IsNameFault = IsNameFaultWithin standard_limits
-
 -- ---- only private functions use these
 
 -- These items are left of a text, and a refusal tells the first fault of the tree of all its items.

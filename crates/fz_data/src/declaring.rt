@@ -2,11 +2,11 @@
 
 ghost use Rattle.std.specs.Prelude.{◌≡◌, IfErr, IfOk, None, Some, map, true};
 ghost use Rattle.fz_names.specs.of_meaning.Relations.{kind_of, same_kind};
-ghost use Rattle.fz_names.specs.of_meaning.Names.{differs_in_length, kind_of_base, literal_of, parts, variable_declared};
+ghost use Rattle.fz_names.specs.of_meaning.Names.{definition_of, differs_in_length, fault_at_decl, literal_of, name_fault, part_fault, parts, parts_fault, variable_declared};
 ghost use Rattle.fz_names.specs.of_meaning.Located.Expr.{One};
 ghost use Rattle.fz_data.specs.Parts.{variable_view};
 ghost use Rattle.fz_names.specs.of_meaning.View.{Tells, located_basic, located_decl, located_expr, located_value};
-ghost use Rattle.fz_data.specs.Scope.{HasKinds, IsArrayOf, IsItem, decl_fault_in, definition_in, fault_in, faults_in, name_fault_in};
+ghost use Rattle.fz_data.specs.Scope.{HasKinds, IsArrayOf, IsItem, kinds_in, place_in, value_fault_in};
 ghost use Rattle.fz_data.specs.declared.scope.Scope.{Scope};
 
 use crate::parts::{Array, Variable};
@@ -49,9 +49,12 @@ fn is_of_another_length(decl: &Decl<'_>) -> bool
 }
 
 /// Refuses a name that is declared already, and an array of another length.
+#[tactic(auto, using(crate::proofs::Loops::has_kind))]
 fn check_name(scope: &Scope<'_>, decl: &Decl<'_>) -> Result<(), ModelError>
-    ensures clean { IfOk result (λ _. name_fault_in scope.now (located_decl decl.now) ≡ None) }
-    ensures tells { IfErr result (λ e. Tells e (name_fault_in scope.now (located_decl decl.now))) }
+    ensures clean { IfOk result (λ _. name_fault (kinds_in scope.now) (located_decl decl.now) ≡
+        None) }
+    ensures tells { IfErr result (λ e. Tells e
+        (name_fault (kinds_in scope.now) (located_decl decl.now))) }
 {
     if scope.names.contains(decl.name.text) {
         return Err(ModelError::DuplicateName(decl.name.span));
@@ -70,11 +73,12 @@ fn definition_of(
     value: &Option<Expr<'_>>,
 ) -> Result<Option<Term>, ModelError>
     requires kinds { HasKinds scope.now }
-    ensures clean { IfOk result (λ _. faults_in scope.now (Some kind)
+    ensures clean { IfOk result (λ _. parts_fault (kinds_in scope.now) (Some kind)
         (parts (located_value value.now)) ≡ None) }
-    ensures term { IfOk result (λ t. t ≡ definition_in scope.now (located_value value.now)) }
+    ensures term { IfOk result (λ t. t ≡ definition_of (place_in scope.now)
+        (located_value value.now)) }
     ensures tells { IfErr result (λ e. Tells e
-        (faults_in scope.now (Some kind) (parts (located_value value.now)))) }
+        (parts_fault (kinds_in scope.now) (Some kind) (parts (located_value value.now)))) }
 {
     match value {
         None => Ok(None),
@@ -90,12 +94,13 @@ fn expression_definition(
     expression: &Expr<'_>,
 ) -> Result<Option<Term>, ModelError>
     requires kinds { HasKinds scope.now }
-    ensures clean { IfOk result (λ _. faults_in scope.now (Some kind)
+    ensures clean { IfOk result (λ _. parts_fault (kinds_in scope.now) (Some kind)
         (parts (Some (located_expr expression.now))) ≡ None) }
     ensures term { IfOk result (λ t. t
-        ≡ definition_in scope.now (Some (located_expr expression.now))) }
+        ≡ definition_of (place_in scope.now) (Some (located_expr expression.now))) }
     ensures tells { IfErr result (λ e. Tells e
-        (faults_in scope.now (Some kind) (parts (Some (located_expr expression.now))))) }
+        (parts_fault (kinds_in scope.now) (Some kind)
+        (parts (Some (located_expr expression.now))))) }
 {
     match expression {
         Expr::One(part) => {
@@ -112,11 +117,11 @@ fn expression_definition(
 /// The value of a basic expression that is a literal of the kind.
 fn part_value(alloc: Global, kind: Kind, part: &Basic<'_>) -> Result<Value, ModelError>
     ensures clean { IfOk result (λ _. (s : Scope)
-        → fault_in s (Some kind) (located_basic part.now) ≡ None) }
+        → part_fault (kinds_in s) (Some kind) (located_basic part.now) ≡ None) }
     ensures value { IfOk result (λ v. v ≡ literal_of (Some (One (located_basic part.now)))) }
     ensures of_kind { IfOk result (λ v. same_kind (kind_of v) kind ≡ true) }
     ensures tells { IfErr result (λ e. (s : Scope)
-        → Tells e (fault_in s (Some kind) (located_basic part.now))) }
+        → Tells e (part_fault (kinds_in s) (Some kind) (located_basic part.now))) }
 {
     match part {
         Basic::Lit(literal) => {
@@ -133,11 +138,11 @@ fn part_value(alloc: Global, kind: Kind, part: &Basic<'_>) -> Result<Value, Mode
 /// may have a name or a list there, which has no value: it is refused as where memory runs out.
 fn parameter_value(alloc: Global, kind: Kind, value: &Option<Expr<'_>>) -> Result<Value, ModelError>
     ensures clean { IfOk result (λ _. (s : Scope)
-        → faults_in s (Some kind) (parts (located_value value.now)) ≡ None) }
+        → parts_fault (kinds_in s) (Some kind) (parts (located_value value.now)) ≡ None) }
     ensures value { IfOk result (λ v. v ≡ literal_of (located_value value.now)) }
     ensures of_kind { IfOk result (λ v. same_kind (kind_of v) kind ≡ true) }
     ensures tells { IfErr result (λ e. (s : Scope)
-        → Tells e (faults_in s (Some kind) (parts (located_value value.now)))) }
+        → Tells e (parts_fault (kinds_in s) (Some kind) (parts (located_value value.now)))) }
 {
     match value {
         Some(expression) => expression_value(alloc, kind, expression),
@@ -147,11 +152,13 @@ fn parameter_value(alloc: Global, kind: Kind, value: &Option<Expr<'_>>) -> Resul
 
 fn expression_value(alloc: Global, kind: Kind, expression: &Expr<'_>) -> Result<Value, ModelError>
     ensures clean { IfOk result (λ _. (s : Scope)
-        → faults_in s (Some kind) (parts (Some (located_expr expression.now))) ≡ None) }
+        → parts_fault (kinds_in s) (Some kind) (parts (Some (located_expr expression.now)))
+        ≡ None) }
     ensures value { IfOk result (λ v. v ≡ literal_of (Some (located_expr expression.now))) }
     ensures of_kind { IfOk result (λ v. same_kind (kind_of v) kind ≡ true) }
     ensures tells { IfErr result (λ e. (s : Scope)
-        → Tells e (faults_in s (Some kind) (parts (Some (located_expr expression.now))))) }
+        → Tells e (parts_fault (kinds_in s) (Some kind)
+        (parts (Some (located_expr expression.now))))) }
 {
     match expression {
         Expr::One(part) => {
@@ -165,12 +172,9 @@ fn expression_value(alloc: Global, kind: Kind, expression: &Expr<'_>) -> Result<
 /// A declared array.
 fn array_of<'a>(alloc: Global, scope: &Scope<'a>, decl: &Decl<'a>) -> Result<Array<'a>, ModelError>
     requires kinds { HasKinds scope.now }
-    ensures clean { IfOk result (λ _. faults_in scope.now
-        (Some (kind_of_base (located_decl decl.now).base)) (parts (located_decl decl.now).value)
-        ≡ None) }
+    ensures clean { IfOk result (λ _. value_fault_in scope.now (located_decl decl.now) ≡ None) }
     ensures array { IfOk result (λ x. IsArrayOf scope.now (located_decl decl.now) x) }
-    ensures tells { IfErr result (λ e. Tells e (faults_in scope.now
-        (Some (kind_of_base (located_decl decl.now).base)) (parts (located_decl decl.now).value))) }
+    ensures tells { IfErr result (λ e. Tells e (value_fault_in scope.now (located_decl decl.now))) }
 {
     let kind = base_kind(&decl.base);
     let elements = scalars_of(alloc, scope, kind, value_parts(&decl.value))?;
@@ -191,15 +195,12 @@ fn variable_of<'a>(
     decl: &Decl<'a>,
 ) -> Result<Variable<'a>, ModelError>
     requires kinds { HasKinds scope.now }
-    ensures clean { IfOk result (λ _. faults_in scope.now
-        (Some (kind_of_base (located_decl decl.now).base)) (parts (located_decl decl.now).value)
-        ≡ None) }
+    ensures clean { IfOk result (λ _. value_fault_in scope.now (located_decl decl.now) ≡ None) }
     ensures variable { IfOk result
         (λ v. variable_view v ≡ variable_declared (located_decl decl.now)) }
     ensures definition { IfOk result
-        (λ v. v.definition ≡ definition_in scope.now (located_decl decl.now).value) }
-    ensures tells { IfErr result (λ e. Tells e (faults_in scope.now
-        (Some (kind_of_base (located_decl decl.now).base)) (parts (located_decl decl.now).value))) }
+        (λ v. v.definition ≡ definition_of (place_in scope.now) (located_decl decl.now).value) }
+    ensures tells { IfErr result (λ e. Tells e (value_fault_in scope.now (located_decl decl.now))) }
 {
     let kind = base_kind(&decl.base);
     let definition = definition_of(alloc, scope, kind, &decl.value)?;
@@ -219,12 +220,9 @@ fn unnamed_item<'a>(
     decl: &Decl<'a>,
 ) -> Result<Item<'a>, ModelError>
     requires kinds { HasKinds scope.now }
-    ensures clean { IfOk result (λ _. faults_in scope.now
-        (Some (kind_of_base (located_decl decl.now).base)) (parts (located_decl decl.now).value)
-        ≡ None) }
+    ensures clean { IfOk result (λ _. value_fault_in scope.now (located_decl decl.now) ≡ None) }
     ensures item { IfOk result (λ x. IsItem scope.now (located_decl decl.now) x) }
-    ensures tells { IfErr result (λ e. Tells e (faults_in scope.now
-        (Some (kind_of_base (located_decl decl.now).base)) (parts (located_decl decl.now).value))) }
+    ensures tells { IfErr result (λ e. Tells e (value_fault_in scope.now (located_decl decl.now))) }
 {
     if decl.length.is_some() {
         let array = array_of(alloc, scope, decl)?;
@@ -246,9 +244,11 @@ pub(crate) fn item_of<'a>(
     decl: &Decl<'a>,
 ) -> Result<Item<'a>, ModelError>
     requires kinds { HasKinds scope.now }
-    ensures clean { IfOk result (λ _. decl_fault_in scope.now (located_decl decl.now) ≡ None) }
+    ensures clean { IfOk result (λ _. fault_at_decl (kinds_in scope.now) (located_decl decl.now) ≡
+        None) }
     ensures item { IfOk result (λ x. IsItem scope.now (located_decl decl.now) x) }
-    ensures tells { IfErr result (λ e. Tells e (decl_fault_in scope.now (located_decl decl.now))) }
+    ensures tells { IfErr result (λ e. Tells e
+        (fault_at_decl (kinds_in scope.now) (located_decl decl.now))) }
 {
     check_name(scope, decl)?;
     let item = unnamed_item(alloc, scope, decl)?;

@@ -1,17 +1,16 @@
 //! Constraints and the goal, with their names looked up.
 
-ghost use Rattle.std.specs.Prelude.{◌≡◌, ◌++◌, ◌∷◌, [], IfErr, IfOk, List, None, OnOk, Some, map, option_map};
+ghost use Rattle.std.specs.Prelude.{◌≡◌, ◌++◌, ◌∷◌, [], IfErr, IfOk, List, None, OnOk, Some, map, option_and_then, option_map};
 ghost use Rattle.fz_names.specs.of_meaning.Located.{Constraint as LocatedConstraint};
-ghost use Rattle.fz_names.specs.of_meaning.declared.kind.Kind.TheVariants.{Int as IntKind};
 ghost use Rattle.fz_names.specs.of_meaning.Located.Basic.{Named};
 ghost use Rattle.fz_names.specs.of_meaning.Meaning.{first_some, row_of};
-ghost use Rattle.fz_names.specs.of_meaning.Names.{goal_parts};
+ghost use Rattle.fz_names.specs.of_meaning.Names.{aim_of, argument_fault, argument_of, bare_name_of, defined_by, goal_fault, inner_of, only_arg, part_fault, parts_fault, place_of, posted_of, variable_at};
 ghost use Rattle.fz_names.specs.of_meaning.View.{Tells, located_basic, located_constraint, located_expr, located_goal, located_name};
 ghost use Rattle.fz_tree.specs.View.{arg_list, bare_arg, bare_basic, bare_note, bare_notes};
 ghost use Rattle.fz_tree.specs.Tree.NoteArg.{OneBasic};
 ghost use Rattle.fz_data.specs.Parts.{goal_view, kept_row, posted_view};
 ghost use Rattle.fz_data.specs.Posting.{AreArgumentsOf, ArePlacesOf, IsArgumentOf, IsLonger, IsPlaceOf, IsPostedOf, Posts};
-ghost use Rattle.fz_data.specs.Scope.{HasKinds, aim_in, argument_fault, argument_in, constraint_fault_in, defined_in, bare_name_of, fault_in, faults_in, inner_of, only_arg, place_in, place_of_part, posted_in, variable_at_term, variable_by_place};
+ghost use Rattle.fz_data.specs.Scope.{HasKinds, constraint_fault_in, kinds_in, place_in};
 ghost use Rattle.fz_data.specs.Slots.{IsGrown};
 
 use crate::parts::{Goal, Posted};
@@ -32,13 +31,14 @@ fn named_slot(
     constants: &mut Vec<Value>,
     name: &Name<'_>,
 ) -> Result<Slot, ModelError>
-    ensures known { IfOk result (λ _. fault_in scope.now None (Named (located_name name.now))
+    ensures known { IfOk result (λ _. part_fault (kinds_in scope.now) None
+        (Named (located_name name.now))
         ≡ None) }
     ensures place { IfOk result (IsPlaceOf scope.now constants.new.items
-        (place_of_part scope.now (Named (located_name name.now)))) }
+        (place_of (place_in scope.now) (Named (located_name name.now)))) }
     ensures grown { OnOk result (IsGrown constants.old.items constants.new.items) }
     ensures tells { IfErr result (λ e. Tells e
-        (fault_in scope.now None (Named (located_name name.now)))) }
+        (part_fault (kinds_in scope.now) None (Named (located_name name.now)))) }
 {
     match scope.names.get(name.text) {
         None => Err(ModelError::UnknownName(name.span)),
@@ -59,11 +59,13 @@ fn place_of(
     constants: &mut Vec<Value>,
     part: &Basic<'_>,
 ) -> Result<Slot, ModelError>
-    ensures known { IfOk result (λ _. fault_in scope.now None (located_basic part.now) ≡ None) }
+    ensures known { IfOk result (λ _. part_fault (kinds_in scope.now) None (located_basic part.now)
+        ≡ None) }
     ensures place { IfOk result (IsPlaceOf scope.now constants.new.items
-        (place_of_part scope.now (located_basic part.now))) }
+        (place_of (place_in scope.now) (located_basic part.now))) }
     ensures grown { OnOk result (IsGrown constants.old.items constants.new.items) }
-    ensures tells { IfErr result (λ e. Tells e (fault_in scope.now None (located_basic part.now))) }
+    ensures tells { IfErr result (λ e. Tells e
+        (part_fault (kinds_in scope.now) None (located_basic part.now))) }
 {
     match part {
         Basic::Lit(literal) => {
@@ -82,14 +84,15 @@ fn places_of(
     store: &mut Store,
     parts: &[Basic<'_>],
 ) -> Result<Segment, ModelError>
-    ensures known { IfOk result (λ _. faults_in scope.now None (map located_basic parts.now)
+    ensures known { IfOk result (λ _. parts_fault (kinds_in scope.now) None
+        (map located_basic parts.now)
         ≡ None) }
     ensures places { IfOk result (ArePlacesOf scope.now store.new
-        (map (place_of_part scope.now) (map located_basic parts.now))) }
+        (map (place_of (place_in scope.now)) (map located_basic parts.now))) }
     ensures longer { OnOk result (IsLonger store.old store.new) }
     ensures kept { OnOk result (store.new.arguments.items ≡ store.old.arguments.items) }
     ensures tells { IfErr result (λ e. Tells e
-        (faults_in scope.now None (map located_basic parts.now))) }
+        (parts_fault (kinds_in scope.now) None (map located_basic parts.now))) }
 {
     let first = narrow(store.slots.len())?;
     let count = narrow(parts.len())?;
@@ -108,13 +111,15 @@ fn argument_of(
     store: &mut Store,
     argument: &Expr<'_>,
 ) -> Result<Argument, ModelError>
-    ensures known { IfOk result (λ _. argument_fault scope.now (located_expr argument.now) ≡ None) }
+    ensures known { IfOk result (λ _. argument_fault (kinds_in scope.now)
+        (located_expr argument.now) ≡ None) }
     ensures argument { IfOk result
-        (IsArgumentOf scope.now store.new (argument_in scope.now (located_expr argument.now))) }
+        (IsArgumentOf scope.now store.new
+        (argument_of (place_in scope.now) (located_expr argument.now))) }
     ensures longer { OnOk result (IsLonger store.old store.new) }
     ensures kept { OnOk result (store.new.arguments.items ≡ store.old.arguments.items) }
     ensures tells { IfErr result (λ e. Tells e
-        (argument_fault scope.now (located_expr argument.now))) }
+        (argument_fault (kinds_in scope.now) (located_expr argument.now))) }
 {
     match argument {
         Expr::One(part) => {
@@ -136,13 +141,13 @@ fn arguments_of(
     store: &mut Store,
     arguments: &[Expr<'_>],
 ) -> Result<Segment, ModelError>
-    ensures known { IfOk result (λ _. first_some (argument_fault scope.now)
+    ensures known { IfOk result (λ _. first_some (argument_fault (kinds_in scope.now))
         (map located_expr arguments.now) ≡ None) }
     ensures arguments { IfOk result (AreArgumentsOf scope.now store.new
-        (map (argument_in scope.now) (map located_expr arguments.now))) }
+        (map (argument_of (place_in scope.now)) (map located_expr arguments.now))) }
     ensures longer { OnOk result (IsLonger store.old store.new) }
     ensures tells { IfErr result (λ e. Tells e
-        (first_some (argument_fault scope.now) (map located_expr arguments.now))) }
+        (first_some (argument_fault (kinds_in scope.now)) (map located_expr arguments.now))) }
 {
     let first = narrow(store.arguments.len())?;
     let count = narrow(arguments.len())?;
@@ -153,22 +158,16 @@ fn arguments_of(
     Ok(Segment { first, count })
 }
 
-fn variable_number(term: &Term) -> Option<usize>
-    ensures { result ≡ variable_at_term term.now }
-{
-    match term {
-        Term::Var(number) => Some(*number),
-        Term::Fixed(_) => None,
-    }
-}
-
 /// The number of the scalar variable of a name.
 fn variable_named(scope: &Scope<'_>, name: &[u8]) -> Option<usize>
-    ensures { result ≡ variable_by_place (place_in scope.now name.now) }
+    ensures { result ≡ option_and_then variable_at (place_in scope.now name.now) }
 {
     match scope.names.get(name)? {
         Standing::Variable(number) => Some(number),
-        Standing::Parameter(term) => variable_number(term),
+        Standing::Parameter(term) => match term {
+            Term::Var(number) => Some(*number),
+            Term::Fixed(_) => None,
+        },
         Standing::Array(_) => None,
     }
 }
@@ -220,7 +219,7 @@ fn bare_name<'a>(note: &Note<'a>) -> Option<&'a [u8]>
 
 /// The variable that an annotation of the form `defines_var(x)` names.
 fn defined(scope: &Scope<'_>, note: &Note<'_>) -> Option<usize>
-    ensures { result ≡ defined_in scope.now (bare_note note.now) }
+    ensures { result ≡ defined_by (place_in scope.now) (bare_note note.now) }
 {
     if !same_text(note.name.text, b"defines_var") {
         return None;
@@ -232,7 +231,7 @@ fn defined(scope: &Scope<'_>, note: &Note<'_>) -> Option<usize>
 /// The first variable that an annotation of that form names.
 #[tactic(auto, using(crate::proofs::Loops::first_found))]
 fn target_of(scope: &Scope<'_>, notes: &[Note<'_>]) -> Option<usize>
-    ensures { result ≡ first_some (defined_in scope.now) (bare_notes notes.now) }
+    ensures { result ≡ first_some (defined_by (place_in scope.now)) (bare_notes notes.now) }
 {
     for note in notes {
         let target = defined(scope, note);
@@ -254,9 +253,9 @@ fn posted<'a>(
     ensures known { IfOk result (λ _. constraint_fault_in scope.now
         (located_constraint constraint.now) ≡ None) }
     ensures posted { IfOk result (IsPostedOf scope.now store.new
-        (posted_in scope.now (located_constraint constraint.now))) }
+        (posted_of (place_in scope.now) (located_constraint constraint.now))) }
     ensures row { IfOk result (λ p. kept_row p
-        ≡ row_of (posted_in scope.now (located_constraint constraint.now))) }
+        ≡ row_of (posted_of (place_in scope.now) (located_constraint constraint.now))) }
     ensures longer { OnOk result (IsLonger store.old store.new) }
     ensures tells { IfErr result (λ e. Tells e
         (constraint_fault_in scope.now (located_constraint constraint.now))) }
@@ -325,11 +324,12 @@ pub(crate) fn goal_of(
     goal: &TreeGoal<'_>,
 ) -> Result<Goal, ModelError>
     requires kinds { HasKinds scope.now }
-    ensures clean { IfOk result (λ _. faults_in scope.now (Some IntKind)
-        (goal_parts (located_goal goal.now)) ≡ None) }
-    ensures aim { IfOk result (λ g. goal_view g ≡ aim_in scope.now (located_goal goal.now)) }
+    ensures clean { IfOk result (λ _. goal_fault (kinds_in scope.now) (located_goal goal.now)
+        ≡ None) }
+    ensures aim { IfOk result (λ g. goal_view g ≡ aim_of (place_in scope.now)
+        (located_goal goal.now)) }
     ensures tells { IfErr result (λ e. Tells e
-        (faults_in scope.now (Some IntKind) (goal_parts (located_goal goal.now)))) }
+        (goal_fault (kinds_in scope.now) (located_goal goal.now))) }
 {
     match goal {
         TreeGoal::Satisfy => Ok(Goal::Satisfy),

@@ -1,15 +1,16 @@
 //! What was declared so far.
 
 ghost use Rattle.std.specs.Prelude.{◌≡◌, ◌++◌, ◌∷◌, [], IfErr, IfOk, OnOk, None, Some, cond, is_none, length, map, true};
-ghost use Rattle.fz_names.specs.of_meaning.View.{Tells, located_basic};
+ghost use Rattle.fz_names.specs.of_meaning.View.{Tells, located_basic, located_name};
 ghost use Rattle.fz_names.specs.of_meaning.declared.term.Term.TheVariants.{Fixed, Var};
-ghost use Rattle.fz_names.specs.of_meaning.Names.{literal_fault, literal_value};
+ghost use Rattle.fz_names.specs.of_meaning.Names.{kind_fault, literal_value, part_fault, parts_fault, term_of};
+ghost use Rattle.fz_names.specs.of_meaning.Located.Basic.{Named};
 ghost use Rattle.fz_names.specs.of_meaning.Relations.{kind_of};
 ghost use Rattle.fz_tree.specs.View.{bare_literal_kind};
 ghost use Rattle.fz_data.specs.Parts.{kind_of_term, terms_of};
 ghost use Rattle.fz_data.specs.declared.scope.Item.TheVariants.{Parameter, Variable as item_variable, Array as item_array};
 ghost use Rattle.fz_names.specs.of_meaning.declared.error.ModelError.TheVariants.{Memory};
-ghost use Rattle.fz_data.specs.Scope.{HasKinds, IsAdded, fault_in, faults_in, has_elements_point, IsNewName, place_fault, place_in, term_at, term_in};
+ghost use Rattle.fz_data.specs.Scope.{HasKinds, IsAdded, has_elements_point, IsNewName, kinds_in, place_in};
 
 use crate::parts::{Array, DeclaredPoint, ScalarList, Variable};
 use crate::rows::{Cited, term_kind, variable_kind};
@@ -58,12 +59,13 @@ impl<'a> Scope<'a> {
 
 /// The term of a literal of the wanted kind.
 fn literal_term(alloc: Global, wanted: Kind, literal: &Literal) -> Result<Term, ModelError>
-    ensures of_kind { IfOk result (λ _. literal_fault (Some wanted)
-        (kind_of (literal_value (bare_literal_kind literal.now.what))) literal.now.span ≡ None) }
+    ensures of_kind { IfOk result (λ _. kind_fault (Some wanted)
+        (Some (kind_of (literal_value (bare_literal_kind literal.now.what)))) literal.now.span
+        ≡ None) }
     ensures term { IfOk result (λ t. t
         ≡ Fixed (literal_value (bare_literal_kind literal.now.what))) }
-    ensures tells { IfErr result (λ e. Tells e (literal_fault (Some wanted)
-        (kind_of (literal_value (bare_literal_kind literal.now.what))) literal.now.span)) }
+    ensures tells { IfErr result (λ e. Tells e (kind_fault (Some wanted)
+        (Some (kind_of (literal_value (bare_literal_kind literal.now.what)))) literal.now.span)) }
 {
     if !same_kind(literal_kind(&literal.what), wanted) {
         return Err(ModelError::Kind(literal.span));
@@ -80,11 +82,12 @@ fn named_term(
     name: &Name<'_>,
 ) -> Result<Term, ModelError>
     requires kinds { HasKinds scope.now }
-    ensures of_kind { IfOk result (λ _. place_fault (Some wanted)
-        (place_in scope.now name.now.text.now) name.now.span ≡ None) }
-    ensures term { IfOk result (λ t. t ≡ term_at (place_in scope.now name.now.text.now)) }
+    ensures of_kind { IfOk result (λ _. part_fault (kinds_in scope.now) (Some wanted)
+        (Named (located_name name.now)) ≡ None) }
+    ensures term { IfOk result (λ t. t
+        ≡ term_of (place_in scope.now) (Named (located_name name.now))) }
     ensures tells { IfErr result (λ e. Tells e
-        (place_fault (Some wanted) (place_in scope.now name.now.text.now) name.now.span)) }
+        (part_fault (kinds_in scope.now) (Some wanted) (Named (located_name name.now)))) }
 {
     match scope.names.get(name.text) {
         None => Err(ModelError::UnknownName(name.span)),
@@ -113,11 +116,12 @@ pub(crate) fn term_of(
     part: &Basic<'_>,
 ) -> Result<Term, ModelError>
     requires kinds { HasKinds scope.now }
-    ensures of_kind { IfOk result (λ _. fault_in scope.now (Some wanted) (located_basic part.now)
+    ensures of_kind { IfOk result (λ _. part_fault (kinds_in scope.now) (Some wanted)
+        (located_basic part.now)
         ≡ None) }
-    ensures term { IfOk result (λ t. t ≡ term_in scope.now (located_basic part.now)) }
+    ensures term { IfOk result (λ t. t ≡ term_of (place_in scope.now) (located_basic part.now)) }
     ensures tells { IfErr result (λ e. Tells e
-        (fault_in scope.now (Some wanted) (located_basic part.now))) }
+        (part_fault (kinds_in scope.now) (Some wanted) (located_basic part.now))) }
 {
     match part {
         Basic::Lit(literal) => literal_term(alloc, wanted, literal),
@@ -134,12 +138,12 @@ pub(crate) fn scalars_of(
     parts: &[Basic<'_>],
 ) -> Result<ScalarList, ModelError>
     requires kinds { HasKinds scope.now }
-    ensures of_kind { IfOk result (λ _. faults_in scope.now (Some wanted)
+    ensures of_kind { IfOk result (λ _. parts_fault (kinds_in scope.now) (Some wanted)
         (map located_basic parts.now) ≡ None) }
     ensures terms { IfOk result (λ l. terms_of l
-        ≡ map (term_in scope.now) (map located_basic parts.now)) }
+        ≡ map (term_of (place_in scope.now)) (map located_basic parts.now)) }
     ensures tells { IfErr result (λ e. Tells e
-        (faults_in scope.now (Some wanted) (map located_basic parts.now))) }
+        (parts_fault (kinds_in scope.now) (Some wanted) (map located_basic parts.now))) }
 {
     let mut slots = Vec::with_capacity(alloc, parts.len())?;
     let mut constants = Vec::new(alloc);

@@ -1,5 +1,5 @@
 -- The greatest of Booleans that are read as numbers: 1 where one is true, and else 0.
-use Rattle.std.proofs.Common.{◌≡◌, ℕ, ◌<◌, ℤ, pos, int_le, Bool, true, false, ◌&&◌, List, [], ◌∷◌, length, map, option_map, Some, slice_get, refl, sym, ap, ◌∙◌, arith}
+use Rattle.std.proofs.Common.{◌≡◌, ℕ, ◌<◌, pos, int_le, Bool, true, false, List, [], ◌∷◌, length, map, option_map, Some, slice_get, refl, ap, ◌∙◌, arith}
 use Rattle.std.specs.List.{list_all, list_any}
 use Rattle.std.proofs.lemmas.Int.{ints}
 use Rattle.std.proofs.lemmas.Option.{slice_get-map}

@@ -18,7 +18,6 @@ use Rattle.fz_kernel.specs.of_meaning.Relations.{◌=ℤ◌, ◌=ˢ◌, element_
 use Rattle.fz_kernel.proofs.of_meaning.Values.{no, no', and_first, and_second, and_both, same_int, int_itself, same_set_is, set_itself}
 use Rattle.fz_globals.specs.Held.{is_held, are_held, size_of_all}
 use Rattle.fz_globals.proofs.Compared.{is_other}
-use Rattle.fz_globals.proofs.FirstBest.{one_on}
 use Rattle.fz_kernel.proofs.Left.{next}
 use Rattle.fz_kernel.proofs.Passed.{element_is}
 
@@ -312,17 +311,6 @@ module _ (xs : List ℤ) (o : ℤ) where
       nat_is m n e = grind (arith, nat_tests)
 
 -- ---- the loops
-
-module _ (o : ℤ) (xs : List ℤ) (ss : List NumberSet) (so : ℤ) (i : ℕ) (r : Bool) (so_far : r ≡ are_held (o +ℤ pos i) (drop i xs) ss so) (x : ℤ) (at : slice_get xs i ≡ Some x) where
-  one : r ≡ (is_held (o +ℤ pos i) x ss so && are_held (o +ℤ pos (i + 1)) (drop (i + 1) xs) ss so)
-  one = so_far ∙ ap (λ l. are_held (o +ℤ pos i) l ss so) (next xs i x at) ∙ ap (λ j. is_held (o +ℤ pos i) x ss so && are_held j (drop (i + 1) xs) ss so) (one_on o i)
-
-  pub one_held : is_held (o +ℤ pos i) x ss so ≡ true
-      → r ≡ are_held (o +ℤ pos (i + 1)) (drop (i + 1) xs) ss so
-  one_held held = one ∙ ap (λ b. b && are_held (o +ℤ pos (i + 1)) (drop (i + 1) xs) ss so) held
-
-  pub one_not_held : is_held (o +ℤ pos i) x ss so ≡ false → false ≡ r
-  one_not_held missing = sym (one ∙ ap (λ b. b && are_held (o +ℤ pos (i + 1)) (drop (i + 1) xs) ss so) missing)
 
 pub one_sized : (ss : List NumberSet) (i : ℕ) (s : NumberSet) → slice_get ss i ≡ Some s
     → size_of_all (drop i ss) ≡ len s + size_of_all (drop (i + 1) ss)

@@ -1,7 +1,7 @@
 -- A loop that tests one element after another, of one list or of two side by side, and a loop that
 -- counts those that pass.
 use Rattle.std.proofs.Common.{◌≡◌, ℕ, suc, ◌+◌, ◌≤◌, ℤ, pos, Bool, true, false, cond, ◌&&◌, ◌||◌, ◌⊎◌, List, [], ◌∷◌, ◌++◌, append-nil, take, drop, length, filter, Some, slice_get, IsPermutation, int_eq, refl, sym, ap, ◌∙◌, arith, rules}
-use Rattle.std.specs.List.{list_all, list_any}
+use Rattle.std.specs.List.{list_any}
 use Rattle.std.proofs.lemmas.List.Elements.{filter-append}
 use Rattle.std.proofs.lemmas.List.Sums.{length-filter}
 use Rattle.std.proofs.lemmas.List.Sorted.{sum_by-IsPermutation, list_any-IsPermutation}
@@ -12,13 +12,6 @@ use Rattle.fz_kernel.proofs.Left.{next, none_left, one_more}
 -- ---- a test of each element
 
 module _ {A : Type 0} (p : A → Bool) (xs : List A) (i : ℕ) (x : A) (at : slice_get xs i ≡ Some x) where
-  pub still_all : list_all p xs ≡ list_all p (drop i xs) → p x ≡ true
-      → list_all p xs ≡ list_all p (drop (i + 1) xs)
-  still_all so_far e = so_far ∙ ap (list_all p) (next xs i x at) ∙ ap (λ b. b && list_all p (drop (i + 1) xs)) e
-
-  pub not_all : list_all p xs ≡ list_all p (drop i xs) → p x ≡ false → false ≡ list_all p xs
-  not_all so_far e = sym (so_far ∙ ap (list_all p) (next xs i x at) ∙ ap (λ b. b && list_all p (drop (i + 1) xs)) e)
-
   pub one_does : list_any p xs ≡ list_any p (drop i xs) → p x ≡ true → true ≡ list_any p xs
   one_does so_far e = sym (so_far ∙ ap (list_any p) (next xs i x at) ∙ ap (λ b. b || list_any p (drop (i + 1) xs)) e)
 

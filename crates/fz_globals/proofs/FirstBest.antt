@@ -16,6 +16,9 @@ use Rattle.fz_kernel.proofs.Best.{IsOrder, is_best, is_the_best}
 pub one_on : (o : ℤ) (i : ℕ) → ((o +ℤ pos i) +ℤ pos 1) ≡ (o +ℤ pos (i + 1))
 one_on o i = omega (arith, ints)
 
+pub from_first : (o : ℤ) → (o +ℤ pos 0) ≡ o
+from_first o = omega (arith, ints)
+
 module _ (o n : ℤ) (xs : List ℤ) (i : ℕ) (r : Option ℤ) (so_far : r ≡ index_from (o +ℤ pos i) (drop i xs) n) where
   module _ (x : ℤ) (at : slice_get xs i ≡ Some x) where
     one : r ≡ (if x =ℤ n then Some (o +ℤ pos i)

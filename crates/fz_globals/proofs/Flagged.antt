@@ -1,16 +1,15 @@
 -- Sets of the indices of Booleans.
-use Rattle.std.proofs.Common.{◌≡◌, ℕ, ◌+◌, ◌↔◌, ℤ, pos, ◌+ℤ◌, ◌-ℤ◌, ◌≤ℤ◌, Bool, true, false, ◌&&◌, List, [], ◌∷◌, drop, length, nat_eq, FitsSigned, w64, Some, slice_get, refl, sym, ap, ◌∙◌, arith}
+use Rattle.std.proofs.Common.{◌≡◌, ℕ, ◌+◌, ◌↔◌, ℤ, pos, ◌+ℤ◌, ◌-ℤ◌, ◌≤ℤ◌, Bool, true, false, ◌&&◌, List, drop, nat_eq, FitsSigned, w64, Some, slice_get, refl, sym, ap, ◌∙◌, arith}
 use Rattle.std.specs.Int.{int_min}
 use Rattle.std.specs.Ordering.{int_cmp}
 use Rattle.std.specs.Cmp.{int_cmp_total, both_ways}
 use Rattle.std.specs.FinSet.{contains, empty, is_subset, len, contains-empty, is_subset-contains, contains-is_subset, empty_of_len, len-empty}
 use Rattle.std.proofs.lemmas.Int.{ints}
 use Rattle.std.proofs.lemmas.Bool.Decides.{nat_tests}
-use Rattle.fz_base.proofs.Covers.{and-true}
 use Rattle.fz_base.specs.Sets.{NumberSet, numbers_between, LiesWithin, Has64Bits}
 use Rattle.fz_base.specs.Ranges.{is_between}
 use Rattle.fz_base.proofs.Numbers.{contains-numbers_between, same_numbers}
-use Rattle.fz_kernel.specs.of_meaning.Relations.{◌=ᴮ◌, flags_are, is_flagged}
+use Rattle.fz_kernel.specs.of_meaning.Relations.{◌=ᴮ◌, flags_are}
 use Rattle.fz_kernel.proofs.of_meaning.Values.{no}
 use Rattle.fz_globals.proofs.FirstBest.{one_on}
 use Rattle.fz_kernel.proofs.Left.{next}

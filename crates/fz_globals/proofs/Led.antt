@@ -1,13 +1,12 @@
 -- Lists of successors: the elements as positions, and inverse lists.
-use Rattle.std.proofs.Common.{◌≡◌, ℕ, suc, zero, ◌+◌, ◌≤◌, ℤ, pos, negsuc, ◌+ℤ◌, ◌-ℤ◌, Bool, true, false, not, ◌&&◌, ◌||◌, List, [], ◌∷◌, drop, length, Some, option_map, slice_get, refl, sym, ap, ◌∙◌, arith, add-one, rules}
+use Rattle.std.proofs.Common.{◌≡◌, ℕ, suc, zero, ◌+◌, ◌≤◌, ℤ, pos, negsuc, ◌+ℤ◌, ◌-ℤ◌, Bool, true, false, not, ◌&&◌, ◌||◌, List, [], ◌∷◌, length, Some, option_map, slice_get, refl, sym, ap, ◌∙◌, arith, add-one, rules}
 use Rattle.std.specs.Option.{option_map_or}
 use Rattle.std.proofs.lemmas.Int.{ints}
 use Rattle.std.proofs.lemmas.List.{length-map}
 use Rattle.std.proofs.lemmas.Option.{slice_get-map}
 use Rattle.std.proofs.lemmas.Grind.{common_steps}
-use Rattle.fz_kernel.specs.of_meaning.Relations.{◌=ℤ◌, all_different, element_at, is_among, as_places, leads_back, lies_between}
+use Rattle.fz_kernel.specs.of_meaning.Relations.{◌=ℤ◌, all_different, element_at, is_among, as_places, lies_between}
 use Rattle.fz_kernel.proofs.of_meaning.Values.{no, and_first, and_second}
-use Rattle.fz_kernel.proofs.Left.{next}
 use Rattle.fz_kernel.proofs.Passed.{element_is}
 
 -- ---- elements as positions
@@ -22,7 +21,7 @@ placed_at o xs k x at = slice_get-map (as_place o) xs k ∙ ap (option_map (as_p
 pub placed_counted : (o : ℤ) (xs : List ℤ) → length (as_places o xs) ≡ length xs
 placed_counted o xs = length-map xs (as_place o)
 
-pub shifted : (d : ℤ) (p : ℕ) → (d =ℤ pos p) ≡ ((d +ℤ pos 1) =ℤ pos (p + 1))
+pub shifted : (d p : ℤ) → (d =ℤ p) ≡ ((d +ℤ pos 1) =ℤ (p +ℤ pos 1))
 shifted d p = grind (arith, ints)
 
 same_place : (o x y : ℤ) → (x =ℤ y) ≡ (as_place o x =ℤ as_place o y)
@@ -77,15 +76,3 @@ one_place (x ∷ xs) (suc k) (suc j) c apart at_k at_j = ap suc (one_place xs k 
 
 abbrev pub leads_to : List ℤ → ℤ → ℤ → Bool
 leads_to g x p = option_map_or (λ y. y =ℤ p) (element_at g x) false
-
-module _ (f g : List ℤ) (i : ℕ) (r : Bool) (so_far : r ≡ leads_back (pos (i + 1)) (drop i f) g) where
-  module _ (x : ℤ) (at : slice_get f i ≡ Some x) where
-    one : r ≡ (leads_to g x (pos (i + 1)) && leads_back (pos ((i + 1) + 1)) (drop (i + 1) f) g)
-    one = so_far ∙ ap (λ l. leads_back (pos (i + 1)) l g) (next f i x at)
-
-    pub leads_on : leads_to g x (pos (i + 1)) ≡ true
-        → r ≡ leads_back (pos ((i + 1) + 1)) (drop (i + 1) f) g
-    leads_on passed = one ∙ ap (λ b. b && leads_back (pos ((i + 1) + 1)) (drop (i + 1) f) g) passed
-
-    pub leads_off : leads_to g x (pos (i + 1)) ≡ false → false ≡ r
-    leads_off failed = sym (one ∙ ap (λ b. b && leads_back (pos ((i + 1) + 1)) (drop (i + 1) f) g) failed)

@@ -1,24 +1,12 @@
 -- Tests of two values, and of all elements of a list, one after another.
-use Rattle.std.proofs.Common.{◌≡◌, ℕ, suc, zero, ◌+◌, Bool, true, false, not, ◌&&◌, List, [], ◌∷◌, drop, Some, slice_get, sym, ap, ◌∙◌, arith}
+use Rattle.std.proofs.Common.{◌≡◌, ℕ, suc, zero, Bool, true, false, not, List, [], ◌∷◌, Some, slice_get, sym, ◌∙◌, arith}
 use Rattle.std.specs.List.{list_all}
 use mathlib.Core.Bool.{beq}
 use Rattle.std.proofs.lemmas.Bool.{not-true, not-false}
 use Rattle.std.proofs.lemmas.Grind.{common_steps}
 use Rattle.fz_kernel.specs.of_meaning.Relations.{◌=ᴮ◌}
 use Rattle.fz_kernel.proofs.of_meaning.Values.{and_first, and_second}
-use Rattle.fz_kernel.proofs.Left.{next}
 use Rattle.fz_globals.proofs.Compared.{same_truths}
-
-module _ {A : Type 0} (test : A → Bool) (xs : List A) (i : ℕ) (r : Bool) (so_far : r ≡ list_all test (drop i xs)) where
-  module _ (x : A) (at : slice_get xs i ≡ Some x) where
-    one : r ≡ (test x && list_all test (drop (i + 1) xs))
-    one = so_far ∙ ap (list_all test) (next xs i x at)
-
-    pub passes : test x ≡ true → r ≡ list_all test (drop (i + 1) xs)
-    passes passed = one ∙ ap (λ b. b && list_all test (drop (i + 1) xs)) passed
-
-    pub fails : test x ≡ false → false ≡ r
-    fails failed = sym (one ∙ ap (λ b. b && list_all test (drop (i + 1) xs)) failed)
 
 -- where all pass, the one at an index does
 pub passed_at : {A : Type 0} (test : A → Bool) (xs : List A) (k : ℕ) (x : A)

@@ -1,12 +1,15 @@
 -- What a closure computes (private functions only).
-use Rattle.std.specs.Prelude.{◌≡◌, ℤ, Bool, FitsSigned}
-use Rattle.std.specs.Int.{w64}
+use Rattle.std.specs.Prelude.{◌≡◌, ◌+ℤ◌, ◌&&◌, ℤ, pos, Bool, true, List, [], ◌∷◌, FitsSigned}
+use Rattle.std.specs.Int.{w64, w128}
 
--- the results, at a number of 64 bits, are those of the test
-abbrev pub Is : (ℤ → Bool → Type 0) → (ℤ → Bool) → Type 0
-Is results test = (n : ℤ) (b : Bool) → FitsSigned w64 n → results n b → b ≡ test n
+-- `left` says of a list, whose first number has this index, that each number passes: with the
+-- result at the first one, and with what is left behind it
+pub record IsEach (results : ℤ → ℤ → Bool → Type 0) (left : ℤ → List ℤ → Bool) : Type 0 where
+  pub none : (i : ℤ) → left i [] ≡ true
+  pub one : (i n : ℤ) (ns : List ℤ) (b : Bool) → FitsSigned w128 i → FitsSigned w64 n
+      → results i n b → left i (n ∷ ns) ≡ (b && left (i +ℤ pos 1) ns)
 
--- the same of two numbers
+-- the results, at two numbers of 64 bits, are those of the test
 abbrev pub IsOfTwo : (ℤ → ℤ → Bool → Type 0) → (ℤ → ℤ → Bool) → Type 0
 IsOfTwo results test = (n m : ℤ) (b : Bool) → FitsSigned w64 n → FitsSigned w64 m
     → results n m b → b ≡ test n m

@@ -5,7 +5,8 @@ ghost use Rattle.fz_kernel.specs.Views.{ints, sets};
 ghost use Rattle.fz_globals.specs.Held.{are_held, is_held, size_of_all};
 
 use crate::flags::has;
-use crate::indices::{index_at, place_from};
+use crate::indices::place_from;
+use crate::testing::numbers_pass;
 use fz_kernel::Elements;
 
 /// Whether each set, by its index from `first_part` on, has exactly the indices, from `first` on,
@@ -21,13 +22,9 @@ pub fn are_channelled(numbers: &Elements, first: i64, parts: &Elements, first_pa
 fn are_held(numbers: &Elements, first: i64, parts: &Elements, first_part: i64) -> bool
     ensures { result ≡ are_held first (ints numbers.now) (sets parts.now) first_part }
 {
-    for place in 0..numbers.len() {
-        let index = index_at(first, place);
-        if !is_held(index, numbers.int(place), parts, first_part) {
-            return false;
-        }
-    }
-    true
+    numbers_pass(first, numbers, |index, number| {
+        is_held(index, number, parts, first_part)
+    })
 }
 
 /// Whether an index is in the set whose index the number is, where the sets' indices begin with

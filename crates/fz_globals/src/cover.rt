@@ -7,7 +7,7 @@ ghost use Rattle.fz_kernel.specs.of_meaning.Relations.{◌=ℤ◌, is_among, all
 ghost use Rattle.fz_kernel.specs.Views.{ints};
 
 use crate::ordered::{count_in_order, numbers_in_order, stands_in_order};
-use crate::testing::{all_pass, both_pass};
+use crate::testing::{both_pass, numbers_pass};
 use fz_kernel::Elements;
 use std::alloc::{AllocError, Global};
 
@@ -74,5 +74,5 @@ fn all_stand_in(sorted: &[i64], elements: &Elements) -> bool
     requires { IsSorted int_cmp sorted.now }
     ensures { result ≡ list_all (λ x. is_among x sorted.now) (ints elements.now) }
 {
-    all_pass(elements, |element| stands_in_order(sorted, element))
+    numbers_pass(0, elements, |_, element| stands_in_order(sorted, element))
 }

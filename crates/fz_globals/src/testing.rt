@@ -1,20 +1,25 @@
 //! Tests of the elements of arrays: each alone, each with the next one, or of two arrays side by
 //! side.
-ghost use Rattle.std.specs.Prelude.{◌≡◌, ℤ, Bool};
-ghost use Rattle.std.specs.List.{list_all};
+ghost use Rattle.std.specs.Prelude.{◌≡◌, ℤ, Bool, List};
 ghost use Rattle.fz_kernel.specs.of_meaning.Relations.{all_both, all_neighbours};
 ghost use Rattle.fz_kernel.specs.Views.{ints};
-ghost use Rattle.fz_globals.specs.Tests.{Is, IsOfTwo};
+ghost use Rattle.fz_globals.specs.Tests.{IsEach, IsOfTwo};
 
+use crate::indices::index_at;
 use fz_kernel::Elements;
 
-/// Whether each number passes.
-pub(crate) fn all_pass<F: Fn(i64) -> bool>(elements: &Elements, passes: F) -> bool
+/// Whether each number passes with its index, which is counted from `first`.
+pub(crate) fn numbers_pass<F: Fn(i128, i64) -> bool>(
+    first: i64,
+    numbers: &Elements,
+    passes: F,
+) -> bool
     requires { F.IsAlwaysCallable passes }
-    ensures { (p : ℤ → Bool) → Is (F.post passes) p → result ≡ list_all p (ints elements.now) }
+    ensures { (left : ℤ → List ℤ → Bool) → IsEach (F.post passes) left
+        → result ≡ left first (ints numbers.now) }
 {
-    for place in 0..elements.len() {
-        if !passes(elements.int(place)) {
+    for place in 0..numbers.len() {
+        if !passes(index_at(first, place), numbers.int(place)) {
             return false;
         }
     }

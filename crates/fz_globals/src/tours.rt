@@ -6,6 +6,7 @@ ghost use Rattle.fz_kernel.specs.of_meaning.Relations.{◌=ℤ◌, all_different
 ghost use Rattle.fz_kernel.specs.Views.{ints, slots_of};
 
 use crate::indices::{place_from, place_in};
+use crate::testing::numbers_pass;
 use fz_kernel::Elements;
 use fz_kernel::arrays::all_elements_different;
 use std::alloc::{AllocError, Global};
@@ -55,22 +56,17 @@ pub fn is_subcircuit(alloc: Global, first: i64, next: &Elements) -> Result<bool,
 fn leads_back(f: &Elements, fo: i64, g: &Elements, go: i64) -> bool
     ensures { result ≡ leads_back (pos 1) (as_places fo (ints f.now)) (as_places go (ints g.now)) }
 {
-    for place in 0..f.len() {
-        if !leads_to(f.int(place), fo, g, go, place) {
-            return false;
-        }
-    }
-    true
+    numbers_pass(0, f, |place, index| leads_to(index, fo, g, go, place))
 }
 
 // Whether the element of `g` at an index, which is counted from `first`, is the index of a
 // position, which is counted from 0.
-fn leads_to(index: i64, first: i64, g: &Elements, go: i64, place: usize) -> bool
-    ensures { result ≡ option_map_or (λ y. y =ℤ pos (place + 1))
+fn leads_to(index: i64, first: i64, g: &Elements, go: i64, place: i128) -> bool
+    ensures { result ≡ option_map_or (λ y. y =ℤ (place +ℤ pos 1))
         (element_at (as_places go (ints g.now)) ((index -ℤ first) +ℤ pos 1)) false }
 {
     match place_from(index, first, g.len()) {
-        Some(target) => place_in(g.int(target), go) == place as i128,
+        Some(target) => place_in(g.int(target), go) == place,
         None => false,
     }
 }
@@ -80,12 +76,8 @@ fn are_indices(first: i64, next: &Elements) -> bool
     ensures { result ≡ are_places (length (as_places first (ints next.now)))
         (as_places first (ints next.now)) }
 {
-    for place in 0..next.len() {
-        if !is_index(next.int(place), first, next.len()) {
-            return false;
-        }
-    }
-    true
+    let count = next.len();
+    numbers_pass(0, next, |_, index| is_index(index, first, count))
 }
 
 fn is_index(index: i64, first: i64, count: usize) -> bool

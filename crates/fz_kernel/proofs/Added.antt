@@ -37,14 +37,8 @@ pub record IsAdded (xs ys : List ℤ) (i : ℕ) (s : ℤ) : Type 0 where
 regroup : (a b c : ℤ) → (a +ℤ (b +ℤ c)) ≡ ((a +ℤ b) +ℤ c)
 regroup a b c = omega (arith, ints)
 
-from_zero : (a : ℤ) → a ≡ (pos 0 +ℤ a)
-from_zero a = omega (arith, ints)
-
 to_zero : (a : ℤ) → (a +ℤ pos 0) ≡ a
 to_zero a = omega (arith, ints)
-
-pub none_added : (xs ys : List ℤ) → IsAdded xs ys 0 (pos 0)
-none_added xs ys = record { on_the_way = refl; whole = from_zero (total (products xs ys)) }
 
 module _ (xs ys : List ℤ) (i : ℕ) (s x y : ℤ) (so_far : IsAdded xs ys i s) (at_x : slice_get xs i ≡ Some x) (at_y : slice_get ys i ≡ Some y) where
   left : products (drop i xs) (drop i ys) ≡ (x *ℤ y) ∷ products (drop (i + 1) xs) (drop (i + 1) ys)
@@ -89,9 +83,6 @@ pub record IsCounted (xs : List ℤ) (bs : List Bool) (i : ℕ) (s : ℤ) : Type
   pub whole : total (where_true xs bs) ≡ s +ℤ total (where_true (drop i xs) (drop i bs))
   pub low : neg_ℤ (pos (9223372036854775808 * i)) ≤ℤ s
   pub high : s ≤ℤ pos (9223372036854775808 * i)
-
-pub none_counted : (xs : List ℤ) (bs : List Bool) → IsCounted xs bs 0 (pos 0)
-none_counted xs bs = record { whole = from_zero (total (where_true xs bs)); low = omega (arith, ints); high = omega (arith, ints) }
 
 module _ (xs : List ℤ) (bs : List Bool) (i : ℕ) (s x : ℤ) (b : Bool) (so_far : IsCounted xs bs i s) (at_x : slice_get xs i ≡ Some x) (at_b : slice_get bs i ≡ Some b) where
   pub one_counted : (t : ℤ) → t ≡ (s +ℤ x) → b ≡ true → FitsSigned w64 x → IsCounted xs bs (i + 1) t

@@ -2,7 +2,7 @@
 use Rattle.std.proofs.Common.{◌≡◌, ℕ, suc, zero, ◌+◌, ◌≤◌, ℤ, pos, negsuc, Bool, true, false, not, List, [], ◌∷◌, drop, length, filter, Some, None, slice_get, refl, sym, ap, ◌∙◌, arith, add-one}
 use Rattle.std.proofs.lemmas.Option.{slice_get_past}
 use Rattle.fz_data.specs.of_meaning.Relations.{is_odd, element_at}
-use Rattle.fz_kernel.proofs.Left.{next_is, none_left}
+use Rattle.fz_kernel.proofs.Left.{next_is}
 
 -- ---- how many are true
 
@@ -28,14 +28,6 @@ pub one_false : (xs : List Bool) (i : ℕ) (odd : Bool) (x : Bool) → slice_get
     → x ≡ false → odd_of xs ≡ turned odd (odd_of (drop i xs))
     → odd_of xs ≡ turned odd (odd_of (drop (i + 1) xs))
 one_false xs i odd x at is_false so_far = so_far ∙ ap (λ l. turned odd (odd_of l)) (next_is xs i x false at is_false)
-
-turned_none : (odd : Bool) → turned odd false ≡ odd
-turned_none true = refl
-turned_none false = refl
-
-pub odd_at_end : (xs : List Bool) (i : ℕ) (odd : Bool) → length xs ≤ i
-    → odd_of xs ≡ turned odd (odd_of (drop i xs)) → odd ≡ odd_of xs
-odd_at_end xs i odd end so_far = sym (so_far ∙ ap (λ l. turned odd (odd_of l)) (none_left xs i end) ∙ turned_none odd)
 
 -- ---- the element at an index, counted from 1
 

@@ -1,6 +1,6 @@
 -- What a text of tokens tells of its tokens, for the crates above: each token has its text where
 -- its span says, the text that is in it is one of its kind, and a source has one list of tokens.
-use Rattle.std.proofs.Common.{◌≡◌, ℕ, ◌-◌, ◌≤◌, List, [], ◌∷◌, ◌++◌, length, take, drop, slice_range, map, sym, ap, ◌∙◌, subst, arith}
+use Rattle.std.proofs.Common.{◌≡◌, ℕ, ◌-◌, ◌≤◌, List, [], ◌∷◌, length, take, drop, slice_range, map, sym, ap, ◌∙◌, subst, arith}
 use Rattle.std.specs.List.{AllByRecursion}
 use Rattle.fz_lex.specs.Token.{TokenValue, Word, FloatText, StringText, Spells, IsTokenText, IsWordText, IsFloatText, IsStringText}
 use Rattle.fz_lex.specs.Lexing.{SpannedToken, CutBetween, nothing, blank, comment, spelling, LexesToSpanned, IsTokenWithinLimit, IsTextOfTokensWithin}
@@ -46,13 +46,6 @@ pub all_spans : (P : TokenValue → Type 0) (tokens : List SpannedToken)
     → AllByRecursion P (map (λ t. t.token) tokens) → AllByRecursion (λ t. P t.token) tokens
 all_spans P [] h = tt
 all_spans P (t ∷ tokens) h = (h.0, all_spans P tokens h.1)
-
--- what holds of each element of two lists joined holds of each of the first (of the second:
--- `all_right` in Lexed)
-pub all_left : {X : Type 0} (P : X → Type 0) (xs ys : List X) → AllByRecursion P (xs ++ ys)
-    → AllByRecursion P xs
-all_left P [] ys h = tt
-all_left P (x ∷ xs) ys h = (h.0, all_left P xs ys h.1)
 
 -- ---- A source has one list of tokens.
 

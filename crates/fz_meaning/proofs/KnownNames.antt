@@ -1,6 +1,6 @@
 -- What the model of a tree looks up in all declarations is known from the earlier ones, where those
 -- have no fault.
-use Rattle.std.proofs.Common.{◌≡◌, ℕ, suc, pos, ◌+◌, Bool, true, false, not, cond, ◌||◌, List, [], ◌∷◌, ◌++◌, length, Option, Some, None, refl, ap, subst, ◌∙◌, find, filter, one-add, arith, rules}
+use Rattle.std.proofs.Common.{◌≡◌, ℕ, suc, ◌+◌, Bool, true, false, not, cond, ◌||◌, List, [], ◌∷◌, ◌++◌, length, Option, Some, None, refl, ap, subst, ◌∙◌, find, filter, one-add, arith, rules, option_map, is_some}
 use Rattle.std.specs.List.{list_any, position_or_len}
 use Rattle.std.specs.Option.{option_or, option_map_or}
 use Rattle.std.proofs.lemmas.List.Elements.{filter-append}
@@ -8,17 +8,22 @@ use Rattle.std.proofs.lemmas.List.Folds.{find-append}
 use Rattle.std.proofs.lemmas.Slice.Eq.{bytes_eq-Decides}
 use Rattle.std.proofs.lemmas.Grind.{common_steps}
 use Rattle.fz_base.specs.declared.span.Span.{Span}
-use Rattle.fz_base.specs.declared.value.Value.TheVariants.{Int}
 use Rattle.fz_meaning.specs.declared.kind.Kind.{Kind}
-use Rattle.fz_meaning.specs.declared.term.Term.TheVariants.{Fixed}
+use Rattle.fz_meaning.specs.declared.kind.Kind.TheVariants.{Int as IntKind}
+use Rattle.fz_meaning.specs.Relations.{same_kind}
+use Rattle.fz_meaning.specs.Meaning.Place.{Array}
 use Rattle.fz_meaning.specs.Located.{Name, Decl}
 use Rattle.fz_meaning.specs.Located.Basic.{Named}
-use Rattle.fz_meaning.specs.Names.{declares, declaration, named_as, parts, kind_of_base, is_scalar_of, is_scalar_variable, scalar_variables, number_of, scalar_term, term_of, Fault, named_fault, parts_fault, decl_fault}
+use Rattle.fz_meaning.specs.Names.{declaration, named_as, parts, kind_of_base, is_scalar, is_scalar_variable, scalar_variables, scalar_kind, kinds, number_of, scalar_term, scalar_place, scalars, declared_elements, place_of_declared, places, term_at, term_of, Fault, kind_fault, named_fault, name_fault, parts_fault, decl_fault}
 use Rattle.fz_meaning.specs.Names.FaultKind.{WrongKind}
 use Rattle.fz_meaning.proofs.Values.{no'}
-use Rattle.fz_meaning.proofs.ScanSteps.{second_none}
+use Rattle.fz_meaning.proofs.ScanSteps.{first_none, second_none}
 
 -- ---- names
+
+-- a declaration of one of these declares the name
+abbrev pub declares : List Decl → List ℕ → Bool
+declares ds x = list_any (named_as x) ds
 
 -- what is not found is not declared
 pub not_found : (t : Decl → Bool) (ds : List Decl) → find t ds ≡ None → list_any t ds ≡ false
@@ -87,21 +92,6 @@ none_among t q (d ∷ ds) e =
       | false ↦ none_among t q ds (elim (t d) as (λ b. (b || list_any t ds) ≡ false → list_any t ds ≡ false) [ true ↦ λ e. no' e | false ↦ λ e. e ] e)
     ])
 
-pub any_among : (t q : Decl → Bool) (ds : List Decl) (d : Decl) → find t ds ≡ Some d → q d ≡ true
-    → list_any t (filter q ds) ≡ true
-any_among t q [] d e h = cc
-any_among t q (c ∷ ds) d e h =
-    (elim (t c) as (λ b. t c ≡ b → cond b (Some c) (find t ds) ≡ Some d → list_any t (cond (q c) (c ∷ filter q ds) (filter q ds)) ≡ true) [
-      | true ↦ λ here e.
-          let same : c ≡ d = cc in
-          ap (λ b. list_any t (cond b (c ∷ filter q ds) (filter q ds))) (ap q same ∙ h) ∙ ap (λ b. b || list_any t (filter q ds)) here
-      | false ↦ λ here e.
-          elim (q c) as (λ b. list_any t (cond b (c ∷ filter q ds) (filter q ds)) ≡ true) [
-            | true ↦ ap (λ b. b || list_any t (filter q ds)) here ∙ any_among t q ds d e h
-            | false ↦ any_among t q ds d e h
-          ]
-    ]) refl e
-
 -- a new scalar variable has the next number
 pub number_here : (before : List Decl) (d : Decl) (rest : List Decl)
     → declares before d.name.text ≡ false → is_scalar_variable d ≡ true
@@ -117,15 +107,37 @@ passed false f e = cc
 
 -- what a name without a fault was declared as
 pub clean_name : (wanted : Kind) (o : Option Decl) (at : Span)
-    → named_fault (Some wanted) o at ≡ None
-    → (d : Decl) × (o ≡ Some d) × (is_scalar_of wanted d ≡ true)
+    → named_fault (Some wanted) (option_map scalar_kind o) at ≡ None
+    → (d : Decl) × (o ≡ Some d) × (is_scalar d ≡ true) × (same_kind (kind_of_base d.base) wanted ≡ true)
 clean_name wanted None at e = cc
-clean_name wanted (Some d) at e = (d, refl, passed (is_scalar_of wanted d) (WrongKind, at) e)
+clean_name wanted (Some d) at e =
+    let (scalar, kind) = (elim (is_scalar d) as (λ b. kind_fault (Some wanted) (cond b (Some (kind_of_base d.base)) None) at ≡ None → (b ≡ true) × (same_kind (kind_of_base d.base) wanted ≡ true)) [
+      | true ↦ λ e. (refl, passed (same_kind (kind_of_base d.base) wanted) (WrongKind, at) e)
+      | false ↦ λ e. cc
+    ]) e in
+    (d, refl, scalar, kind)
 
 pub term_found : (ds : List Decl) (x : Name) (d : Decl) → declaration ds x.text ≡ Some d
-    → term_of ds (Named x) ≡ scalar_term ds d
-term_found ds x d e = ap (λ o. option_map_or (scalar_term ds) o (Fixed (Int (pos 0)))) e
+    → term_of (scalars ds) (Named x) ≡ scalar_term ds d
+term_found ds x d e = ap (λ o. term_at (option_map_or (λ p. p) (option_map (scalar_place ds) o) (Array x.text IntKind []))) e
+
+pub term_placed : (ds : List Decl) (x : Name) (d : Decl) → declaration ds x.text ≡ Some d
+    → is_scalar d ≡ true → term_of (places ds) (Named x) ≡ scalar_term ds d
+term_placed ds x d e scalar =
+    ap (λ o. term_at (option_map_or (λ p. p) (option_map (place_of_declared ds) o) (Array x.text IntKind []))) e
+    ∙ ap (λ b. term_at (cond b (scalar_place ds d) (Array d.name.text (kind_of_base d.base) (declared_elements ds d)))) scalar
 
 pub parts_clean : (before : List Decl) (d : Decl) → decl_fault before d ≡ None
-    → parts_fault before (Some (kind_of_base d.base)) (parts d.value) ≡ None
-parts_clean before d e = second_none _ (parts_fault before (Some (kind_of_base d.base)) (parts d.value)) e
+    → parts_fault (kinds before) (Some (kind_of_base d.base)) (parts d.value) ≡ None
+parts_clean before d e = second_none _ (parts_fault (kinds before) (Some (kind_of_base d.base)) (parts d.value)) e
+
+-- a declaration with no fault has a new name
+pub is_new : (before : List Decl) (d : Decl) → decl_fault before d ≡ None
+    → declares before d.name.text ≡ false
+is_new before d e =
+    not_found (named_as d.name.text) before (nothing (declaration before d.name.text) _ _ (first_none (name_fault (kinds before) d) _ e))
+  where
+    nothing : (o : Option Decl) (f : Fault) (g : Option Fault)
+        → cond (is_some (option_map scalar_kind o)) (Some f) g ≡ None → o ≡ None
+    nothing None f g e = refl
+    nothing (Some x) f g e = cc

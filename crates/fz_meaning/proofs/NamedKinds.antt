@@ -6,10 +6,10 @@ use Rattle.std.specs.Prelude.{⊤}
 use Rattle.std.specs.List.{AllByRecursion}
 use Rattle.fz_base.specs.declared.value.Value.{Value}
 use Rattle.fz_meaning.specs.declared.kind.Kind.{Kind}
-use Rattle.fz_meaning.specs.Relations.{same_kind}
+use Rattle.fz_meaning.specs.Relations.{kind_of}
 use Rattle.fz_meaning.specs.Located.{Basic, Decl, Literal, LocatedTree}
 use Rattle.fz_meaning.specs.Located.Basic.{Lit, Named}
-use Rattle.fz_meaning.specs.Names.{HasNoFault, part_fault, parts_fault, decl_fault, decls_fault, declaration, is_scalar, number_of, scalar_term, term_of, literal_of, literal_value, kind_of_base, parts, model_of, place_of_declared}
+use Rattle.fz_meaning.specs.Names.{HasNoFault, kind_fault, part_fault, parts_fault, decl_fault, decls_fault, declaration, kinds, is_scalar, number_of, scalar_term, scalars, term_of, declared_elements, literal_of, literal_value, kind_of_base, parts, model_of, place_of_declared}
 use Rattle.fz_meaning.specs.Meaning.{Place, Model, find_name}
 use Rattle.fz_meaning.specs.declared.term.Term.{Term}
 use Rattle.fz_meaning.specs.declared.term.Term.TheVariants.{Var, Fixed}
@@ -20,7 +20,6 @@ use Rattle.fz_meaning.proofs.KnownNames.{clean_name, found_stays, has_name, part
 use Rattle.fz_meaning.proofs.Names.{are_new, find_declared}
 use Rattle.fz_meaning.proofs.Scope.{same_kind_is, kind_of_number}
 use Rattle.fz_meaning.proofs.ScanSteps.{first_none, second_none, declarations_clean}
-use Rattle.fz_meaning.proofs.Values.{and_first, and_second}
 
 -- a variable has the kind, and a stored value is as said of it
 abbrev pub TermIs : (Kind → Value → Type 0) → Model → Kind → Term → Type 0
@@ -43,7 +42,7 @@ abbrev pub ParameterIs : (Kind → Value → Type 0) → Decl → Type 0
 ParameterIs Is d = is_scalar d ≡ true → d.is_var ≡ false → Is (kind_of_base d.base) (literal_of d.value)
 
 module _ (Is : Kind → Value → Type 0) (t : LocatedTree) (clean : decls_fault [] t.decls ≡ None)
-    (literals : (before : List Decl) (k : Kind) (l : Literal) → part_fault before (Some k) (Lit l) ≡ None → Is k (literal_value l.what))
+    (literals : (k : Kind) (l : Literal) → kind_fault (Some k) (Some (kind_of (literal_value l.what))) l.span ≡ None → Is k (literal_value l.what))
     (parameters : AllByRecursion (ParameterIs Is) t.decls) where
   scalar_fits : (x : List ℕ) (d : Decl) → declaration t.decls x ≡ Some d → is_scalar d ≡ true
       → TermIs Is (model_of t) (kind_of_base d.base) (scalar_term t.decls d)
@@ -54,24 +53,24 @@ module _ (Is : Kind → Value → Type 0) (t : LocatedTree) (clean : decls_fault
       ] refl
 
   term_fits : (before rest : List Decl) → before ++ rest ≡ t.decls → (k : Kind) (b : Basic)
-      → part_fault before (Some k) b ≡ None → TermIs Is (model_of t) k (term_of t.decls b)
-  term_fits before rest all k (Lit l) e = literals before k l e
+      → part_fault (kinds before) (Some k) b ≡ None → TermIs Is (model_of t) k (term_of (scalars t.decls) b)
+  term_fits before rest all k (Lit l) e = literals k l e
   term_fits before rest all k (Named x) e =
-      let (d, known, is) = clean_name k (declaration before x.text) x.span e in
+      let (d, known, scalar, is) = clean_name k (declaration before x.text) x.span e in
       let found : declaration t.decls x.text ≡ Some d = subst (λ ds. declaration ds x.text ≡ Some d) all (found_stays before rest x.text d known) in
-      let kind : kind_of_base d.base ≡ k = same_kind_is (kind_of_base d.base) k (and_second (is_scalar d) (same_kind (kind_of_base d.base) k) is) in
+      let kind : kind_of_base d.base ≡ k = same_kind_is (kind_of_base d.base) k is in
       subst (TermIs Is (model_of t) k) (sym (term_found t.decls x d found))
-      (subst (λ j. TermIs Is (model_of t) j (scalar_term t.decls d)) kind (scalar_fits x.text d found (and_first (is_scalar d) (same_kind (kind_of_base d.base) k) is)))
+      (subst (λ j. TermIs Is (model_of t) j (scalar_term t.decls d)) kind (scalar_fits x.text d found scalar))
 
   terms_fit : (before rest : List Decl) → before ++ rest ≡ t.decls → (k : Kind) (bs : List Basic)
-      → parts_fault before (Some k) bs ≡ None
-      → AllByRecursion (TermIs Is (model_of t) k) (map (term_of t.decls) bs)
+      → parts_fault (kinds before) (Some k) bs ≡ None
+      → AllByRecursion (TermIs Is (model_of t) k) (map (term_of (scalars t.decls)) bs)
   terms_fit before rest all k [] e = tt
   terms_fit before rest all k (b ∷ bs) e =
-      (term_fits before rest all k b (first_none (part_fault before (Some k) b) (parts_fault before (Some k) bs) e), terms_fit before rest all k bs (second_none (part_fault before (Some k) b) (parts_fault before (Some k) bs) e))
+      (term_fits before rest all k b (first_none (part_fault (kinds before) (Some k) b) (parts_fault (kinds before) (Some k) bs) e), terms_fit before rest all k bs (second_none (part_fault (kinds before) (Some k) b) (parts_fault (kinds before) (Some k) bs) e))
 
   abbrev ElementsFit : Decl → Type 0
-  ElementsFit d = AllByRecursion (TermIs Is (model_of t) (kind_of_base d.base)) (map (term_of t.decls) (parts d.value))
+  ElementsFit d = AllByRecursion (TermIs Is (model_of t) (kind_of_base d.base)) (declared_elements t.decls d)
 
   elements_fit : (before ds : List Decl) → before ++ ds ≡ t.decls → decls_fault before ds ≡ None
       → AllByRecursion ElementsFit ds
@@ -84,7 +83,7 @@ module _ (Is : Kind → Value → Type 0) (t : LocatedTree) (clean : decls_fault
   pub declared_fits : (x : List ℕ) (d : Decl) → declaration t.decls x ≡ Some d
       → PlaceIs Is (model_of t) (place_of_declared t.decls d)
   declared_fits x d found =
-      elim (is_scalar d) as (λ b. is_scalar d ≡ b → PlaceIs Is (model_of t) (cond b (Scalar (kind_of_base d.base) (scalar_term t.decls d)) (Array d.name.text (kind_of_base d.base) (map (term_of t.decls) (parts d.value))))) [
+      elim (is_scalar d) as (λ b. is_scalar d ≡ b → PlaceIs Is (model_of t) (cond b (Scalar (kind_of_base d.base) (scalar_term t.decls d)) (Array d.name.text (kind_of_base d.base) (declared_elements t.decls d)))) [
         | true ↦ λ scalar. scalar_fits x d found scalar
         | false ↦ λ _. at_found ElementsFit _ t.decls d (elements_fit [] t.decls refl clean) found
       ] refl
@@ -101,7 +100,7 @@ module _ (Is : Kind → Value → Type 0) (t : LocatedTree) (clean : decls_fault
 -- What a name stands for in the model of a tree without faults has variables of its kind.
 pub named_fits : (t : LocatedTree) → HasNoFault t → (x : List ℕ) (p : Place)
     → find_name (model_of t) x ≡ Some p → PlaceFits (model_of t) p
-named_fits t sound = name_fits (λ _ _. ⊤) t (declarations_clean t sound) (λ _ _ _ _. tt) (nothing t.decls)
+named_fits t sound = name_fits (λ _ _. ⊤) t (declarations_clean t sound) (λ _ _ _. tt) (nothing t.decls)
   where
     nothing : (ds : List Decl) → AllByRecursion (ParameterIs (λ _ _. ⊤)) ds
     nothing [] = tt

@@ -1,17 +1,14 @@
 -- In declarations without a fault: which declaration a name has, its number, and what the model
 -- finds by it.
-use Rattle.std.proofs.Common.{◌≡◌, ℕ, suc, Bool, true, false, cond, ◌||◌, List, [], ◌∷◌, ◌++◌, map, Option, Some, None, refl, sym, ap, subst, ◌∙◌, find, append_assoc, option_map, bytes_eq, arith}
+use Rattle.std.proofs.Common.{◌≡◌, ℕ, suc, true, false, cond, List, [], ◌∷◌, ◌++◌, map, Some, None, refl, sym, ap, subst, ◌∙◌, find, append_assoc, option_map, bytes_eq, arith}
 use Rattle.std.specs.Prelude.{⊤}
-use Rattle.std.specs.List.{list_any}
 use Rattle.std.specs.Option.{option_or}
-use Rattle.std.proofs.lemmas.List.Folds.{list_any-append}
 use Rattle.std.proofs.lemmas.Grind.{common_steps}
 use Rattle.fz_meaning.specs.Located.{Decl, LocatedTree}
 use Rattle.fz_meaning.specs.Meaning.{Declared, numbered, numbered_from, name_of, place_named, place_if_named, find_name, first_some}
-use Rattle.fz_meaning.specs.Names.{HasNoFault, declares, declaration, named_as, is_scalar_variable, scalar_variables, number_of, scalar_variable_number, place_of_declared, declared_of, model_of, decl_fault, decls_fault}
-use Rattle.fz_meaning.proofs.Values.{no}
-use Rattle.fz_meaning.proofs.KnownNames.{not_found, number_here, next_number, next_number_more, has_name, none_among, any_among}
-use Rattle.fz_meaning.proofs.ScanSteps.{first_none, second_none, is_new, declarations_clean}
+use Rattle.fz_meaning.specs.Names.{HasNoFault, declaration, named_as, is_scalar_variable, number_of, place_of_declared, declared_of, model_of, decl_fault, decls_fault}
+use Rattle.fz_meaning.proofs.KnownNames.{declares, is_new, number_here, next_number, next_number_more}
+use Rattle.fz_meaning.proofs.ScanSteps.{first_none, second_none, declarations_clean}
 
 -- ---- distinct names
 
@@ -83,57 +80,3 @@ find_numbered all before (d ∷ ds) e new x =
 pub find_declared : (t : LocatedTree) → AreNew [] t.decls → (x : List ℕ)
     → find_name (model_of t) x ≡ option_map (place_of_declared t.decls) (declaration t.decls x)
 find_declared t new x = ap (first_some (place_if_named x)) (numbered_is t) ∙ find_numbered t.decls [] t.decls refl new x
-
--- ---- the variable that an annotation names
-
--- where each name is declared once, a scalar variable of a name is what the name stands for
-only_scalar : (before ds : List Decl) → AreNew before ds → (x : List ℕ) (d : Decl)
-    → declares before x ≡ false → find (named_as x) ds ≡ Some d → is_scalar_variable d ≡ false
-    → list_any (named_as x) (scalar_variables ds) ≡ false
-only_scalar before [] new x d absent e h = cc
-only_scalar before (c ∷ ds) new x d absent e h =
-    (elim (named_as x c) as (λ b. named_as x c ≡ b → cond b (Some c) (find (named_as x) ds) ≡ Some d → list_any (named_as x) (cond (is_scalar_variable c) (c ∷ scalar_variables ds) (scalar_variables ds)) ≡ false) [
-      | true ↦ λ named e.
-          let same : c ≡ d = cc in
-          let found : declaration (c ∷ ds) x ≡ Some c = ap (λ b. cond b (Some c) (find (named_as x) ds)) named in
-          let text : c.name.text ≡ x = has_name (c ∷ ds) x c found in
-          ap (λ b. list_any (named_as x) (cond b (c ∷ scalar_variables ds) (scalar_variables ds))) (ap is_scalar_variable same ∙ h)
-          ∙ none_among (named_as x) is_scalar_variable ds (never (before ++ c ∷ []) ds new.1 x (declares_last before c x named))
-      | false ↦ λ named e.
-          let later : list_any (named_as x) (scalar_variables ds) ≡ false = only_scalar (before ++ c ∷ []) ds new.1 x d (list_any-append (named_as x) before (c ∷ []) ∙ (λ i. absent i || (named i || false))) e h in
-          elim (is_scalar_variable c) as (λ b. list_any (named_as x) (cond b (c ∷ scalar_variables ds) (scalar_variables ds)) ≡ false) [ true ↦ ap (λ b. b || list_any (named_as x) (scalar_variables ds)) named ∙ later | false ↦ later ]
-    ]) refl e
-  where
-    or_true : (b c : Bool) → c ≡ true → (b || (c || false)) ≡ true
-    or_true true c e = refl
-    or_true false c e = ap (λ z. z || false) e
-
-    declares_last : (before : List Decl) (c : Decl) (x : List ℕ) → named_as x c ≡ true
-        → declares (before ++ c ∷ []) x ≡ true
-    declares_last before c x e = list_any-append (named_as x) before (c ∷ []) ∙ or_true (declares before x) (named_as x c) e
-
-    stays : (xs : List Decl) (c : Decl) (x : List ℕ) → declares xs x ≡ true
-        → declares (xs ++ c ∷ []) x ≡ true
-    stays xs c x e = list_any-append (named_as x) xs (c ∷ []) ∙ ap (λ b. b || (named_as x c || false)) e
-
-    -- what is declared is not declared again
-    never : (before ds : List Decl) → AreNew before ds → (x : List ℕ) → declares before x ≡ true
-        → list_any (named_as x) ds ≡ false
-    never before [] new x e = refl
-    never before (d ∷ ds) new x e =
-        (elim (named_as x d) as (λ b. named_as x d ≡ b → (b || list_any (named_as x) ds) ≡ false) [
-          | true ↦ λ named.
-              let text : d.name.text ≡ x = has_name (d ∷ []) x d (ap (λ b. cond b (Some d) None) named) in
-              no (sym new.0 ∙ (ap (declares before) text ∙ e))
-          | false ↦ λ _. never (before ++ d ∷ []) ds new.1 x (stays before d x e)
-        ]) refl
-
--- the number by a name, from what the name stands for
-abbrev pub variable_number : List Decl → Option Decl → Option ℕ
-variable_number ds None = None
-variable_number ds (Some d) = cond (is_scalar_variable d) (Some (number_of ds d.name.text)) None
-
-pub number_by_name : (ds : List Decl) → AreNew [] ds → (x : List ℕ)
-    → scalar_variable_number ds x ≡ variable_number ds (declaration ds x)
-number_by_name ds new x =
-    grind (arith, common_steps, none_among, not_found, any_among, has_name, only_scalar)

@@ -1,13 +1,12 @@
 -- Steps of loops: what is met first in a list of which a part was read, and one more declaration,
 -- constraint or part.
-use Rattle.std.proofs.Common.{◌≡◌, ℕ, ◌+◌, ◌<◌, Bool, true, false, cond, List, [], ◌∷◌, ◌++◌, map, length, get_or, take, drop, Option, Some, None, refl, sym, ap, ◌∙◌, flat_map, append_assoc, add-one, drop-cons, rules}
+use Rattle.std.proofs.Common.{◌≡◌, ℕ, ◌+◌, ◌<◌, List, [], ◌∷◌, ◌++◌, map, length, get_or, take, drop, Option, Some, None, refl, sym, ap, ◌∙◌, append_assoc, add-one, drop-cons, rules}
 use Rattle.std.specs.Option.{option_or}
 use Rattle.std.proofs.lemmas.List.{take-append-drop, map-append, append-nil}
 use Rattle.std.proofs.Math.Seq.{take-suc}
-use Rattle.fz_meaning.specs.Located.{Decl, Constraint, LocatedTree}
+use Rattle.fz_meaning.specs.Located.{Decl, LocatedTree}
 use Rattle.fz_meaning.specs.Meaning.{first_some}
-use Rattle.fz_meaning.specs.Names.FaultKind.{DuplicateName, WrongLength}
-use Rattle.fz_meaning.specs.Names.{differs_in_length, declares, parts, kind_of_base, Fault, part_fault, parts_fault, name_fault, decl_fault, decls_fault, constraint_fault, constraints_fault, goal_fault, first_fault}
+use Rattle.fz_meaning.specs.Names.{kinds, Fault, decl_fault, decls_fault, constraints_fault, goal_fault, first_fault}
 
 -- ---- a list of which a part was read
 
@@ -56,11 +55,6 @@ pub first_map : {A B C : Type 0} (f : B → Option C) (g : A → B) (xs : List A
 first_map f g [] = refl
 first_map f g (x ∷ xs) = ap (option_or (f (g x))) (first_map f g xs)
 
-pub first_flat : {A B C : Type 0} (f : B → Option C) (g : A → List B) (xs : List A)
-    → first_some f (flat_map g xs) ≡ first_some (λ x. first_some f (g x)) xs
-first_flat f g [] = refl
-first_flat f g (x ∷ xs) = first_append f (g x) (flat_map g xs) ∙ ap (option_or (first_some f (g x))) (first_flat f g xs)
-
 -- in a loop over elements whose logical value is `g x`: none so far, and none at the next
 pub first_more : {A B C : Type 0} (f : B → Option C) (g : A → B) (xs : List A) (i : ℕ) (x : A)
     → i < length xs → x ≡ get_or xs i x → first_some f (map g (take i xs)) ≡ None → f (g x) ≡ None
@@ -102,40 +96,24 @@ pub decls_stops : {A : Type 0} (g : A → Decl) (xs : List A) (i : ℕ) (x : A) 
     → decl_fault (map g (take i xs)) (g x) ≡ Some f → decls_fault [] (map g xs) ≡ Some f
 decls_stops g xs i x f h e none here = ap (decls_fault []) (whole_at g xs i x h e) ∙ decls_stop (map g (take i xs)) (g x) (map g (drop (i + 1) xs)) f none here
 
--- ---- at one declaration
-
-nothing_first : (b : Bool) (f : Fault) (o : Option Fault) → cond b (Some f) o ≡ None → b ≡ false
-nothing_first true f o e = cc
-nothing_first false f o e = refl
-
--- a declaration with no fault has a new name
-pub is_new : (before : List Decl) (d : Decl) → decl_fault before d ≡ None
-    → declares before d.name.text ≡ false
-is_new before d e = nothing_first (declares before d.name.text) (DuplicateName, d.name.span) (cond (differs_in_length d) (Some (WrongLength, d.name.span)) None) (first_none (name_fault before d) (parts_fault before (Some (kind_of_base d.base)) (parts d.value)) e)
-
 -- ---- constraints and the objective
 
--- a constraint's fault is the first one at its arguments
-pub constraint_by_arguments : (known : List Decl) (c : Constraint)
-    → constraint_fault known c ≡ first_some (λ e. parts_fault known None (parts (Some e))) c.args
-constraint_by_arguments known c = first_flat (part_fault known None) (λ e. parts (Some e)) c.args
-
 pub in_constraints : (t : LocatedTree) (f : Fault) → decls_fault [] t.decls ≡ None
-    → constraints_fault t.decls t.constraints ≡ Some f → first_fault t ≡ Some f
+    → constraints_fault (kinds t.decls) t.constraints ≡ Some f → first_fault t ≡ Some f
 in_constraints t f none e = search rules
 
 pub in_goal : (t : LocatedTree) (f : Fault) → decls_fault [] t.decls ≡ None
-    → constraints_fault t.decls t.constraints ≡ None → goal_fault t.decls t.solve.goal ≡ Some f
+    → constraints_fault (kinds t.decls) t.constraints ≡ None → goal_fault (kinds t.decls) t.solve.goal ≡ Some f
     → first_fault t ≡ Some f
 in_goal t f none here e = search rules
 
 pub nowhere : (t : LocatedTree) → decls_fault [] t.decls ≡ None
-    → constraints_fault t.decls t.constraints ≡ None → goal_fault t.decls t.solve.goal ≡ None
+    → constraints_fault (kinds t.decls) t.constraints ≡ None → goal_fault (kinds t.decls) t.solve.goal ≡ None
     → first_fault t ≡ None
-nowhere t a b c = both_none (decls_fault [] t.decls) (option_or (constraints_fault t.decls t.constraints) (goal_fault t.decls t.solve.goal)) a (both_none (constraints_fault t.decls t.constraints) (goal_fault t.decls t.solve.goal) b c)
+nowhere t a b c = both_none (decls_fault [] t.decls) (option_or (constraints_fault (kinds t.decls) t.constraints) (goal_fault (kinds t.decls) t.solve.goal)) a (both_none (constraints_fault (kinds t.decls) t.constraints) (goal_fault (kinds t.decls) t.solve.goal) b c)
 
 pub declarations_clean : (t : LocatedTree) → first_fault t ≡ None → decls_fault [] t.decls ≡ None
-declarations_clean t e = first_none (decls_fault [] t.decls) (option_or (constraints_fault t.decls t.constraints) (goal_fault t.decls t.solve.goal)) e
+declarations_clean t e = first_none (decls_fault [] t.decls) (option_or (constraints_fault (kinds t.decls) t.constraints) (goal_fault (kinds t.decls) t.solve.goal)) e
 
-pub goal_clean : (t : LocatedTree) → first_fault t ≡ None → goal_fault t.decls t.solve.goal ≡ None
+pub goal_clean : (t : LocatedTree) → first_fault t ≡ None → goal_fault (kinds t.decls) t.solve.goal ≡ None
 goal_clean t e = search (rules, second_none)

@@ -4,9 +4,9 @@ use Rattle.std.specs.Prelude.{⊤}
 use Rattle.std.specs.List.{AllByRecursion}
 use Rattle.fz_meaning.specs.Relations.{kind_of, same_kind}
 use Rattle.fz_meaning.specs.Located.{Basic, Decl, Expr, Goal, Literal, LocatedTree}
-use Rattle.fz_meaning.specs.Located.Basic.{Lit}
+use Rattle.fz_meaning.specs.Located.Basic.{Lit, Named}
 use Rattle.fz_meaning.specs.Names.FaultKind.{WrongKind}
-use Rattle.fz_meaning.specs.Names.{HasNoFault, part_fault, parts_fault, decl_fault, decls_fault, goal_fault, declaration, named_as, is_scalar, is_scalar_variable, scalar_variables, number_of, term_of, literal_value, literal_of, kind_of_base, parts, declared_of, variable_declared, model_of, aim_of, definition_of, domain_of, place_of_declared}
+use Rattle.fz_meaning.specs.Names.{HasNoFault, kind_fault, part_fault, parts_fault, decl_fault, decls_fault, goal_fault, declaration, kinds, named_as, is_scalar, is_scalar_variable, scalar_variables, number_of, scalar_term, scalars, declared_elements, places, term_of, literal_value, literal_of, kind_of_base, parts, declared_of, variable_declared, model_of, aim_of, definition_of, domain_of, place_of_declared}
 use Rattle.std.proofs.lemmas.List.Folds.{find_at}
 use Rattle.std.proofs.lemmas.Option.{slice_get-map}
 use Rattle.std.proofs.lemmas.Grind.{common_steps}
@@ -14,9 +14,9 @@ use Rattle.fz_meaning.specs.Meaning.{Declared, variable_of, Aim, Model}
 use Rattle.fz_meaning.specs.declared.term.Term.TheVariants.{Var, Fixed}
 use Rattle.fz_meaning.specs.declared.term.Term.{Term}
 use Rattle.fz_meaning.specs.Steps.{kind_at}
-use Rattle.fz_meaning.proofs.Values.{no, and_first, and_second}
+use Rattle.fz_meaning.proofs.Values.{no}
 use Rattle.fz_meaning.proofs.Determined.{at_found}
-use Rattle.fz_meaning.proofs.KnownNames.{clean_name, has_name, parts_clean, passed}
+use Rattle.fz_meaning.proofs.KnownNames.{clean_name, has_name, parts_clean, passed, term_placed}
 use Rattle.fz_meaning.proofs.ScanSteps.{first_none, second_none, declarations_clean, goal_clean}
 use Rattle.fz_base.specs.declared.value.Value.TheVariants.{Int}
 use Rattle.fz_meaning.specs.declared.kind.Kind.{Kind}
@@ -59,14 +59,14 @@ found_among t q (c ∷ ds) d e h =
     ]) refl e
 
 -- the variables of a tree's model are those of its scalar variables
-variables_are : (all ds : List Decl)
+pub variables_are : (all ds : List Decl)
     → flat_map variable_of (map (declared_of all) ds) ≡ map variable_declared (scalar_variables ds)
 variables_are all [] = refl
 variables_are all (d ∷ ds) =
-    elim d.is_var as (λ b. variable_of (cond b (cond (is_scalar d) (Declared.ScalarVariable (variable_declared d) (definition_of all d.value)) (Declared.ArrayOfVariables d.name.text (kind_of_base d.base) (domain_of d.base) (map (term_of all) (parts d.value)))) (Declared.Parameter d.name.text (place_of_declared all d))) ++ flat_map variable_of (map (declared_of all) ds)
+    elim d.is_var as (λ b. variable_of (cond b (cond (is_scalar d) (Declared.ScalarVariable (variable_declared d) (definition_of (scalars all) d.value)) (Declared.ArrayOfVariables d.name.text (kind_of_base d.base) (domain_of d.base) (declared_elements all d))) (Declared.Parameter d.name.text (place_of_declared all d))) ++ flat_map variable_of (map (declared_of all) ds)
     ≡ map variable_declared (cond (b && is_scalar d) (d ∷ scalar_variables ds) (scalar_variables ds))) [
       | false ↦ variables_are all ds
-      | true ↦ elim (is_scalar d) as (λ b. variable_of (cond b (Declared.ScalarVariable (variable_declared d) (definition_of all d.value)) (Declared.ArrayOfVariables d.name.text (kind_of_base d.base) (domain_of d.base) (map (term_of all) (parts d.value)))) ++ flat_map variable_of (map (declared_of all) ds)
+      | true ↦ elim (is_scalar d) as (λ b. variable_of (cond b (Declared.ScalarVariable (variable_declared d) (definition_of (scalars all) d.value)) (Declared.ArrayOfVariables d.name.text (kind_of_base d.base) (domain_of d.base) (declared_elements all d))) ++ flat_map variable_of (map (declared_of all) ds)
           ≡ map variable_declared (cond b (d ∷ scalar_variables ds) (scalar_variables ds))) [
             | true ↦ ap (λ vs. variable_declared d ∷ vs) (variables_are all ds)
             | false ↦ variables_are all ds
@@ -85,16 +85,17 @@ kind_of_number t x d found is =
 -- ---- in a tree without faults
 
 -- a literal without a fault is of the kind that is wanted
-pub literal_is_of : (before : List Decl) (k : Kind) (l : Literal)
-    → part_fault before (Some k) (Lit l) ≡ None → kind_of (literal_value l.what) ≡ k
-literal_is_of before k l e = same_kind_is (kind_of (literal_value l.what)) k (passed (same_kind (kind_of (literal_value l.what)) k) (WrongKind, l.span) e)
+pub literal_is_of : (k : Kind) (l : Literal)
+    → kind_fault (Some k) (Some (kind_of (literal_value l.what))) l.span ≡ None
+    → kind_of (literal_value l.what) ≡ k
+literal_is_of k l e = same_kind_is (kind_of (literal_value l.what)) k (passed (same_kind (kind_of (literal_value l.what)) k) (WrongKind, l.span) e)
 
 -- the value of a declared scalar has the declared kind, or there is no literal
 abbrev HasLiteralKind : Decl → Type 0
 HasLiteralKind d = (kind_of (literal_of d.value) ≡ kind_of_base d.base) ⊎ (literal_of d.value ≡ Int (pos 0))
 
 literal_kind : (before : List Decl) (k : Kind) (v : Option Expr)
-    → parts_fault before (Some k) (parts v) ≡ None
+    → parts_fault (kinds before) (Some k) (parts v) ≡ None
     → (kind_of (literal_of v) ≡ k) ⊎ (literal_of v ≡ Int (pos 0))
 literal_kind before k v e = grind (arith, common_steps, literal_is_of, first_none)
 
@@ -109,25 +110,21 @@ literal_kinds before (d ∷ ds) e =
     )
 
 module _ (t : LocatedTree) (clean : decls_fault [] t.decls ≡ None) where
-  objective_kind : (b : Basic) → part_fault t.decls (Some IntKind) b ≡ None
-      → kind_of_term (model_of t) (term_of t.decls b) ≡ Some IntKind
-  objective_kind b e =
-      grind (
-        arith,
-        common_steps,
-        literal_is_of,
-        clean_name,
-        and_first,
-        same_kind_is,
-        and_second,
-        has_name,
-        kind_of_number,
-        at_found,
-        literal_kinds,
-      )
+  number_kind : (x : List ℕ) (d : Decl) → declaration t.decls x ≡ Some d → is_scalar d ≡ true
+      → kind_of_base d.base ≡ IntKind
+      → kind_of_term (model_of t) (scalar_term t.decls d) ≡ Some IntKind
+  number_kind x d found scalar is =
+      grind (arith, common_steps, has_name, kind_of_number, at_found, literal_kinds)
 
-  in_goal : (g : Goal) → goal_fault t.decls g ≡ None
-      → HasNumberKind (model_of t) (aim_of t.decls g)
+  objective_kind : (b : Basic) → part_fault (kinds t.decls) (Some IntKind) b ≡ None
+      → kind_of_term (model_of t) (term_of (places t.decls) b) ≡ Some IntKind
+  objective_kind (Lit l) e = ap Some (literal_is_of IntKind l e)
+  objective_kind (Named x) e =
+      let (d, found, scalar, is) = clean_name IntKind (declaration t.decls x.text) x.span e in
+      ap (kind_of_term (model_of t)) (term_placed t.decls x d found scalar) ∙ number_kind x.text d found scalar (same_kind_is (kind_of_base d.base) IntKind is)
+
+  in_goal : (g : Goal) → goal_fault (kinds t.decls) g ≡ None
+      → HasNumberKind (model_of t) (aim_of (places t.decls) g)
   in_goal g e = grind (arith, common_steps, objective_kind, first_none)
 
 -- A tree without faults aims at a number.

@@ -1,7 +1,7 @@
 -- The names of a tree, its first fault, and the model that a tree without faults is (MiniZinc
 -- Handbook, FlatZinc, "Parameter declaration items" and "Variable declaration items").
-use Rattle.std.specs.Prelude.{◌≡◌, ℕ, pos, Bool, false, not, cond, ◌&&◌, List, [], ◌∷◌, ◌++◌, length, map, ◌==◌, Option, Some, None, bytes_eq, flat_map, find, codes, is_some}
-use Rattle.std.specs.List.{list_any, filter, position_or_len}
+use Rattle.std.specs.Prelude.{◌≡◌, ℕ, pos, Bool, false, not, cond, ◌&&◌, List, [], ◌∷◌, ◌++◌, length, map, ◌==◌, Option, Some, None, bytes_eq, find, codes, is_some, option_and_then, option_map}
+use Rattle.std.specs.List.{filter, position_or_len}
 use Rattle.std.specs.Option.{option_map_or, option_or}
 use Rattle.fz_base.specs.Sets.{numbers_between}
 use Rattle.fz_base.specs.declared.span.Span.{Span}
@@ -47,10 +47,6 @@ kind_of_base (SetBase d) = SetKind
 abbrev pub named_as : List ℕ → Decl → Bool
 named_as x d = bytes_eq d.name.text x
 
--- a declaration of one of these declares the name
-abbrev pub declares : List Decl → List ℕ → Bool
-declares ds x = list_any (named_as x) ds
-
 -- the declaration of a name, the first where there are several
 abbrev pub declaration : List Decl → List ℕ → Option Decl
 declaration ds x = find (named_as x) ds
@@ -67,10 +63,6 @@ parts None = []
 parts (Some (One b)) = b ∷ []
 parts (Some (Several bs)) = bs
 
--- those of a constraint's arguments
-abbrev pub parts_of_arguments : List Expr → List Basic
-parts_of_arguments es = flat_map (λ e. parts (Some e)) es
-
 abbrev pub goal_parts : Goal → List Basic
 goal_parts Satisfy = []
 goal_parts (Minimize b) = b ∷ []
@@ -80,9 +72,24 @@ goal_parts (Maximize b) = b ∷ []
 abbrev pub differs_in_length : Decl → Bool
 differs_in_length d = option_map_or (λ n. not (length (parts d.value) == n)) d.array_length false
 
--- what is declared is a scalar of the kind
-abbrev pub is_scalar_of : Kind → Decl → Bool
-is_scalar_of k d = is_scalar d && same_kind (kind_of_base d.base) k
+-- the kind of what is declared, where it is a scalar
+abbrev pub scalar_kind : Decl → Option Kind
+scalar_kind d = cond (is_scalar d) (Some (kind_of_base d.base)) None
+
+-- ---- look-ups
+--
+-- What follows asks names of a look-up. The declarations that are known at an item give one.
+
+-- the kind of a declared name's scalar: none of an array
+abbrev pub Kinds : Type 0
+Kinds = List ℕ → Option (Option Kind)
+
+abbrev pub kinds : List Decl → Kinds
+kinds ds x = option_map scalar_kind (declaration ds x)
+
+-- what a declared name stands for
+abbrev pub Places : Type 0
+Places = List ℕ → Option Place
 
 -- ---- faults
 --
@@ -102,43 +109,43 @@ Fault = FaultKind × Span
 
 -- ---- at a literal or a name, where a scalar of a kind is wanted, or anything
 
--- a literal is of another kind
-abbrev pub literal_fault : Option Kind → Kind → Span → Option Fault
-literal_fault None j at = None
-literal_fault (Some k) j at = cond (same_kind j k) None (Some (WrongKind, at))
+-- what stands there is an array, or a scalar of another kind
+abbrev pub kind_fault : Option Kind → Option Kind → Span → Option Fault
+kind_fault None o at = None
+kind_fault (Some k) None at = Some (WrongKind, at)
+kind_fault (Some k) (Some j) at = cond (same_kind j k) None (Some (WrongKind, at))
 
--- a name stands for no scalar of the kind
-abbrev pub declared_fault : Option Kind → Decl → Span → Option Fault
-declared_fault None d at = None
-declared_fault (Some k) d at = cond (is_scalar_of k d) None (Some (WrongKind, at))
-
--- or no earlier item declares it
-abbrev pub named_fault : Option Kind → Option Decl → Span → Option Fault
+-- or no earlier item declares the name
+abbrev pub named_fault : Option Kind → Option (Option Kind) → Span → Option Fault
 named_fault wanted None at = Some (UnknownName, at)
-named_fault wanted (Some d) at = declared_fault wanted d at
+named_fault wanted (Some o) at = kind_fault wanted o at
 
--- with the declarations that are known there
-abbrev pub part_fault : List Decl → Option Kind → Basic → Option Fault
-part_fault known wanted (Lit l) = literal_fault wanted (kind_of (literal_value l.what)) l.span
-part_fault known wanted (Named x) = named_fault wanted (declaration known x.text) x.span
+abbrev pub part_fault : Kinds → Option Kind → Basic → Option Fault
+part_fault known wanted (Lit l) =
+    kind_fault wanted (Some (kind_of (literal_value l.what))) l.span
+part_fault known wanted (Named x) = named_fault wanted (known x.text) x.span
 
 -- at the first of several
-abbrev pub parts_fault : List Decl → Option Kind → List Basic → Option Fault
+abbrev pub parts_fault : Kinds → Option Kind → List Basic → Option Fault
 parts_fault known wanted bs = first_some (part_fault known wanted) bs
 
 -- ---- at an item
 
 -- At a declared name: it was declared before, or an array's value has another number of elements
 -- than its declared length.
-abbrev pub name_fault : List Decl → Decl → Option Fault
-name_fault before d = cond (declares before d.name.text) (Some (DuplicateName, d.name.span))
+abbrev pub name_fault : Kinds → Decl → Option Fault
+name_fault before d = cond (is_some (before d.name.text)) (Some (DuplicateName, d.name.span))
     (cond (differs_in_length d) (Some (WrongLength, d.name.span)) None)
 
 -- At a declaration: at its name, or else in its value, whose literals and names are to be scalars
 -- of the declared kind.
-abbrev pub decl_fault : List Decl → Decl → Option Fault
-decl_fault before d = option_or (name_fault before d)
+abbrev pub fault_at_decl : Kinds → Decl → Option Fault
+fault_at_decl before d = option_or (name_fault before d)
     (parts_fault before (Some (kind_of_base d.base)) (parts d.value))
+
+-- with the declarations before it
+abbrev pub decl_fault : List Decl → Decl → Option Fault
+decl_fault before d = fault_at_decl (kinds before) d
 
 -- at the first of several declarations, each with those before it
 abbrev pub decls_fault : List Decl → List Decl → Option Fault
@@ -146,22 +153,25 @@ decls_fault before [] = None
 decls_fault before (d ∷ ds) = option_or (decl_fault before d) (decls_fault (before ++ d ∷ []) ds)
 
 -- at a constraint: a name in its arguments is not declared
-abbrev pub constraint_fault : List Decl → Constraint → Option Fault
-constraint_fault known c = parts_fault known None (parts_of_arguments c.args)
+abbrev pub argument_fault : Kinds → Expr → Option Fault
+argument_fault known e = parts_fault known None (parts (Some e))
 
-abbrev pub constraints_fault : List Decl → List Constraint → Option Fault
+abbrev pub constraint_fault : Kinds → Constraint → Option Fault
+constraint_fault known c = first_some (argument_fault known) c.args
+
+abbrev pub constraints_fault : Kinds → List Constraint → Option Fault
 constraints_fault known cs = first_some (constraint_fault known) cs
 
 -- at the objective, which is to be an integer
-abbrev pub goal_fault : List Decl → Goal → Option Fault
+abbrev pub goal_fault : Kinds → Goal → Option Fault
 goal_fault known g = parts_fault known (Some IntKind) (goal_parts g)
 
 -- ---- in a tree
 
 -- the first fault, if there is one
 abbrev pub first_fault : LocatedTree → Option Fault
-first_fault t = option_or (decls_fault [] t.decls)
-    (option_or (constraints_fault t.decls t.constraints) (goal_fault t.decls t.solve.goal))
+first_fault t = option_or (decls_fault [] t.decls) (option_or
+    (constraints_fault (kinds t.decls) t.constraints) (goal_fault (kinds t.decls) t.solve.goal))
 
 abbrev pub HasNoFault : LocatedTree → Type 0
 HasNoFault t = first_fault t ≡ None
@@ -186,20 +196,34 @@ literal_of _ = Int (pos 0)
 abbrev pub scalar_term : List Decl → Decl → Term
 scalar_term ds d = cond d.is_var (Var (number_of ds d.name.text)) (Fixed (literal_of d.value))
 
-abbrev pub term_of : List Decl → Basic → Term
-term_of ds (Lit l) = Fixed (literal_value l.what)
-term_of ds (Named x) = option_map_or (scalar_term ds) (declaration ds x.text) (Fixed (Int (pos 0)))
+abbrev pub scalar_place : List Decl → Decl → Place
+scalar_place ds d = Scalar (kind_of_base d.base) (scalar_term ds d)
 
--- an array stands for the list of its elements
+-- a literal stands for its value
+abbrev pub place_of : Places → Basic → Place
+place_of names (Lit l) = Scalar (kind_of (literal_value l.what)) (Fixed (literal_value l.what))
+place_of names (Named x) = option_map_or (λ p. p) (names x.text) (Array x.text IntKind [])
+
+abbrev pub term_at : Place → Term
+term_at (Scalar k t) = t
+term_at (Array x k ts) = Fixed (Int (pos 0))
+
+abbrev pub term_of : Places → Basic → Term
+term_of names b = term_at (place_of names b)
+
+abbrev pub scalars : List Decl → Places
+scalars ds x = option_map (scalar_place ds) (declaration ds x)
+
+-- each element of an array is a literal or a scalar's name
+abbrev pub declared_elements : List Decl → Decl → List Term
+declared_elements ds d = map (term_of (scalars ds)) (parts d.value)
+
 abbrev pub place_of_declared : List Decl → Decl → Place
-place_of_declared ds d =
-    cond (is_scalar d) (Scalar (kind_of_base d.base) (scalar_term ds d))
-    (Array d.name.text (kind_of_base d.base) (map (term_of ds) (parts d.value)))
+place_of_declared ds d = cond (is_scalar d) (scalar_place ds d)
+    (Array d.name.text (kind_of_base d.base) (declared_elements ds d))
 
-abbrev pub place_of : List Decl → Basic → Place
-place_of ds (Lit l) = Scalar (kind_of (literal_value l.what)) (Fixed (literal_value l.what))
-place_of ds (Named x) =
-    option_map_or (place_of_declared ds) (declaration ds x.text) (Array x.text IntKind [])
+abbrev pub places : List Decl → Places
+places ds x = option_map (place_of_declared ds) (declaration ds x)
 
 -- ---- the model of a tree
 
@@ -225,48 +249,64 @@ variable_declared d = record {
   domain = domain_of d.base;
 }
 
-abbrev pub definition_of : List Decl → Option Expr → Option Term
-definition_of ds (Some (One b)) = Some (term_of ds b)
-definition_of ds _ = None
+abbrev pub definition_of : Places → Option Expr → Option Term
+definition_of names (Some (One b)) = Some (term_of names b)
+definition_of names _ = None
 
 abbrev pub declared_of : List Decl → Decl → Declared
 declared_of ds d =
     cond d.is_var
     (cond (is_scalar d)
-    (ScalarVariable (variable_declared d) (definition_of ds d.value))
+    (ScalarVariable (variable_declared d) (definition_of (scalars ds) d.value))
     (ArrayOfVariables d.name.text (kind_of_base d.base) (domain_of d.base)
-    (map (term_of ds) (parts d.value))))
+    (declared_elements ds d)))
     (Parameter d.name.text (place_of_declared ds d))
 
-abbrev pub argument_of : List Decl → Expr → Argument
-argument_of ds (One b) = Argument.One (place_of ds b)
-argument_of ds (Several bs) = Argument.ListOf (map (place_of ds) bs)
+abbrev pub argument_of : Places → Expr → Argument
+argument_of names (One b) = Argument.One (place_of names b)
+argument_of names (Several bs) = Argument.ListOf (map (place_of names) bs)
+
+abbrev pub variable_at : Place → Option ℕ
+variable_at (Scalar k (Var n)) = Some n
+variable_at _ = None
+
+-- the name that is the only argument of an annotation, where it is a name by itself
+abbrev pub only_arg : tree.NoteArgs → Option tree.NoteArg
+only_arg (MoreArgs a NoMoreArgs) = Some a
+only_arg _ = None
+
+abbrev pub inner_of : tree.NoteArg → Option tree.Note
+inner_of (OneBasic (Inner n)) = Some n
+inner_of _ = None
+
+abbrev pub bare_name_of : tree.Note → Option (List ℕ)
+bare_name_of (Called x NoMoreArgs) = Some x
+bare_name_of _ = None
+
+abbrev pub only_name : tree.NoteArgs → Option (List ℕ)
+only_name args = option_and_then bare_name_of (option_and_then inner_of (only_arg args))
 
 -- the variable that an annotation of the form defines_var(x) names
-abbrev pub scalar_variable_number : List Decl → List ℕ → Option ℕ
-scalar_variable_number ds x = cond (declares (scalar_variables ds) x) (Some (number_of ds x)) None
+abbrev pub defined_by : Places → tree.Note → Option ℕ
+defined_by names (Called n args) = cond (bytes_eq n (codes "defines_var"))
+    (option_and_then (λ x. option_and_then variable_at (names x)) (only_name args)) None
 
-abbrev pub defined_by : List Decl → tree.Note → Option ℕ
-defined_by ds (Called n (MoreArgs (OneBasic (Inner (Called x NoMoreArgs))) NoMoreArgs)) = cond
-    (bytes_eq n (codes "defines_var")) (scalar_variable_number ds x) None
-defined_by ds _ = None
-
-abbrev pub posted_of : List Decl → Constraint → Posted
-posted_of ds c = record {
+abbrev pub posted_of : Places → Constraint → Posted
+posted_of names c = record {
   name = c.name;
-  arguments = map (argument_of ds) c.args;
-  target = first_some (defined_by ds) c.notes;
+  arguments = map (argument_of names) c.args;
+  target = first_some (defined_by names) c.notes;
 }
 
-abbrev pub aim_of : List Decl → Goal → Aim
-aim_of ds Satisfy = Aim.Satisfy
-aim_of ds (Minimize b) = Aim.Minimize (term_of ds b)
-aim_of ds (Maximize b) = Aim.Maximize (term_of ds b)
+abbrev pub aim_of : Places → Goal → Aim
+aim_of names Satisfy = Aim.Satisfy
+aim_of names (Minimize b) = Aim.Minimize (term_of names b)
+aim_of names (Maximize b) = Aim.Maximize (term_of names b)
 
 -- the model of a tree
 abbrev pub model_of : LocatedTree → Model
 model_of t = record {
   declared = map (declared_of t.decls) t.decls;
-  constraints = map (posted_of t.decls) t.constraints;
-  aim = aim_of t.decls t.solve.goal;
+  constraints = map (posted_of (places t.decls)) t.constraints;
+  aim = aim_of (places t.decls) t.solve.goal;
 }

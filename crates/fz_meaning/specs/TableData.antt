@@ -1,6 +1,6 @@
 -- How the code stores a base row (private functions only).
 use Rattle.std.specs.Prelude.{◌≡◌, ℕ, List, [], ◌∷◌, map}
-use Rattle.fz_meaning.specs.Builtins.{Row, with_bool}
+use Rattle.fz_meaning.specs.Builtins.{Row, builtins, row_at, with_bool}
 use Rattle.fz_meaning.specs.declared.row.BaseRow.{BaseRow}
 use Rattle.fz_meaning.specs.declared.row.Lengths.{Lengths}
 use Rattle.fz_meaning.specs.declared.row.Lengths.TheVariants.{Free, Equal, Summed, Packed, Raised, Shaped}
@@ -40,3 +40,13 @@ pub record IsData (kept : BaseRow) (r : Row) : Type 0 where
   pub wide : wide_in kept.2 ≡ r.wide
   pub matrix : matrix_in kept.2 ≡ r.matrix
   pub has_forms : kept.3 ≡ r.has_forms
+
+-- the rows are those of the builtins, in the order of the table
+pub record AreData (rows : List BaseRow) : Type 0 where
+  pub shapes : map (λ k. map shape_of k.0.now) rows
+      ≡ map (λ b. with_bool (row_at b).shapes) builtins
+  pub filled : map (λ k. as_result k.1) rows ≡ map (λ b. result_of (row_at b)) builtins
+  pub together : map (λ k. together_in k.2) rows ≡ map (λ b. (row_at b).together) builtins
+  pub wide : map (λ k. wide_in k.2) rows ≡ map (λ b. (row_at b).wide) builtins
+  pub matrix : map (λ k. matrix_in k.2) rows ≡ map (λ b. (row_at b).matrix) builtins
+  pub has_forms : map (λ k. k.3) rows ≡ map (λ b. (row_at b).has_forms) builtins

@@ -1,7 +1,8 @@
 //! What the rows of the table ask of a constraint's arguments, and which of them may be filled.
 
-ghost use Rattle.fz_meaning.specs.Builtins.{row_at};
-ghost use Rattle.fz_meaning.specs.TableData.{IsData};
+ghost use Rattle.std.specs.Prelude.{◌≡◌, Some, slice_get};
+ghost use Rattle.fz_meaning.specs.Builtins.{builtins, row_at};
+ghost use Rattle.fz_meaning.specs.TableData.{AreData, IsData};
 
 use crate::builtin::Builtin;
 use crate::kind::Kind;
@@ -101,7 +102,7 @@ const FREE: Lengths = Lengths::Free;
 
 const FIRST_TWO: Lengths = Lengths::Equal(&[0, 1]);
 
-const SECOND_AND_THIRD: Lengths = Lengths::Equal(&[1, 2]);
+const B_AND_C: Lengths = Lengths::Equal(&[1, 2]);
 
 const FIRST_THREE: Lengths = Lengths::Equal(&[0, 1, 2]);
 
@@ -123,206 +124,162 @@ const FORMS: bool = true;
 
 const ALONE: bool = false;
 
+static ROWS: [BaseRow; 124] = [
+    BaseRow(&[INT, INT, BOOL], A_OR_B, FREE, FORMS), // int_eq
+    BaseRow(&[INT, INT, BOOL], NONE, FREE, FORMS), // int_ne
+    BaseRow(&[INT, INT, BOOL], NONE, FREE, FORMS), // int_le
+    BaseRow(&[INT, INT, BOOL], NONE, FREE, FORMS), // int_lt
+    BaseRow(&[INT, INT, BOOL], NONE, FREE, FORMS), // int_ge
+    BaseRow(&[INT, INT, BOOL], NONE, FREE, FORMS), // int_gt
+    BaseRow(&[INTS, INTS, INT, BOOL], UNIT_TERM, SUMMED, FORMS), // int_lin_eq
+    BaseRow(&[INTS, INTS, INT, BOOL], NONE, SUMMED, FORMS), // int_lin_ne
+    BaseRow(&[INTS, INTS, INT, BOOL], NONE, SUMMED, FORMS), // int_lin_le
+    BaseRow(&[INT, INT, INT, BOOL], C, FREE, ALONE), // int_plus
+    BaseRow(&[INT, INT, INT, BOOL], C, FREE, ALONE), // int_minus
+    BaseRow(&[INT, INT, INT, BOOL], C, FREE, ALONE), // int_times
+    BaseRow(&[INT, INT, INT, BOOL], C, FREE, ALONE), // int_min
+    BaseRow(&[INT, INT, INT, BOOL], C, FREE, ALONE), // int_max
+    BaseRow(&[INT, INT, BOOL], B, FREE, ALONE), // int_abs
+    BaseRow(&[INT, INT, BOOL], B, FREE, ALONE), // int_negate
+    BaseRow(&[INT, INT, INT, BOOL], C, FREE, ALONE), // int_div
+    BaseRow(&[INT, INT, INT, BOOL], C, FREE, ALONE), // int_mod
+    BaseRow(&[INT, INT, INT, BOOL], C, RAISED, ALONE), // int_pow
+    BaseRow(&[INT, INTS, INT, BOOL], C, FREE, ALONE), // array_int_element
+    BaseRow(&[INT, INTS, BOOL], A, FREE, ALONE), // array_int_maximum
+    BaseRow(&[INT, INTS, BOOL], A, FREE, ALONE), // array_int_minimum
+    BaseRow(&[INTS, BOOL], NONE, FREE, FORMS), // fzn_all_different_int
+    BaseRow(&[BOOL, BOOL, BOOL], A_OR_B, FREE, FORMS), // bool_eq
+    BaseRow(&[BOOL, BOOL, BOOL], NONE, FREE, FORMS), // bool_le
+    BaseRow(&[BOOL, BOOL, BOOL], NONE, FREE, FORMS), // bool_lt
+    BaseRow(&[BOOL, BOOL, BOOL], NONE, FREE, FORMS), // bool_ge
+    BaseRow(&[BOOL, BOOL, BOOL], NONE, FREE, FORMS), // bool_gt
+    BaseRow(&[BOOL, BOOL, BOOL], A_OR_B, FREE, FORMS), // bool_not
+    BaseRow(&[BOOL, BOOL, BOOL, BOOL], C, FREE, ALONE), // bool_and
+    BaseRow(&[BOOL, BOOL, BOOL, BOOL], C, FREE, ALONE), // bool_or
+    BaseRow(&[BOOL, BOOL, BOOL, BOOL], C, FREE, ALONE), // bool_xor
+    BaseRow(&[BOOL, BOOL, BOOL, BOOL], NONE, FREE, ALONE), // bool_and_imp
+    BaseRow(&[BOOL, BOOL, BOOL, BOOL], NONE, FREE, ALONE), // bool_or_imp
+    BaseRow(&[BOOL, BOOL, BOOL, BOOL], NONE, FREE, ALONE), // bool_xor_imp
+    BaseRow(&[BOOLS, BOOL, BOOL], B, FREE, ALONE), // array_bool_and
+    BaseRow(&[BOOLS, BOOL, BOOL], B, FREE, ALONE), // array_bool_or
+    BaseRow(&[BOOLS, BOOL, BOOL], NONE, FREE, ALONE), // array_bool_and_imp
+    BaseRow(&[BOOLS, BOOL, BOOL], NONE, FREE, ALONE), // array_bool_or_imp
+    BaseRow(&[BOOLS, BOOL], NONE, FREE, FORMS), // array_bool_xor
+    BaseRow(&[INT, BOOLS, BOOL, BOOL], C, FREE, ALONE), // array_bool_element
+    BaseRow(&[BOOLS, BOOLS, BOOL], NONE, FREE, FORMS), // bool_clause
+    BaseRow(&[BOOL, INT, BOOL], A_OR_B, FREE, ALONE), // bool2int
+    BaseRow(&[INTS, BOOLS, INT, BOOL], C, FIRST_TWO, FORMS), // bool_lin_eq
+    BaseRow(&[INTS, BOOLS, INT, BOOL], NONE, FIRST_TWO, FORMS), // bool_lin_le
+    BaseRow(&[INTS, BOOLS, INT, BOOL], NONE, FIRST_TWO, FORMS), // bool_lin_ne
+    BaseRow(&[INTS, BOOLS, INT, BOOL], NONE, FIRST_TWO, FORMS), // bool_lin_lt
+    BaseRow(&[INTS, BOOLS, INT, BOOL], NONE, FIRST_TWO, FORMS), // bool_lin_ge
+    BaseRow(&[INTS, BOOLS, INT, BOOL], NONE, FIRST_TWO, FORMS), // bool_lin_gt
+    BaseRow(&[INT, SET, BOOL], NONE, FREE, FORMS), // set_in
+    BaseRow(&[SET, SET, BOOL], A_OR_B, FREE, FORMS), // set_eq
+    BaseRow(&[SET, SET, BOOL], NONE, FREE, FORMS), // set_ne
+    BaseRow(&[SET, SET, BOOL], NONE, FREE, FORMS), // set_subset
+    BaseRow(&[SET, SET, BOOL], NONE, FREE, FORMS), // set_superset
+    BaseRow(&[SET, SET, SET, BOOL], C, FREE, ALONE), // set_union
+    BaseRow(&[SET, SET, SET, BOOL], C, FREE, ALONE), // set_intersect
+    BaseRow(&[SET, SET, SET, BOOL], C, FREE, ALONE), // set_diff
+    BaseRow(&[SET, SET, SET, BOOL], C, FREE, ALONE), // set_symdiff
+    BaseRow(&[SET, INT, BOOL], B, FREE, ALONE), // set_card
+    BaseRow(&[SET, BOOL], NONE, FREE, FORMS), // set_convex
+    BaseRow(&[INT, SETS, SET, BOOL], C, FREE, ALONE), // array_set_element
+    BaseRow(&[SET, SETS, SET, BOOL], C, FREE, ALONE), // gecode_array_set_element_union
+    BaseRow(&[INTS, BOOL], NONE, FREE, FORMS), // fzn_alldifferent_except_0
+    BaseRow(&[INTS, BOOL], NONE, FREE, FORMS), // fzn_all_equal_int
+    BaseRow(&[INTS, INT, INT, BOOL], C, FREE, FORMS), // fzn_count_eq
+    BaseRow(&[INTS, INT, INT, BOOL], NONE, FREE, FORMS), // fzn_count_neq
+    BaseRow(&[INTS, INT, INT, BOOL], NONE, FREE, FORMS), // fzn_count_geq
+    BaseRow(&[INTS, INT, INT, BOOL], NONE, FREE, FORMS), // fzn_count_gt
+    BaseRow(&[INTS, INT, INT, BOOL], NONE, FREE, FORMS), // fzn_count_leq
+    BaseRow(&[INTS, INT, INT, BOOL], NONE, FREE, FORMS), // fzn_count_lt
+    BaseRow(&[INT, INTS, SET, BOOL], A, FREE, FORMS), // fzn_among
+    BaseRow(&[INT, INTS, BOOL], A, FREE, FORMS), // fzn_nvalue
+    BaseRow(&[INT, INTS, INT, BOOL], NONE, FREE, FORMS), // fzn_at_least_int
+    BaseRow(&[INT, INTS, INT, BOOL], NONE, FREE, FORMS), // fzn_at_most_int
+    BaseRow(&[INT, INTS, INT, BOOL], NONE, FREE, FORMS), // fzn_exactly_int
+    BaseRow(&[INTS, INTS, INTS, BOOL], NONE, B_AND_C, FORMS), // fzn_global_cardinality
+    BaseRow(&[INTS, INTS, INTS, BOOL], NONE, B_AND_C, FORMS), // fzn_global_cardinality_closed
+    // fzn_global_cardinality_low_up, and that with _closed
+    BaseRow(&[INTS, INTS, INTS, INTS, BOOL], NONE, LAST_THREE, FORMS),
+    BaseRow(&[INTS, INTS, INTS, INTS, BOOL], NONE, LAST_THREE, FORMS),
+    BaseRow(&[INTS, INTS, INTS, BOOL], NONE, FIRST_TWO, FORMS), // fzn_distribute
+    BaseRow(&[INTS, INTS, INTS, INT, BOOL], NONE, FIRST_THREE, FORMS), // fzn_cumulative
+    BaseRow(&[INTS, INTS, BOOL], NONE, FIRST_TWO, FORMS), // fzn_disjunctive
+    BaseRow(&[INTS, INTS, BOOL], NONE, FIRST_TWO, FORMS), // fzn_disjunctive_strict
+    BaseRow(&[INTS, INTS, BOOL], NONE, FIRST_TWO, FORMS), // gecode_schedule_unary
+    BaseRow(&[INTS, INTS, INTS, INTS, BOOL], NONE, ALL_FOUR, FORMS), // fzn_diffn
+    BaseRow(&[INTS, INTS, INTS, INTS, BOOL], NONE, ALL_FOUR, FORMS), // fzn_diffn_nonstrict
+    BaseRow(&[INTS, INTS, INTS, INTS, BOOL], NONE, ALL_FOUR, FORMS), // gecode_nooverlap
+    BaseRow(&[INT, INTS, BOOL], NONE, FREE, FORMS), // gecode_circuit
+    BaseRow(&[INT, INTS, BOOL], NONE, FREE, FORMS), // fzcheck_subcircuit
+    BaseRow(&[INTS, INT, INTS, INT, BOOL], NONE, FREE, FORMS), // inverse_offsets
+    BaseRow(&[INTS, INTS, BOOL], NONE, TABLE, FORMS), // fzn_table_int
+    BaseRow(&[BOOLS, BOOLS, BOOL], NONE, TABLE, FORMS), // fzn_table_bool
+    BaseRow(
+        &[INTS, INT, INT, INTS, INT, SET, BOOL],
+        NONE,
+        AUTOMATON,
+        FORMS,
+    ), // fzn_regular
+    BaseRow(&[INT, INTS, INTS, BOOL], NONE, B_AND_C, FORMS), // fzn_bin_packing
+    BaseRow(&[INTS, INTS, INTS, INT, BOOL], NONE, B_AND_C, FORMS), // gecode_bin_packing_load
+    BaseRow(&[INTS, INTS, BOOL], NONE, FREE, FORMS), // fzn_lex_less_int
+    BaseRow(&[INTS, INTS, BOOL], NONE, FREE, FORMS), // fzn_lex_lesseq_int
+    BaseRow(&[BOOLS, BOOLS, BOOL], NONE, FREE, FORMS), // fzn_lex_less_bool
+    BaseRow(&[BOOLS, BOOLS, BOOL], NONE, FREE, FORMS), // fzn_lex_lesseq_bool
+    BaseRow(&[INTS, BOOL], NONE, FREE, FORMS), // fzn_increasing_int
+    BaseRow(&[BOOLS, BOOL], NONE, FREE, FORMS), // fzn_increasing_bool
+    BaseRow(&[INTS, BOOL], NONE, FREE, FORMS), // fzn_decreasing_int
+    BaseRow(&[BOOLS, BOOL], NONE, FREE, FORMS), // fzn_decreasing_bool
+    BaseRow(&[INTS, BOOL], NONE, FREE, FORMS), // fzn_strictly_increasing_int
+    BaseRow(&[INT, INT, INTS, BOOL], NONE, FREE, FORMS), // fzn_value_precede_int
+    BaseRow(&[INTS, INT, INT, BOOL], NONE, FREE, FORMS), // gecode_precede
+    BaseRow(&[SETS, INT, INT, BOOL], NONE, FREE, FORMS), // gecode_precede_set
+    BaseRow(&[INTS, INTS, BOOL], NONE, FREE, FORMS), // fzn_value_precede_chain_int
+    BaseRow(&[INTS, BOOL], NONE, FREE, FORMS), // fzn_seq_precede_chain_int
+    BaseRow(&[INTS, INTS, BOOL], NONE, FREE, FORMS), // fzn_sort
+    BaseRow(&[INTS, INT, BOOL], NONE, FREE, FORMS), // fzn_member_int
+    BaseRow(&[BOOLS, BOOL, BOOL], NONE, FREE, FORMS), // fzn_member_bool
+    BaseRow(&[INTS, INT, INT, BOOL], C, FREE, FORMS), // gecode_maximum_arg_int_offset
+    BaseRow(&[INTS, INT, INT, BOOL], C, FREE, FORMS), // gecode_minimum_arg_int_offset
+    BaseRow(&[BOOLS, INT, INT, BOOL], C, FREE, FORMS), // gecode_maximum_arg_bool_offset
+    BaseRow(&[INTS, INTS, INTS, INT, INT, BOOL], NONE, PACKED, FORMS), // fzn_knapsack
+    BaseRow(&[INT, INT, INT, INTS, BOOL], NONE, FREE, FORMS), // fzn_sliding_sum
+    BaseRow(&[INTS, SET, INT, INT, INT, BOOL], NONE, FREE, FORMS), // gecode_among_seq_int
+    BaseRow(&[INTS, INTS, SET, INT, BOOL], D, FIRST_TWO, FORMS), // gecode_set_weights
+    BaseRow(&[SET, BOOLS, INT, BOOL], NONE, FREE, FORMS), // gecode_link_set_to_booleans
+    BaseRow(&[INTS, INT, SETS, INT, BOOL], NONE, FREE, FORMS), // gecode_int_set_channel
+    BaseRow(&[SETS, SETS, INT, INT, BOOL], NONE, FREE, FORMS), // gecode_inverse_set
+    BaseRow(&[SET, SET, BOOL], NONE, FREE, FORMS), // fzn_disjoint
+    BaseRow(&[SETS, SET, BOOL], NONE, FREE, FORMS), // fzn_partition_set
+];
+
+// The rows in the order of the table.
+#[inline(always)]
+fn rows() -> &'static [BaseRow]
+    ensures { AreData result.now }
+{
+    &ROWS
+}
+
 impl Builtin {
+    // Its place in the table.
+    #[tactic(auto, unfolding(crate::specs::Builtins::builtins))]
+    #[inline(always)]
+    fn place(self) -> usize
+        ensures { slice_get builtins result ≡ Some self }
+    {
+        self as usize
+    }
+
     // The row of the table.
-    #[tactic(auto, unfolding(crate::specs::Builtins::row_at, crate::specs::Results::result_of))]
     #[inline(always)]
     pub(crate) fn base_row(self) -> BaseRow
         ensures { IsData result (row_at self) }
     {
-        match self {
-            Builtin::IntEq => BaseRow(&[INT, INT, BOOL], A_OR_B, FREE, FORMS),
-            Builtin::IntNe => BaseRow(&[INT, INT, BOOL], NONE, FREE, FORMS),
-            Builtin::IntLe => BaseRow(&[INT, INT, BOOL], NONE, FREE, FORMS),
-            Builtin::IntLt => BaseRow(&[INT, INT, BOOL], NONE, FREE, FORMS),
-            Builtin::IntGe => BaseRow(&[INT, INT, BOOL], NONE, FREE, FORMS),
-            Builtin::IntGt => BaseRow(&[INT, INT, BOOL], NONE, FREE, FORMS),
-            Builtin::IntLinEq => BaseRow(&[INTS, INTS, INT, BOOL], UNIT_TERM, SUMMED, FORMS),
-            Builtin::IntLinNe => BaseRow(&[INTS, INTS, INT, BOOL], NONE, SUMMED, FORMS),
-            Builtin::IntLinLe => BaseRow(&[INTS, INTS, INT, BOOL], NONE, SUMMED, FORMS),
-            Builtin::IntPlus => BaseRow(&[INT, INT, INT, BOOL], C, FREE, ALONE),
-            Builtin::IntMinus => BaseRow(&[INT, INT, INT, BOOL], C, FREE, ALONE),
-            Builtin::IntTimes => BaseRow(&[INT, INT, INT, BOOL], C, FREE, ALONE),
-            Builtin::IntMin => BaseRow(&[INT, INT, INT, BOOL], C, FREE, ALONE),
-            Builtin::IntMax => BaseRow(&[INT, INT, INT, BOOL], C, FREE, ALONE),
-            Builtin::IntAbs => BaseRow(&[INT, INT, BOOL], B, FREE, ALONE),
-            Builtin::IntNegate => BaseRow(&[INT, INT, BOOL], B, FREE, ALONE),
-            Builtin::IntDiv => BaseRow(&[INT, INT, INT, BOOL], C, FREE, ALONE),
-            Builtin::IntMod => BaseRow(&[INT, INT, INT, BOOL], C, FREE, ALONE),
-            Builtin::IntPow => BaseRow(&[INT, INT, INT, BOOL], C, RAISED, ALONE),
-            Builtin::ArrayIntElement => BaseRow(&[INT, INTS, INT, BOOL], C, FREE, ALONE),
-            Builtin::ArrayIntMaximum => BaseRow(&[INT, INTS, BOOL], A, FREE, ALONE),
-            Builtin::ArrayIntMinimum => BaseRow(&[INT, INTS, BOOL], A, FREE, ALONE),
-            Builtin::FznAllDifferentInt => BaseRow(&[INTS, BOOL], NONE, FREE, FORMS),
-            Builtin::BoolEq => BaseRow(&[BOOL, BOOL, BOOL], A_OR_B, FREE, FORMS),
-            Builtin::BoolLe => BaseRow(&[BOOL, BOOL, BOOL], NONE, FREE, FORMS),
-            Builtin::BoolLt => BaseRow(&[BOOL, BOOL, BOOL], NONE, FREE, FORMS),
-            Builtin::BoolGe => BaseRow(&[BOOL, BOOL, BOOL], NONE, FREE, FORMS),
-            Builtin::BoolGt => BaseRow(&[BOOL, BOOL, BOOL], NONE, FREE, FORMS),
-            Builtin::BoolNot => BaseRow(&[BOOL, BOOL, BOOL], A_OR_B, FREE, FORMS),
-            Builtin::BoolAnd => BaseRow(&[BOOL, BOOL, BOOL, BOOL], C, FREE, ALONE),
-            Builtin::BoolOr => BaseRow(&[BOOL, BOOL, BOOL, BOOL], C, FREE, ALONE),
-            Builtin::BoolXor => BaseRow(&[BOOL, BOOL, BOOL, BOOL], C, FREE, ALONE),
-            Builtin::BoolAndImp => BaseRow(&[BOOL, BOOL, BOOL, BOOL], NONE, FREE, ALONE),
-            Builtin::BoolOrImp => BaseRow(&[BOOL, BOOL, BOOL, BOOL], NONE, FREE, ALONE),
-            Builtin::BoolXorImp => BaseRow(&[BOOL, BOOL, BOOL, BOOL], NONE, FREE, ALONE),
-            Builtin::ArrayBoolAnd => BaseRow(&[BOOLS, BOOL, BOOL], B, FREE, ALONE),
-            Builtin::ArrayBoolOr => BaseRow(&[BOOLS, BOOL, BOOL], B, FREE, ALONE),
-            Builtin::ArrayBoolAndImp => BaseRow(&[BOOLS, BOOL, BOOL], NONE, FREE, ALONE),
-            Builtin::ArrayBoolOrImp => BaseRow(&[BOOLS, BOOL, BOOL], NONE, FREE, ALONE),
-            Builtin::ArrayBoolXor => BaseRow(&[BOOLS, BOOL], NONE, FREE, FORMS),
-            Builtin::ArrayBoolElement => BaseRow(&[INT, BOOLS, BOOL, BOOL], C, FREE, ALONE),
-            Builtin::BoolClause => BaseRow(&[BOOLS, BOOLS, BOOL], NONE, FREE, FORMS),
-            Builtin::Bool2Int => BaseRow(&[BOOL, INT, BOOL], A_OR_B, FREE, ALONE),
-            Builtin::BoolLinEq => BaseRow(&[INTS, BOOLS, INT, BOOL], C, FIRST_TWO, FORMS),
-            Builtin::BoolLinLe => BaseRow(&[INTS, BOOLS, INT, BOOL], NONE, FIRST_TWO, FORMS),
-            Builtin::BoolLinNe => BaseRow(&[INTS, BOOLS, INT, BOOL], NONE, FIRST_TWO, FORMS),
-            Builtin::BoolLinLt => BaseRow(&[INTS, BOOLS, INT, BOOL], NONE, FIRST_TWO, FORMS),
-            Builtin::BoolLinGe => BaseRow(&[INTS, BOOLS, INT, BOOL], NONE, FIRST_TWO, FORMS),
-            Builtin::BoolLinGt => BaseRow(&[INTS, BOOLS, INT, BOOL], NONE, FIRST_TWO, FORMS),
-            Builtin::SetIn => BaseRow(&[INT, SET, BOOL], NONE, FREE, FORMS),
-            Builtin::SetEq => BaseRow(&[SET, SET, BOOL], A_OR_B, FREE, FORMS),
-            Builtin::SetNe => BaseRow(&[SET, SET, BOOL], NONE, FREE, FORMS),
-            Builtin::SetSubset => BaseRow(&[SET, SET, BOOL], NONE, FREE, FORMS),
-            Builtin::SetSuperset => BaseRow(&[SET, SET, BOOL], NONE, FREE, FORMS),
-            Builtin::SetUnion => BaseRow(&[SET, SET, SET, BOOL], C, FREE, ALONE),
-            Builtin::SetIntersect => BaseRow(&[SET, SET, SET, BOOL], C, FREE, ALONE),
-            Builtin::SetDiff => BaseRow(&[SET, SET, SET, BOOL], C, FREE, ALONE),
-            Builtin::SetSymdiff => BaseRow(&[SET, SET, SET, BOOL], C, FREE, ALONE),
-            Builtin::SetCard => BaseRow(&[SET, INT, BOOL], B, FREE, ALONE),
-            Builtin::SetConvex => BaseRow(&[SET, BOOL], NONE, FREE, FORMS),
-            Builtin::ArraySetElement => BaseRow(&[INT, SETS, SET, BOOL], C, FREE, ALONE),
-            Builtin::GecodeArraySetElementUnion => BaseRow(&[SET, SETS, SET, BOOL], C, FREE, ALONE),
-            Builtin::FznAlldifferentExcept0 => BaseRow(&[INTS, BOOL], NONE, FREE, FORMS),
-            Builtin::FznAllEqualInt => BaseRow(&[INTS, BOOL], NONE, FREE, FORMS),
-            Builtin::FznCountEq => BaseRow(&[INTS, INT, INT, BOOL], C, FREE, FORMS),
-            Builtin::FznCountNeq => BaseRow(&[INTS, INT, INT, BOOL], NONE, FREE, FORMS),
-            Builtin::FznCountGeq => BaseRow(&[INTS, INT, INT, BOOL], NONE, FREE, FORMS),
-            Builtin::FznCountGt => BaseRow(&[INTS, INT, INT, BOOL], NONE, FREE, FORMS),
-            Builtin::FznCountLeq => BaseRow(&[INTS, INT, INT, BOOL], NONE, FREE, FORMS),
-            Builtin::FznCountLt => BaseRow(&[INTS, INT, INT, BOOL], NONE, FREE, FORMS),
-            Builtin::FznAmong => BaseRow(&[INT, INTS, SET, BOOL], A, FREE, FORMS),
-            Builtin::FznNvalue => BaseRow(&[INT, INTS, BOOL], A, FREE, FORMS),
-            Builtin::FznAtLeastInt => BaseRow(&[INT, INTS, INT, BOOL], NONE, FREE, FORMS),
-            Builtin::FznAtMostInt => BaseRow(&[INT, INTS, INT, BOOL], NONE, FREE, FORMS),
-            Builtin::FznExactlyInt => BaseRow(&[INT, INTS, INT, BOOL], NONE, FREE, FORMS),
-            Builtin::FznGlobalCardinality => BaseRow(
-                &[INTS, INTS, INTS, BOOL],
-                NONE,
-                SECOND_AND_THIRD,
-                FORMS,
-            ),
-            Builtin::FznGlobalCardinalityClosed => BaseRow(
-                &[INTS, INTS, INTS, BOOL],
-                NONE,
-                SECOND_AND_THIRD,
-                FORMS,
-            ),
-            Builtin::FznGlobalCardinalityLowUp => BaseRow(
-                &[INTS, INTS, INTS, INTS, BOOL],
-                NONE,
-                LAST_THREE,
-                FORMS,
-            ),
-            Builtin::FznGlobalCardinalityLowUpClosed => BaseRow(
-                &[INTS, INTS, INTS, INTS, BOOL],
-                NONE,
-                LAST_THREE,
-                FORMS,
-            ),
-            Builtin::FznDistribute => BaseRow(&[INTS, INTS, INTS, BOOL], NONE, FIRST_TWO, FORMS),
-            Builtin::FznCumulative => BaseRow(
-                &[INTS, INTS, INTS, INT, BOOL],
-                NONE,
-                FIRST_THREE,
-                FORMS,
-            ),
-            Builtin::FznDisjunctive => BaseRow(&[INTS, INTS, BOOL], NONE, FIRST_TWO, FORMS),
-            Builtin::FznDisjunctiveStrict => BaseRow(&[INTS, INTS, BOOL], NONE, FIRST_TWO, FORMS),
-            Builtin::GecodeScheduleUnary => BaseRow(&[INTS, INTS, BOOL], NONE, FIRST_TWO, FORMS),
-            Builtin::FznDiffn => BaseRow(&[INTS, INTS, INTS, INTS, BOOL], NONE, ALL_FOUR, FORMS),
-            Builtin::FznDiffnNonstrict => BaseRow(
-                &[INTS, INTS, INTS, INTS, BOOL],
-                NONE,
-                ALL_FOUR,
-                FORMS,
-            ),
-            Builtin::GecodeNooverlap => BaseRow(
-                &[INTS, INTS, INTS, INTS, BOOL],
-                NONE,
-                ALL_FOUR,
-                FORMS,
-            ),
-            Builtin::GecodeCircuit => BaseRow(&[INT, INTS, BOOL], NONE, FREE, FORMS),
-            Builtin::FzcheckSubcircuit => BaseRow(&[INT, INTS, BOOL], NONE, FREE, FORMS),
-            Builtin::InverseOffsets => BaseRow(&[INTS, INT, INTS, INT, BOOL], NONE, FREE, FORMS),
-            Builtin::FznTableInt => BaseRow(&[INTS, INTS, BOOL], NONE, TABLE, FORMS),
-            Builtin::FznTableBool => BaseRow(&[BOOLS, BOOLS, BOOL], NONE, TABLE, FORMS),
-            Builtin::FznRegular => BaseRow(
-                &[INTS, INT, INT, INTS, INT, SET, BOOL],
-                NONE,
-                AUTOMATON,
-                FORMS,
-            ),
-            Builtin::FznBinPacking => BaseRow(
-                &[INT, INTS, INTS, BOOL],
-                NONE,
-                SECOND_AND_THIRD,
-                FORMS,
-            ),
-            Builtin::GecodeBinPackingLoad => BaseRow(
-                &[INTS, INTS, INTS, INT, BOOL],
-                NONE,
-                SECOND_AND_THIRD,
-                FORMS,
-            ),
-            Builtin::FznLexLessInt => BaseRow(&[INTS, INTS, BOOL], NONE, FREE, FORMS),
-            Builtin::FznLexLesseqInt => BaseRow(&[INTS, INTS, BOOL], NONE, FREE, FORMS),
-            Builtin::FznLexLessBool => BaseRow(&[BOOLS, BOOLS, BOOL], NONE, FREE, FORMS),
-            Builtin::FznLexLesseqBool => BaseRow(&[BOOLS, BOOLS, BOOL], NONE, FREE, FORMS),
-            Builtin::FznIncreasingInt => BaseRow(&[INTS, BOOL], NONE, FREE, FORMS),
-            Builtin::FznIncreasingBool => BaseRow(&[BOOLS, BOOL], NONE, FREE, FORMS),
-            Builtin::FznDecreasingInt => BaseRow(&[INTS, BOOL], NONE, FREE, FORMS),
-            Builtin::FznDecreasingBool => BaseRow(&[BOOLS, BOOL], NONE, FREE, FORMS),
-            Builtin::FznStrictlyIncreasingInt => BaseRow(&[INTS, BOOL], NONE, FREE, FORMS),
-            Builtin::FznValuePrecedeInt => BaseRow(&[INT, INT, INTS, BOOL], NONE, FREE, FORMS),
-            Builtin::GecodePrecede => BaseRow(&[INTS, INT, INT, BOOL], NONE, FREE, FORMS),
-            Builtin::GecodePrecedeSet => BaseRow(&[SETS, INT, INT, BOOL], NONE, FREE, FORMS),
-            Builtin::FznValuePrecedeChainInt => BaseRow(&[INTS, INTS, BOOL], NONE, FREE, FORMS),
-            Builtin::FznSeqPrecedeChainInt => BaseRow(&[INTS, BOOL], NONE, FREE, FORMS),
-            Builtin::FznSort => BaseRow(&[INTS, INTS, BOOL], NONE, FREE, FORMS),
-            Builtin::FznMemberInt => BaseRow(&[INTS, INT, BOOL], NONE, FREE, FORMS),
-            Builtin::FznMemberBool => BaseRow(&[BOOLS, BOOL, BOOL], NONE, FREE, FORMS),
-            Builtin::GecodeMaximumArgIntOffset => BaseRow(&[INTS, INT, INT, BOOL], C, FREE, FORMS),
-            Builtin::GecodeMinimumArgIntOffset => BaseRow(&[INTS, INT, INT, BOOL], C, FREE, FORMS),
-            Builtin::GecodeMaximumArgBoolOffset => {
-                BaseRow(&[BOOLS, INT, INT, BOOL], C, FREE, FORMS)
-            }
-            Builtin::FznKnapsack => {
-                BaseRow(&[INTS, INTS, INTS, INT, INT, BOOL], NONE, PACKED, FORMS)
-            }
-            Builtin::FznSlidingSum => BaseRow(&[INT, INT, INT, INTS, BOOL], NONE, FREE, FORMS),
-            Builtin::GecodeAmongSeqInt => {
-                BaseRow(&[INTS, SET, INT, INT, INT, BOOL], NONE, FREE, FORMS)
-            }
-            Builtin::GecodeSetWeights => {
-                BaseRow(&[INTS, INTS, SET, INT, BOOL], D, FIRST_TWO, FORMS)
-            }
-            Builtin::GecodeLinkSetToBooleans => BaseRow(
-                &[SET, BOOLS, INT, BOOL],
-                NONE,
-                FREE,
-                FORMS,
-            ),
-            Builtin::GecodeIntSetChannel => BaseRow(
-                &[INTS, INT, SETS, INT, BOOL],
-                NONE,
-                FREE,
-                FORMS,
-            ),
-            Builtin::GecodeInverseSet => BaseRow(&[SETS, SETS, INT, INT, BOOL], NONE, FREE, FORMS),
-            Builtin::FznDisjoint => BaseRow(&[SET, SET, BOOL], NONE, FREE, FORMS),
-            Builtin::FznPartitionSet => BaseRow(&[SETS, SET, BOOL], NONE, FREE, FORMS),
-        }
+        rows()[self.place()]
     }
 }

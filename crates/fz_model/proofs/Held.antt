@@ -29,14 +29,6 @@ use Rattle.fz_model.proofs.Opens.{alone}
 
 -- ---- kinds and indices
 
-shape_at : (ss : List Shape) (xs : List Argument) (i j : ℕ) (t : Term) → have_shapes ss xs ≡ true
-    → slice_get (terms_at_argument xs i) j ≡ Some t → (s : Shape) × (slice_get ss i ≡ Some s)
-shape_at [] [] i j t h at = cc
-shape_at [] (x ∷ xs) i j t h at = no h
-shape_at (s ∷ ss) [] i j t h at = no h
-shape_at (s ∷ ss) (x ∷ xs) zero j t h at = (s, refl)
-shape_at (s ∷ ss) (x ∷ xs) (suc i) j t h at = shape_at ss xs i j t (and_second (has_shape s x) _ h) at
-
 -- there is a scalar where one is asked for
 scalar_shape : (ss : List Shape) (xs : List Argument) (i : ℕ) (k : Kind) (t : Term)
     → have_shapes ss xs ≡ true → slice_get xs i ≡ Some (One (Scalar k t))

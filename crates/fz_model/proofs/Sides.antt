@@ -28,15 +28,6 @@ not_all (n, is) =
     let one_is : pos 1 ≡ n = (is (pos 1)).0 refl in
     cc
 
-between_itself : (lo k : ℤ) → (int_le lo k && int_le k lo) ≡ true → k ≡ lo
-between_itself lo k h = grind (arith, ints)
-
-between_is : (lo k : ℤ) → k ≡ lo → (int_le lo k && int_le k lo) ≡ true
-between_is lo k e = grind (arith, ints)
-
-pub within_one : (lo hi : ℤ) → lo ≡ hi → IsOnlyNumber (Within lo hi) (Some lo)
-within_one lo hi e = subst (λ h. IsOnlyNumber (Within lo h) (Some lo)) e (λ k. (between_itself lo k, between_is lo k))
-
 between_ends : (lo hi k : ℤ) → lo ≤ℤ k → k ≤ℤ hi → (int_le lo k && int_le k hi) ≡ true
 between_ends lo hi k h g = grind (arith, ints)
 

@@ -1,5 +1,4 @@
 pub mod Naming
 pub mod Names
-pub mod Hashing
 pub mod Numbered
 pub use Rattle.fz_meaning.specs as of_meaning

@@ -14,7 +14,6 @@ ghost use Rattle.fz_names.specs.Names.{is_key, same_key};
 ghost use Rattle.fz_names.specs.Naming.{has_text, standing_view, stands_for, IsAmongTerms};
 ghost use Rattle.fz_names.specs.Numbered.{IsNumbered};
 
-use crate::hashing::NameHasher;
 use crate::numbered::Numbered;
 use fz_base::Value;
 use fz_meaning::Term;
@@ -118,7 +117,7 @@ pub enum Standing<'m> {
 }
 
 /// The names that no cell of `Numbered` has, found by their text.
-type Table<'a> = IndexSet<Kept<'a>, BuildHasherDefault<NameHasher>>;
+type Table<'a> = IndexSet<Kept<'a>>;
 
 /// The declared names, in source order. A contract sees the list of them, each with what it stands
 /// for.

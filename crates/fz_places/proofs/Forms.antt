@@ -239,11 +239,6 @@ next_form s behind rest is f some =
       }
     ]
 
-pub form_is_long : (rest : List ℕ) → HasForm rest → 0 < length rest
-form_is_long rest f =
-    let within : length f.segment.file.now < length rest = file_is_within f.segment rest [] (append-nil (segment_text f.segment) ∙ f.text) in
-    omega (arith, within)
-
 -- ---- the segments so far
 
 pub record Reading (path : List ℕ) (done : List Segment) (rest : List ℕ) (count : ℕ) : Type 0 where

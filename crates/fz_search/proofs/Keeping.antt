@@ -8,7 +8,7 @@ use Rattle.fz_bounds.specs.of_model.Meaning.{Assignment, Model, Partial, Point, 
 use Rattle.fz_bounds.specs.of_model.Openings.{HasEach}
 use Rattle.fz_bounds.specs.of_model.States.{HoldsIfKnown, IsKnownSolution}
 use Rattle.fz_bounds.proofs.of_model.Lists.{at_place, there_is}
-use Rattle.fz_search.specs.Refuted.{HaveNoSolution, HoldAll, KeepSolutions}
+use Rattle.fz_search.specs.Refuted.{HaveNoSolution, KeepSolutions}
 
 -- a step of the point of a number loses no known-solution
 pub kept : (m : Model) (k : ℕ) (B C : Ranges) → k < length (points m)
@@ -60,8 +60,3 @@ pub none_with : (m : Model) (F : Partial) (B : Ranges)
     → ((A : Assignment) → IsKnownSolution m A → HasEach F (whole A) → IsInside B A)
     → HaveNoSolution m B → (A : Assignment) → IsKnownSolution m A → HasEach F (whole A) → ⊥
 none_with m F B all never A solution has = never A solution (all A solution has)
-
--- bounds inside which all of them lie still hold them where they become narrower and lose none
-pub hold_kept : (m : Model) (F : Partial) (B C : Ranges) → HoldAll m F B → KeepSolutions m B C
-    → HoldAll m F C
-hold_kept m F B C all step A solution has = step A solution (all A solution has)

@@ -198,7 +198,8 @@ struct Task<'t, 'a> {
     filling: &'t Partial,
 }
 
-/// Goes one way from some bounds: what is found, unless a contradiction is met that may show more.
+/// Searches once from these bounds, in one order. It gives what was found, and with it the
+/// contradiction that it met, if any: that may narrow the bounds for another search.
 fn gone(
     task: &Task<'_, '_>,
     way: Way,
@@ -228,8 +229,8 @@ fn gone(
     }
 }
 
-/// Goes one way from some bounds, and tells what it comes to, unless a number is taken from the
-/// bounds: then it is worth going it again.
+/// Searches once in this order, and gives what was found. It gives none where the contradiction
+/// that was met took a number from the bounds: then the same search can come further.
 fn attempt(
     task: &Task<'_, '_>,
     way: Way,
@@ -257,8 +258,8 @@ fn attempt(
     }
 }
 
-/// Goes one way as often as numbers are taken from the bounds by that. The steps that are taken again
-/// are noted.
+/// Repeats the search in this order as long as each one takes a number from the bounds. What takes
+/// them is noted.
 fn go(
     task: &Task<'_, '_>,
     way: Way,

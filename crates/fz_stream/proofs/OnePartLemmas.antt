@@ -36,8 +36,7 @@ cut at begun text [] = at_end begun
 cut at begun text (line ∷ lines) = after (step_of begun at (kind_of line)) (λ b t. cut (at + length line) b t lines) text line
 
 abbrev somes : List Frame → List (Option Frame)
-somes [] = []
-somes (frame ∷ frames) = Some frame ∷ somes frames
+somes frames = map Some frames
 
 filler_step : (k : LineKind) (at : ℕ) → IsFillerKind k → step_of None at k ≡ GoesOn None
 filler_step Blank at h = refl
@@ -50,39 +49,28 @@ inner_step Marker at start h = absurd h
 inner_step (Claim kind) at start h = absurd h
 inner_step _ at start h = refl
 
-moved : (at n m : ℕ) (begun : Option ℕ) (text : List ℕ) (rest : List Line) → n ≡ m
-    → cut (at + n) begun text rest ≡ cut (at + m) begun text rest
-moved at n m begun text rest e = ap (λ k. cut (at + k) begun text rest) e
+-- lines that end nothing are passed, up to the offset behind them
+over_fillers : (at to : ℕ) (gap rest : List Line) → AllByRecursion IsFiller gap
+    → to ≡ at + length (joined gap) → cut at None [] (gap ++ rest) ≡ cut to None [] rest
+over_fillers at to [] rest h e = ap (λ n. cut n None [] rest) (let s : at ≡ to = omega (arith, e) in s)
+over_fillers at to (x ∷ gap) rest h e =
+    ap (λ s. after s (λ b t. cut (at + length x) b t (gap ++ rest)) [] x) (filler_step (kind_of x) at h.0)
+    ∙ over_fillers (at + length x) to gap rest h.1 (omega (arith, e, length-append x (joined gap)))
 
-not_moved : (at : ℕ) (begun : Option ℕ) (text : List ℕ) (rest : List Line)
-    → cut at begun text rest ≡ cut (at + 0) begun text rest
-not_moved at begun text rest = ap (λ n. cut n begun text rest) (let e : at ≡ at + 0 = omega arith in e)
+over_inner : (at to start : ℕ) (text : List ℕ) (body rest : List Line) → AllByRecursion IsInner body
+    → to ≡ at + length (joined body)
+    → cut at (Some start) text (body ++ rest) ≡ cut to (Some start) (text ++ joined body) rest
+over_inner at to start text [] rest h e = (let s : at ≡ to = omega (arith, e) in ap (λ n. cut n (Some start) text rest) s) ∙ ap (λ t. cut to (Some start) t rest) (sym (append-nil text))
+over_inner at to start text (x ∷ body) rest h e =
+    ap (λ s. after s (λ b t. cut (at + length x) b t (body ++ rest)) text x) (inner_step (kind_of x) at start h.0)
+    ∙ over_inner (at + length x) to start (text ++ x) body rest h.1 (omega (arith, e, length-append x (joined body))) ∙ ap (λ t. cut to (Some start) t rest) (append_assoc text x (joined body))
 
-moved_twice : (at : ℕ) (x : Line) (xs : List ℕ) (begun : Option ℕ) (text : List ℕ) (rest : List Line)
-    → cut ((at + length x) + length xs) begun text rest ≡ cut (at + length (x ++ xs)) begun text rest
-moved_twice at x xs begun text rest =
-    ap (λ n. cut n begun text rest) (let e : (at + length x) + length xs ≡ at + length (x ++ xs) = omega (arith, length-append x xs) in e)
-
-over_fillers : (at : ℕ) (gap rest : List Line) → AllByRecursion IsFiller gap
-    → cut at None [] (gap ++ rest) ≡ cut (at + length (joined gap)) None [] rest
-over_fillers at [] rest h = not_moved at None [] rest
-over_fillers at (x ∷ gap) rest h =
-    ap (λ s. after s (λ b t. cut (at + length x) b t (gap ++ rest)) [] x) (filler_step (kind_of x) at h.0) ∙ over_fillers (at + length x) gap rest h.1 ∙ moved_twice at x (joined gap) None [] rest
-
-over_inner : (at start : ℕ) (text : List ℕ) (body rest : List Line) → AllByRecursion IsInner body
-    → cut at (Some start) text (body ++ rest)
-    ≡ cut (at + length (joined body)) (Some start) (text ++ joined body) rest
-over_inner at start text [] rest h = not_moved at (Some start) text rest ∙ ap (λ t. cut (at + 0) (Some start) t rest) (sym (append-nil text))
-over_inner at start text (x ∷ body) rest h =
-    ap (λ s. after s (λ b t. cut (at + length x) b t (body ++ rest)) text x) (inner_step (kind_of x) at start h.0) ∙ over_inner (at + length x) start (text ++ x) body rest h.1
-    ∙ ap (λ t. cut ((at + length x) + length (joined body)) (Some start) t rest) (append_assoc text x (joined body)) ∙ moved_twice at x (joined body) (Some start) (text ++ (x ++ joined body)) rest
-
-over_body : (at : ℕ) (body rest : List Line) → AreBlockLines body
-    → cut at None [] (body ++ rest)
-    ≡ cut (at + length (joined body)) (opened body at) (joined body) rest
-over_body at [] rest h = not_moved at None [] rest
-over_body at (x ∷ body) rest h =
-    ap (λ k. after (step_of None at k) (λ b t. cut (at + length x) b t (body ++ rest)) [] x) h.0 ∙ over_inner (at + length x) at x body rest h.1 ∙ moved_twice at x (joined body) (Some at) (x ++ joined body) rest
+over_body : (at to : ℕ) (body rest : List Line) → AreBlockLines body
+    → to ≡ at + length (joined body)
+    → cut at None [] (body ++ rest) ≡ cut to (opened body at) (joined body) rest
+over_body at to [] rest h e = ap (λ n. cut n None [] rest) (let s : at ≡ to = omega (arith, e) in s)
+over_body at to (x ∷ body) rest h e =
+    ap (λ k. after (step_of None at k) (λ b t. cut (at + length x) b t (body ++ rest)) [] x) h.0 ∙ over_inner (at + length x) to at x body rest h.1 (omega (arith, e, length-append x (joined body)))
 
 over_closing : (at start : ℕ) (body : List Line) (line : Line) (rest : List Line) (frame : Frame)
     → at ≡ start + length (joined body) → Closes start body line frame
@@ -98,32 +86,37 @@ over_closing at start (x ∷ body) line rest (BlockFrame offset text) place c =
 over_closing at start [] line rest (ClaimFrame kind) place c = ap (λ k. after (step_of None at k) (λ b t. cut (at + length line) b t rest) [] line) c.0
 over_closing at start (x ∷ body) line rest (ClaimFrame kind) place c = absurd (let no : x ∷ body ≡ [] = c.1 in cc)
 
-over_frame : (at : ℕ) (own rest : List Line) (frame : Frame) → AreLinesOfFrame at own frame
-    → cut at None [] (own ++ rest) ≡ Some frame ∷ cut (at + length (joined own)) None [] rest
-over_frame at own rest frame k =
-    let size : ((at + length (joined k.gap)) + length (joined k.body)) + length k.line ≡ at + length (joined own) =
-    omega (arith, ap (λ l. length (joined l)) k.whole, two_parts k.gap (k.body ++ k.line ∷ []), two_parts k.body (k.line ∷ []), ap length (append-nil k.line)) in
-    ap (cut at None []) (ap (λ l. l ++ rest) k.whole ∙ simp append_assoc) ∙ over_fillers at k.gap (k.body ++ (k.line ∷ rest)) k.fillers ∙ over_body (at + length (joined k.gap)) k.body (k.line ∷ rest) k.own
-    ∙ over_closing ((at + length (joined k.gap)) + length (joined k.body)) (at + length (joined k.gap)) k.body k.line rest frame refl k.closes ∙ ap (λ n. Some frame ∷ cut n None [] rest) size
+over_frame : (at to : ℕ) (own rest : List Line) (frame : Frame) → AreLinesOfFrame at own frame
+    → to ≡ at + length (joined own)
+    → cut at None [] (own ++ rest) ≡ Some frame ∷ cut to None [] rest
+over_frame at to own rest frame k e =
+    let start : ℕ = at + length (joined k.gap) in
+    let here : ℕ = start + length (joined k.body) in
+    let end : here + length k.line ≡ to =
+    omega (arith, e, ap (λ l. length (joined l)) k.whole, two_parts k.gap (k.body ++ k.line ∷ []), two_parts k.body (k.line ∷ []), ap length (append-nil k.line)) in
+    ap (cut at None []) (ap (λ l. l ++ rest) k.whole ∙ simp append_assoc) ∙ over_fillers at start k.gap (k.body ++ (k.line ∷ rest)) k.fillers refl ∙ over_body start here k.body (k.line ∷ rest) k.own refl
+    ∙ over_closing here start k.body k.line rest frame refl k.closes ∙ ap (λ n. Some frame ∷ cut n None [] rest) end
 
-over_frames : (at : ℕ) (covered rest : List Line) (frames : List Frame)
-    → AreLinesOf at covered frames → cut at None [] (covered ++ rest)
-    ≡ somes frames ++ cut (at + length (joined covered)) None [] rest
-over_frames at covered rest [] h = ap (λ l. cut at None [] (l ++ rest)) h ∙ not_moved at None [] rest ∙ moved at 0 (length (joined covered)) None [] rest (sym (ap (λ l. length (joined l)) h))
-over_frames at covered rest (frame ∷ frames) h =
-    let size : (at + length (joined h.0)) + length (joined h.1) ≡ at + length (joined covered) = omega (arith, ap (λ l. length (joined l)) h.2, two_parts h.0 h.1) in
-    ap (cut at None []) (ap (λ l. l ++ rest) h.2 ∙ append_assoc h.0 h.1 rest) ∙ over_frame at h.0 (h.1 ++ rest) frame h.3
-    ∙ ap (λ l. Some frame ∷ l) (over_frames (at + length (joined h.0)) h.1 rest frames h.4 ∙ ap (λ n. somes frames ++ cut n None [] rest) size)
+over_frames : (at to : ℕ) (covered rest : List Line) (frames : List Frame)
+    → AreLinesOf at covered frames → to ≡ at + length (joined covered)
+    → cut at None [] (covered ++ rest) ≡ somes frames ++ cut to None [] rest
+over_frames at to covered rest [] h e =
+    ap (λ l. cut at None [] (l ++ rest)) h ∙ ap (λ n. cut n None [] rest) (let s : at ≡ to = omega (arith, e, ap (λ l. length (joined l)) h) in s)
+over_frames at to covered rest (frame ∷ frames) h e =
+    let next : ℕ = at + length (joined h.0) in
+    ap (cut at None []) (ap (λ l. l ++ rest) h.2 ∙ append_assoc h.0 h.1 rest) ∙ over_frame at next h.0 (h.1 ++ rest) frame h.3 refl
+    ∙ ap (λ l. Some frame ∷ l) (over_frames next to h.1 rest frames h.4 (omega (arith, e, ap (λ l. length (joined l)) h.2, two_parts h.0 h.1)))
 
 cut_of : (lines rest : List Line) (frames : List Frame) (gap body : List Line)
     → Covers lines frames gap body → (at : ℕ) × (start : ℕ)
     × (cut 0 None [] (lines ++ rest) ≡ somes frames ++ cut at (opened body start) (joined body) rest)
 cut_of lines rest frames gap body c =
-    let at : ℕ = 0 + length (joined c.covered) in (
-      (at + length (joined gap)) + length (joined body),
-      at + length (joined gap),
-      ap (cut 0 None []) (ap (λ l. l ++ rest) c.whole ∙ simp append_assoc) ∙ over_frames 0 c.covered (gap ++ (body ++ rest)) frames c.of_frames
-          ∙ ap (λ l. somes frames ++ l) (over_fillers at gap (body ++ rest) c.fillers ∙ over_body (at + length (joined gap)) body rest c.own),
+    let at : ℕ = length (joined c.covered) in
+    let start : ℕ = at + length (joined gap) in (
+      start + length (joined body),
+      start,
+      ap (cut 0 None []) (ap (λ l. l ++ rest) c.whole ∙ simp append_assoc) ∙ over_frames 0 at c.covered (gap ++ (body ++ rest)) frames c.of_frames (omega arith)
+          ∙ ap (λ l. somes frames ++ l) (over_fillers at start gap (body ++ rest) c.fillers refl ∙ over_body start (start + length (joined body)) body rest c.own refl),
     )
 
 cut_whole : (bytes : List ℕ) (frames : List Frame) → IsFramed bytes frames

@@ -1,4 +1,5 @@
--- A stream that is read line by line: the loop invariant of `blocks`.
+-- A stream that is read line by line: the loop invariant of `blocks`, and what follows of a stream
+-- that was read.
 use Rattle.std.proofs.Common.{◌≡◌, ℕ, ◌+◌, ◌-◌, ◌≤◌, Option, Some, None, List, [], ◌∷◌, ◌++◌, length, refl, sym, ap, ◌∙◌, subst, append_assoc, append-nil, length-append, arith, take, drop, map}
 use Rattle.std.proofs.lemmas.List.{drop-drop, drop_all, drop_at, take_at, length-drop, map_push}
 use Rattle.std.specs.List.{AllByRecursion}
@@ -7,25 +8,24 @@ use Rattle.fz_syntax.specs.Span.{Span}
 use Rattle.fz_syntax.specs.Tree.{Printed}
 use Rattle.fz_stream.specs.declared.error.StreamError.{StreamError}
 use Rattle.fz_stream.specs.declared.error.StreamError.TheVariants.{Unfinished}
-use Rattle.fz_stream.specs.declared.reading.Claim.{Claim as ClaimRead}
+use Rattle.fz_stream.specs.declared.reading.Claim.{Claim}
 use Rattle.fz_stream.specs.declared.line.ClaimKind.{ClaimKind}
 use Rattle.fz_stream.specs.declared.step.Step.{Step}
 use Rattle.fz_stream.specs.declared.step.Step.TheVariants.{GoesOn, EndsBlock, Claims, Breaks}
-use Rattle.fz_stream.specs.Parts.{Line, lines_of, joined, kind_of, SolutionBlock, StreamPart, BlockPart, ClaimPart, frame_of, IsBlockText, HasItems, Closes, AreLinesOf, Covers, IsStreamText, blocks_in}
-use Rattle.fz_stream.specs.Found.{claims_in, IsReadAs}
+use Rattle.fz_stream.specs.Parts.{Line, lines_of, joined, kind_of, SolutionBlock, StreamPart, BlockPart, ClaimPart, frame_of, IsBlockText, HasItems, Closes, Covers, IsStreamText, blocks_in, AreLinesOf}
+use Rattle.fz_stream.specs.Found.{claims_in, IsReadAs, AreInOrder, StandsBeforeMarker}
 use Rattle.fz_stream.specs.Step.{step_of}
 use Rattle.fz_stream.specs.Broken.{BreaksText, StopsAfter}
 use Rattle.fz_stream.specs.Telling.{TellsOfText}
 use Rattle.fz_stream.specs.Keeping.{BreaksBlock}
-use Rattle.fz_stream.proofs.LineLemmas.{joined-lines_of}
 use Rattle.fz_stream.proofs.OnePartLemmas.{parts_once}
 use Rattle.fz_stream.proofs.PartLemmas.{every_append, joined-append, one_more, size_of, into_gap, into_body, into_frames}
-use Rattle.fz_stream.proofs.StepLemmas.{opened, opens_more, none_open, some_open, Does, does}
-use Rattle.fz_stream.proofs.StopLemmas.{breaks_block, breaks_claim, breaks_at}
+use Rattle.fz_stream.proofs.SplitLemmas.{joined-lines_of}
+use Rattle.fz_stream.proofs.StepLemmas.{opened, opens_more, none_open, some_open, Does, does, breaks_block, breaks_claim, breaks_at}
 
 -- The lines before those that are left are those of frames, of blank lines and comments, and of an
 -- open block; and the blocks and claims that were read are those of the frames.
-pub record ReadSoFar (stream : List ℕ) (begun : Option ℕ) (at : ℕ) (blocks : List SolutionBlock) (claims : List ClaimRead) : Type 0 where
+pub record ReadSoFar (stream : List ℕ) (begun : Option ℕ) (at : ℕ) (blocks : List SolutionBlock) (claims : List Claim) : Type 0 where
   pub parts : List StreamPart
   pub items : AllByRecursion (HasItems standard_limits) parts
   pub lines : List Line
@@ -69,86 +69,54 @@ claims_in-append n (BlockPart b ∷ ps) qs =
 claims_in-append n (ClaimPart k ∷ ps) qs = ap (λ l. record { after = n; kind = k } ∷ l) (claims_in-append n ps qs)
 
 -- the next line of the stream
-module _ (stream : List ℕ) (begun : Option ℕ) (at : ℕ) (blocks : List SolutionBlock) (claims : List ClaimRead) (s : ReadSoFar stream begun at blocks claims)
+module _ (stream : List ℕ) (begun : Option ℕ) (at : ℕ) (blocks : List SolutionBlock) (claims : List Claim) (s : ReadSoFar stream begun at blocks claims)
     (rest : List ℕ) (left : rest ≡ drop at stream) (line : Line) (within : length line ≤ length rest) (cut : lines_of rest ≡ line ∷ lines_of (drop (length line) rest)) where
   left_are : lines_of stream ≡ s.lines ++ (line ∷ lines_of (drop (at + length line) stream))
   left_are = s.whole ∙ ap (λ l. s.lines ++ l) (ap lines_of (sym left) ∙ cut ∙ ap (λ l. line ∷ lines_of l) (ap (drop (length line)) left ∙ drop-drop (length line) at stream))
-
-  whole_next : lines_of stream ≡ (s.lines ++ line ∷ []) ++ lines_of (drop (at + length line) stream)
-  whole_next = left_are ∙ sym (append_assoc s.lines (line ∷ []) _)
-
-  inside : at + length line ≤ length stream
-  inside = omega (arith, s.within, within, ap length left, length-drop at stream)
 
   -- what the step of the line says
   line_does : (step : Step) → step_of begun at (kind_of line) ≡ step
       → Does step (length (joined s.covers.covered) + length (joined s.gap)) s.body line
   line_does = does at _ s.body line s.covers.own s.place_is begun s.begins
 
+  -- so far with the line: of these parts, and with this block open
+  so_far_with : (parts : List StreamPart) (gap body : List Line) (next : Option ℕ) (blocks : List SolutionBlock) (claims : List Claim) → AllByRecursion (HasItems standard_limits) parts
+      → (c : Covers (s.lines ++ line ∷ []) (map frame_of parts) gap body) → next ≡ opened body (length (joined c.covered) + length (joined gap))
+      → blocks ≡ blocks_in parts → claims ≡ claims_in 0 parts → ReadSoFar stream next (at + length line) blocks claims
+  so_far_with parts gap body next blocks claims items c begins blocks_are claims_are = record {
+    parts = parts;
+    items = items;
+    lines = s.lines ++ line ∷ [];
+    gap = gap;
+    body = body;
+    whole = left_are ∙ sym (append_assoc s.lines (line ∷ []) _);
+    covers = c;
+    place_is = omega (arith, s.place_is, size_of s.covers, one_more s.lines line, size_of c);
+    begins = begins;
+    within = omega (arith, s.within, within, ap length left, length-drop at stream);
+    blocks_are = blocks_are;
+    claims_are = claims_are;
+  }
+
   -- a line after which nothing ends
   pub so_far_goes_on : (next : Option ℕ) → step_of begun at (kind_of line) ≡ GoesOn next
       → ReadSoFar stream next (at + length line) blocks claims
-  so_far_goes_on None e =
-      let d = line_does (GoesOn None) e in
-      record {
-        parts = s.parts;
-        items = s.items;
-        lines = s.lines ++ line ∷ [];
-        gap = s.gap ++ line ∷ [];
-        body = [];
-        whole = whole_next;
-        covers = into_gap s.covers line d.0 d.1;
-        place_is = omega (arith, s.place_is, ap (λ b. length (joined b)) d.0, one_more s.gap line);
-        begins = refl;
-        within = inside;
-        blocks_are = s.blocks_are;
-        claims_are = s.claims_are;
-      }
+  so_far_goes_on None e = let d = line_does (GoesOn None) e in so_far_with s.parts _ [] None blocks claims s.items (into_gap s.covers line d.0 d.1) refl s.blocks_are s.claims_are
   so_far_goes_on (Some n) e =
       let d = line_does (GoesOn (Some n)) e in
-      record {
-        parts = s.parts;
-        items = s.items;
-        lines = s.lines ++ line ∷ [];
-        gap = s.gap;
-        body = s.body ++ line ∷ [];
-        whole = whole_next;
-        covers = into_body s.covers line d.0;
-        place_is = omega (arith, s.place_is, one_more s.body line);
-        begins = opens_more s.body line _ n d.1;
-        within = inside;
-        blocks_are = s.blocks_are;
-        claims_are = s.claims_are;
-      }
+      so_far_with s.parts s.gap _ (Some n) blocks claims s.items (into_body s.covers line d.0) (opens_more s.body line _ n d.1) s.blocks_are s.claims_are
 
   -- the line ends a frame
   so_far_part : (part : StreamPart) → HasItems standard_limits part
       → Closes (length (joined s.covers.covered) + length (joined s.gap)) s.body line (frame_of part)
-      → (more : List SolutionBlock) (claimed : List ClaimRead)
+      → (more : List SolutionBlock) (claimed : List Claim)
       → more ≡ blocks_in (part ∷ []) → claimed ≡ claims_in (0 + length (blocks_in s.parts)) (part ∷ [])
       → ReadSoFar stream None (at + length line) (blocks ++ more) (claims ++ claimed)
   so_far_part part items closes more claimed are claimed_are =
-      let covers = into_frames s.covers line (frame_of part) closes in
-      record {
-        parts = s.parts ++ part ∷ [];
-        items = every_append (HasItems standard_limits) s.parts (part ∷ []) s.items (items, tt);
-        lines = s.lines ++ line ∷ [];
-        gap = [];
-        body = [];
-        whole = whole_next;
-        covers = record {
-          covered = covers.covered;
-          whole = covers.whole;
-          of_frames = subst (AreLinesOf 0 covers.covered) (sym (map_push frame_of s.parts part)) covers.of_frames;
-          fillers = tt;
-          own = tt;
-        };
-        place_is = omega (arith, s.place_is, size_of s.covers, one_more s.lines line, size_of covers);
-        begins = refl;
-        within = inside;
-        blocks_are = ap (λ l. l ++ more) s.blocks_are ∙ ap (λ l. blocks_in s.parts ++ l) are ∙ sym (blocks_in-append s.parts (part ∷ []));
-        claims_are = ap (λ l. l ++ claimed) s.claims_are ∙ ap (λ l. claims_in 0 s.parts ++ l) claimed_are ∙ sym (claims_in-append 0 s.parts (part ∷ []));
-      }
+      so_far_with (s.parts ++ part ∷ []) [] [] None _ _ (every_append (HasItems standard_limits) s.parts (part ∷ []) s.items (items, tt))
+      (subst (λ frames. Covers (s.lines ++ line ∷ []) frames [] []) (sym (map_push frame_of s.parts part)) (into_frames s.covers line (frame_of part) closes)) refl
+      (ap (λ l. l ++ more) s.blocks_are ∙ ap (λ l. blocks_in s.parts ++ l) are ∙ sym (blocks_in-append s.parts (part ∷ [])))
+      (ap (λ l. l ++ claimed) s.claims_are ∙ ap (λ l. claims_in 0 s.parts ++ l) claimed_are ∙ sym (claims_in-append 0 s.parts (part ∷ [])))
 
   so_far_stops : (fault : StreamError) → BreaksBlock standard_limits s.lines (map frame_of s.parts) line fault
       → StopsAfter stream s.parts fault
@@ -187,7 +155,7 @@ module _ (stream : List ℕ) (begun : Option ℕ) (at : ℕ) (blocks : List Solu
         let d = line_does (EndsBlock start) e in
         so_far_stops fault (breaks_block _ _ _ _ _ s.covers line d.0 offset text (from ∙ d.1) text_is none fault told)
 
-  pub so_far_claim : (c : ClaimKind) → step_of begun at (kind_of line) ≡ Claims c → (claim : ClaimRead) → claim ≡ record { after = length blocks; kind = c }
+  pub so_far_claim : (c : ClaimKind) → step_of begun at (kind_of line) ≡ Claims c → (claim : Claim) → claim ≡ record { after = length blocks; kind = c }
       → ReadSoFar stream begun (at + length line) blocks (claims ++ claim ∷ [])
   so_far_claim c e claim is =
       let d = line_does (Claims c) e in
@@ -196,7 +164,7 @@ module _ (stream : List ℕ) (begun : Option ℕ) (at : ℕ) (blocks : List Solu
       subst (λ b. ReadSoFar stream b (at + length line) blocks (claims ++ claim ∷ [])) none (subst (λ l. ReadSoFar stream None (at + length line) l (claims ++ claim ∷ [])) (append-nil blocks)
       (so_far_part (ClaimPart c) tt d [] (claim ∷ []) refl (ap (λ x. x ∷ []) (is ∙ ap (λ (n : ℕ). claim_from n) place))))
     where
-      claim_from : ℕ → ClaimRead
+      claim_from : ℕ → Claim
       claim_from n = record { after = n; kind = c }
 
   -- a claim is inside the open block
@@ -206,7 +174,7 @@ module _ (stream : List ℕ) (begun : Option ℕ) (at : ℕ) (blocks : List Solu
       so_far_stops (Unfinished span) (breaks_claim _ _ _ _ _ s.covers line n _ refl (line_does (Breaks n) e) span from (upto ∙ s.place_is))
 
 -- the end of the stream
-module _ (stream : List ℕ) (at : ℕ) (blocks : List SolutionBlock) (claims : List ClaimRead) (end : length stream ≤ at) (begun : Option ℕ) (s : ReadSoFar stream begun at blocks claims) where
+module _ (stream : List ℕ) (at : ℕ) (blocks : List SolutionBlock) (claims : List Claim) (end : length stream ≤ at) (begun : Option ℕ) (s : ReadSoFar stream begun at blocks claims) where
   lines_are : lines_of stream ≡ s.lines ++ []
   lines_are = s.whole ∙ ap (λ l. s.lines ++ lines_of l) (drop_all at stream end)
 
@@ -224,3 +192,55 @@ module _ (stream : List ℕ) (at : ℕ) (blocks : List SolutionBlock) (claims : 
         s.items,
         record { lines = s.lines; gap = s.gap; body = s.body; rest = []; whole = lines_are; covers = s.covers; begun = w.0; breaks = tt; tells = (tt, from ∙ w.1, omega (arith, upto, end, s.within, s.place_is)) },
       )
+
+in_order_from : (least more most : ℕ) (claims : List Claim) → least ≤ more
+    → AreInOrder more most claims → AreInOrder least most claims
+in_order_from least more most [] l h = tt
+in_order_from least more most (claim ∷ claims) l h = (omega (arith, l, h.0), h.1, h.2)
+
+claims_in_order : (n most : ℕ) (parts : List StreamPart) → n + length (blocks_in parts) ≤ most
+    → AreInOrder n most (claims_in n parts)
+claims_in_order n most [] h = tt
+claims_in_order n most (BlockPart block ∷ parts) h = in_order_from n (n + 1) most (claims_in (n + 1) parts) (omega arith) (claims_in_order (n + 1) most parts (omega (arith, h)))
+claims_in_order n most (ClaimPart kind ∷ parts) h = (omega arith, omega (arith, h), claims_in_order n most parts h)
+
+-- the claims of a stream that was read don't fall
+pub read_in_order : (bytes : List ℕ) (blocks : List SolutionBlock) (claims : List Claim) (most : ℕ)
+    → IsReadAs bytes blocks claims → length blocks ≤ most → AreInOrder 0 most claims
+read_in_order bytes blocks claims most r h = subst (AreInOrder 0 most) (sym r.claims_are) (claims_in_order 0 most r.parts (omega (arith, h, ap length r.blocks_are)))
+
+stand_before : (bytes : List ℕ) (before covered rest : List Line) (start : ℕ)
+    (parts : List StreamPart) → lines_of bytes ≡ before ++ (covered ++ rest)
+    → start ≡ length (joined before)
+    → AreLinesOf start covered (map frame_of parts) → AllByRecursion (StandsBeforeMarker bytes) (blocks_in parts)
+stand_before bytes before covered rest start [] e s h = tt
+stand_before bytes before covered rest start (ClaimPart kind ∷ parts) e s h =
+    stand_before bytes (before ++ h.0) h.1 rest (start + length (joined h.0)) parts
+    (e ∙ ap (λ l. before ++ (l ++ rest)) h.2 ∙ simp append_assoc)
+    (omega (arith, s, ap length (joined-append before h.0), length-append (joined before) (joined h.0)))
+    h.4
+stand_before bytes before covered rest start (BlockPart block ∷ parts) e s h =
+    let k = h.3 in
+    let body : joined (before ++ (k.gap ++ k.body)) ≡ (joined before ++ joined k.gap) ++ block.text =
+    joined-append before (k.gap ++ k.body) ∙ ap (λ l. joined before ++ l) (joined-append k.gap k.body ∙ ap (λ l. joined k.gap ++ l) (sym k.closes.2)) ∙ sym (append_assoc (joined before) (joined k.gap) block.text) in (
+      record {
+        before = before ++ (k.gap ++ k.body);
+        marker = k.line;
+        after = h.1 ++ rest;
+        front = joined before ++ joined k.gap;
+        lines = e ∙ ap (λ l. before ++ (l ++ rest)) (h.2 ∙ ap (λ l. l ++ h.1) k.whole) ∙ simp append_assoc;
+        closes = k.closes.0;
+        text = body;
+        offset = k.closes.1 ∙ ap (λ n. n + length (joined k.gap)) s ∙ sym (length-append (joined before) (joined k.gap));
+      },
+      stand_before bytes (before ++ h.0) h.1 rest (start + length (joined h.0)) parts
+          (e ∙ ap (λ l. before ++ (l ++ rest)) h.2 ∙ simp append_assoc)
+          (omega (arith, s, ap length (joined-append before h.0), length-append (joined before) (joined h.0)))
+          h.4,
+    )
+
+-- each block of a stream that was read comes before a marker line
+pub read_before_markers : (bytes : List ℕ) (blocks : List SolutionBlock) (claims : List Claim)
+    → IsReadAs bytes blocks claims → AllByRecursion (StandsBeforeMarker bytes) blocks
+read_before_markers bytes blocks claims r =
+    subst (AllByRecursion (StandsBeforeMarker bytes)) (sym r.blocks_are) (stand_before bytes [] r.text.framed.1.covered (r.text.framed.0 ++ []) 0 r.parts r.text.framed.1.whole refl r.text.framed.1.of_frames)

@@ -1,6 +1,6 @@
--- Whole lines, and lines that have begun.
-use Rattle.std.proofs.Common.{◌≡◌, ◌≢◌, ℕ, ◌+◌, List, [], ◌∷◌, ◌++◌, length, take, drop, refl, sym, ap, ◌∙◌, subst, inl, inr, ◌⊎◌, ⊎_elim, zero, suc, ◌<◌, ◌≤◌, ◌-◌, length-append, append_assoc, take-append-drop, arith, cond, get_or}
-use Rattle.std.proofs.lemmas.Bool.{ne_eqb, eq-eqb, cases_eq}
+-- Where a stream is cut into lines: whole lines, and lines that have begun.
+use Rattle.std.proofs.Common.{◌≡◌, ◌≢◌, ℕ, ◌+◌, List, [], ◌∷◌, ◌++◌, length, take, drop, refl, sym, ap, ◌∙◌, subst, inl, inr, ◌⊎◌, zero, suc, ◌<◌, ◌≤◌, ◌-◌, length-append, append_assoc, take-append-drop, arith, cond, eqb, get_or, true}
+use Rattle.std.proofs.lemmas.Bool.{ne_eqb, eq-eqb, cond_both}
 use Rattle.std.proofs.lemmas.List.{get_or_at, take-append-le}
 use Rattle.std.specs.List.{AllByRecursion}
 use Rattle.fz_stream.specs.Parts.{Line, lines_of, onto_first, joined, HasNoFeed, EndsWithFeed}
@@ -9,6 +9,17 @@ use Rattle.fz_stream.proofs.PartLemmas.{every_append, every_left, every_right}
 -- the step of `lines_of` at a byte that is no LF
 onto : (x : ℕ) (xs : List ℕ) → x ≢ 10 → lines_of (x ∷ xs) ≡ onto_first x (lines_of xs)
 onto x xs n = ap (λ t. cond t ((x ∷ []) ∷ lines_of xs) (onto_first x (lines_of xs))) (ne_eqb x 10 n)
+
+-- the lines are all of the bytes
+pub joined-lines_of : (xs : List ℕ) → joined (lines_of xs) ≡ xs
+joined-lines_of [] = refl
+joined-lines_of (x ∷ xs) =
+    cond_both (eqb x 10) ((x ∷ []) ∷ lines_of xs) (onto_first x (lines_of xs)) (λ ls. joined ls ≡ x ∷ xs) (λ _. ap (λ l. x ∷ l) (joined-lines_of xs))
+    (λ _. in_front (lines_of xs) ∙ ap (λ l. x ∷ l) (joined-lines_of xs))
+  where
+    in_front : (ls : List Line) → joined (onto_first x ls) ≡ x ∷ joined ls
+    in_front [] = refl
+    in_front (l ∷ ls) = refl
 
 -- a whole line is the first of what begins with it
 lines_of-front : (front rest : List ℕ) → HasNoFeed front
@@ -27,10 +38,25 @@ pub lines_of-lines : (lines : List Line) (rest : List ℕ) → AllByRecursion En
 lines_of-lines [] rest h = refl
 lines_of-lines (l ∷ lines) rest h = ap lines_of (append_assoc l (joined lines) rest) ∙ lines_of-line l (joined lines ++ rest) h.0 ∙ ap (λ ls. l ∷ ls) (lines_of-lines lines rest h.1)
 
+-- what begins with a whole line is cut behind it
+pub first_whole : (xs line : List ℕ) → line ≡ take (length line) xs → EndsWithFeed line
+    → lines_of xs ≡ line ∷ lines_of (drop (length line) xs)
+first_whole xs line front w =
+    ap lines_of (sym (take-append-drop (length line) xs) ∙ ap (λ l. l ++ drop (length line) xs) (sym front)) ∙ lines_of-line line (drop (length line) xs) w
+
 -- bytes without LF are one line
-pub lines_of-begun : (x : ℕ) (xs : List ℕ) → HasNoFeed (x ∷ xs) → lines_of (x ∷ xs) ≡ (x ∷ xs) ∷ []
-lines_of-begun x [] h = onto x [] h.0
-lines_of-begun x (y ∷ ys) h = onto x (y ∷ ys) h.0 ∙ ap (onto_first x) (lines_of-begun y ys h.1)
+pub one_line : (xs : List ℕ) → 0 < length xs → HasNoFeed xs → lines_of xs ≡ xs ∷ []
+one_line [] l h = absurd (omega (arith, l))
+one_line (x ∷ []) l h = onto x [] h.0
+one_line (x ∷ y ∷ ys) l h = onto x (y ∷ ys) h.0 ∙ ap (onto_first x) (one_line (y ∷ ys) (omega arith) h.1)
+
+-- the bytes before the first LF
+pub no_feed_to : (xs : List ℕ) (i : ℕ) → ((k : ℕ) → k < i → eqb (get_or xs k 0) 10 ≡ true → ⊥)
+    → HasNoFeed (take i xs)
+no_feed_to [] zero n = tt
+no_feed_to [] (suc i) n = tt
+no_feed_to (x ∷ xs) zero n = tt
+no_feed_to (x ∷ xs) (suc i) n = ((λ e. n 0 (omega arith) (eq-eqb x 10 e)), no_feed_to xs i (λ k l. n (suc k) (omega (arith, l))))
 
 -- what has no LF doesn't end with one
 pub no_end : (line : List ℕ) → HasNoFeed line → EndsWithFeed line → ⊥
@@ -46,28 +72,6 @@ pub lines_up_to : (bytes : List ℕ) (lines : List Line) (current : List ℕ)
     → bytes ≡ joined lines ++ current → AllByRecursion EndsWithFeed lines
     → lines_of bytes ≡ lines ++ lines_of current
 lines_up_to bytes lines current e h = ap lines_of e ∙ lines_of-lines lines current h
-
--- the first line of some bytes is whole, or has no LF
-pub first_cut : (xs : List ℕ) (line : Line) (lines : List Line) → lines_of xs ≡ line ∷ lines
-    → EndsWithFeed line ⊎ HasNoFeed line
-first_cut [] line lines e = absurd (let no : [] ≡ line ∷ lines = e in cc)
-first_cut (x ∷ xs) line lines e = by (cases_eq x 10) (lines_of xs) refl (first_cut xs)
-  where
-    by : (x ≡ 10) ⊎ (x ≡ 10 → ⊥) → (ls : List Line) → lines_of xs ≡ ls
-        → ((l : Line) (m : List Line) → lines_of xs ≡ l ∷ m → EndsWithFeed l ⊎ HasNoFeed l)
-        → EndsWithFeed line ⊎ HasNoFeed line
-    by (inl t) ls s ih =
-        let h : (x ∷ []) ∷ lines_of xs ≡ line ∷ lines = sym (ap (λ b. cond b ((x ∷ []) ∷ lines_of xs) (onto_first x (lines_of xs))) (eq-eqb x 10 t)) ∙ e in
-        let k : x ∷ [] ≡ line = cc in
-        inl ([], tt, sym k ∙ ap (λ y. y ∷ []) t)
-    by (inr n) [] s ih =
-        let h : (x ∷ []) ∷ [] ≡ line ∷ lines = sym (onto x xs n ∙ ap (onto_first x) s) ∙ e in
-        let k : x ∷ [] ≡ line = cc in
-        inr (subst HasNoFeed k (n, tt))
-    by (inr n) (l ∷ m) s ih =
-        let h : (x ∷ l) ∷ m ≡ line ∷ lines = sym (onto x xs n ∙ ap (onto_first x) s) ∙ e in
-        let k : x ∷ l ≡ line = cc in
-        ⊎_elim (λ w. inl (x ∷ w.0, (n, w.1), sym k ∙ ap (λ y. x ∷ y) w.2)) (λ w. inr (subst HasNoFeed k (n, w))) (ih l m s)
 
 no_feed_at : (line : List ℕ) (i : ℕ) → HasNoFeed line → i < length line → get_or line i 0 ≡ 10 → ⊥
 no_feed_at [] i h l e = omega (arith, l)

@@ -1,14 +1,25 @@
--- What a line does to the open block, if one is open.
-use Rattle.std.proofs.Common.{◌≡◌, ◌≢◌, ℕ, ◌+◌, ◌<◌, Option, Some, None, List, [], ◌∷◌, ◌++◌, length, refl, sym, ap, subst, cond, arith}
+-- What a line does to the open block, if one is open; where it stops the stream, and what the fault
+-- tells of it.
+use Rattle.std.proofs.Common.{◌≡◌, ◌≢◌, ℕ, ◌+◌, ◌<◌, Option, Some, None, List, [], ◌∷◌, ◌++◌, length, refl, sym, ap, subst, cond, arith, ◌∙◌}
 use Rattle.std.proofs.lemmas.Bool.{ne_eqb}
 use Rattle.fz_stream.specs.declared.line.ClaimKind.{ClaimKind}
 use Rattle.fz_stream.specs.declared.line.LineKind.{LineKind}
 use Rattle.fz_stream.specs.declared.line.LineKind.TheVariants.{Blank, Comment, Marker, Claim, Item as ItemLine}
 use Rattle.fz_stream.specs.declared.step.Step.{Step}
 use Rattle.fz_stream.specs.declared.step.Step.TheVariants.{GoesOn, EndsBlock, Claims, Breaks}
-use Rattle.fz_stream.specs.Parts.{Line, joined, kind_of, IsFiller, IsFillerKind, IsInner, IsInnerKind, AreBlockLines}
+use Rattle.fz_stream.specs.Parts.{Line, joined, kind_of, IsFiller, IsFillerKind, IsInner, IsInnerKind, AreBlockLines, lines_of, Frame, IsBlockText, HasDistinctNames, Covers}
 use Rattle.fz_stream.specs.Step.{step_of, begun_of}
 use Rattle.fz_stream.proofs.PartLemmas.{every_append}
+use Rattle.fz_syntax.proofs.Parsed.{none_text}
+use Rattle.fz_syntax.specs.Limits.{Limits}
+use Rattle.fz_syntax.specs.Span.{Span}
+use Rattle.fz_syntax.specs.Tree.{Printed}
+use Rattle.fz_stream.specs.declared.error.StreamError.{StreamError}
+use Rattle.fz_stream.specs.declared.error.StreamError.TheVariants.{Unfinished}
+use Rattle.fz_stream.specs.Broken.{CannotFollow, BreaksAfter}
+use Rattle.fz_stream.specs.Keeping.{BreaksBlock}
+use Rattle.fz_stream.specs.Telling.{TellsOfText}
+use Rattle.fz_stream.proofs.FaultLemmas.{tells_before_marker}
 
 -- where the text of an open block begins, of which these are the lines so far, if there are any
 abbrev pub opened : List Line → ℕ → Option ℕ
@@ -74,3 +85,61 @@ module _ (at start : ℕ) (body : List Line) (line : Line) (own : AreBlockLines 
   pub does : (o : Option ℕ) → o ≡ opened body start → (s : Step) → step_of o at (kind_of line) ≡ s
       → Does s start body line
   does o b s e = subst (λ s. Does s start body line) e (by_kind o (kind_of line) refl b)
+
+none_apart : HasDistinctNames []
+none_apart i j d l m e = omega (arith, m)
+
+-- a text that no items spell isn't that of no lines
+some_lines : (limits : Limits) (b : List Line)
+    → ((items : List Printed) → IsBlockText limits (joined b) items → ⊥) → b ≢ []
+some_lines limits [] none e = none [] (none_text limits, none_apart)
+some_lines limits (x ∷ b) none e = (let no : x ∷ b ≡ [] = e in cc)
+
+module _ (limits : Limits) (lines : List Line) (frames : List Frame) (gap body : List Line) (c : Covers lines frames gap body) (line : Line) where
+  -- the text before a marker is none of a block
+  pub breaks_block : kind_of line ≡ Marker → (offset : ℕ) (text : List ℕ)
+      → offset ≡ length (joined c.covered) + length (joined gap) → text ≡ joined body
+      → ((items : List Printed) → IsBlockText limits text items → ⊥) → (fault : StreamError)
+      → TellsOfText limits offset text fault → BreaksBlock limits lines frames line fault
+  breaks_block closes offset text at is none fault told =
+      let no_block : (items : List Printed) → IsBlockText limits (joined body) items → ⊥ = λ items t. none items (subst (λ x. IsBlockText limits x items) (sym is) t) in
+      let start : ℕ = length (joined c.covered) + length (joined gap) in
+      record {
+        gap = gap;
+        body = body;
+        covers = c;
+        begun = some_lines limits body no_block;
+        cannot = subst (CannotFollow limits (joined body)) (sym closes) no_block;
+        tells = tells_before_marker limits start (joined body) (Some (kind_of line)) fault (ap Some closes) (subst (λ m. TellsOfText limits m (joined body) fault) at (subst (λ t. TellsOfText limits offset t fault) is told));
+      }
+
+  -- a claim is inside an open block
+  pub breaks_claim : (n start : ℕ) → start ≡ length (joined c.covered) + length (joined gap)
+      → Does (Breaks n) start body line → (span : Span)
+      → span.start ≡ n → span.end ≡ start + length (joined body)
+      → BreaksBlock limits lines frames line (Unfinished span)
+  breaks_claim n start at d span from upto = record {
+    gap = gap;
+    body = body;
+    covers = c;
+    begun = d.1;
+    cannot = subst (CannotFollow limits (joined body)) (sym d.0.1) tt;
+    tells = (d.0, from ∙ d.2 ∙ at, upto ∙ ap (λ n. n + length (joined body)) at);
+  }
+
+-- so the bytes of these lines and of more are broken
+pub breaks_at : (limits : Limits) (Breaking : Limits → List ℕ → List Line → Type 0) (bytes : List ℕ) (lines : List Line)
+    (frames : List Frame) (line : Line) (rest : List Line) (fault : StreamError)
+    → lines_of bytes ≡ lines ++ (line ∷ rest) → (b : BreaksBlock limits lines frames line fault)
+    → Breaking limits (joined b.body) (line ∷ rest) → BreaksAfter limits Breaking bytes frames fault
+breaks_at limits Breaking bytes lines frames line rest fault whole b breaks = record {
+  lines = lines;
+  gap = b.gap;
+  body = b.body;
+  rest = line ∷ rest;
+  whole = whole;
+  covers = b.covers;
+  begun = b.begun;
+  breaks = breaks;
+  tells = b.tells;
+}

@@ -37,11 +37,6 @@ pub record Stands (h : Held) (bytes : List ℕ) (frames : List Frame) : Type 0 w
   pub ended : AllByRecursion EndsWithFeed lines
   pub goes_on : HasNoFeed current
 
--- The bytes are the lines of the frames, which all end with LF.
-pub record IsCut (bytes : List ℕ) (frames : List Frame) : Type 0 where
-  pub covers : Covers (lines_of bytes) frames [] []
-  pub ended : AllByRecursion EndsWithFeed (lines_of bytes)
-
 -- the line was dropped, or joined the open block, and no frame has ended; or it ends the frame
 abbrev pub EndsLine : Option Ended → Held → Held → Type 0
 EndsLine None new old =
@@ -52,11 +47,13 @@ EndsLine (Some ended) new old =
     → Closes (length (joined l.covers.covered) + length (joined l.gap)) l.body line
     (frame_at ended new.before (take new.line new.buffer.items))
 
--- the bytes end in no frame, or with the last byte of one
+-- the bytes end in no frame, or are the lines of the frames and of one more, which all end with LF
 abbrev pub AfterBytes : Option Ended → Held → List ℕ → List Frame → Type 0
 AfterBytes None h bytes frames = Stands h bytes frames
 AfterBytes (Some ended) h bytes frames =
-    IsCut bytes (frames ++ frame_at ended h.before (take h.line h.buffer.items) ∷ [])
+    Covers (lines_of bytes)
+    (frames ++ frame_at ended h.before (take h.line h.buffer.items) ∷ []) [] []
+    × AllByRecursion EndsWithFeed (lines_of bytes)
 
 -- The line can't follow the open block, and the fault says what is wrong.
 pub record BreaksBlock (limits : Limits) (lines : List Line) (frames : List Frame) (line : Line)

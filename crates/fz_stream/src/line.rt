@@ -1,6 +1,6 @@
-ghost use Rattle.std.specs.Prelude.{◌≡◌, reverse, ◌∷◌, length, ◌<◌, ◌≤◌, take, drop, ◌==◌, position};
+ghost use Rattle.std.specs.Prelude.{◌≡◌, ◌⊎◌, reverse, ◌∷◌, length, ◌<◌, ◌≤◌, take, drop};
 ghost use Rattle.fz_syntax.specs.Token.{is_blank};
-ghost use Rattle.fz_stream.specs.Parts.{kind_of, kind_of_words, lines_of, skip_blanks};
+ghost use Rattle.fz_stream.specs.Parts.{kind_of, kind_of_words, lines_of, skip_blanks, EndsWithFeed, HasNoFeed};
 
 use memchr::memchr;
 
@@ -105,22 +105,16 @@ pub fn line_kind(line: &[u8]) -> LineKind
     }
 }
 
-/// The index of the first LF.
-fn feed_place(bytes: &[u8]) -> Option<usize>
-    ensures { result ≡ position (λ b. b == 10) bytes.now }
-{
-    memchr(b'\n', bytes)
-}
-
 /// The first line of the rest of a stream.
 pub fn first_line(rest: &[u8]) -> &[u8]
     requires { 0 < length rest.now }
     ensures front { result.now ≡ take (length result.now) rest.now }
     ensures some { 0 < length result.now }
     ensures within { length result.now ≤ length rest.now }
+    ensures whole { EndsWithFeed result.now ⊎ HasNoFeed result.now }
     ensures cut { lines_of rest.now ≡ result.now ∷ lines_of (drop (length result.now) rest.now) }
 {
-    match feed_place(rest) {
+    match memchr(b'\n', rest) {
         Some(i) => &rest[..i + 1],
         None => rest,
     }

@@ -65,6 +65,7 @@ impl Splitter {
 
     /// A splitter that has taken nothing. The limits are those of what it holds, and of the items
     /// of a block.
+    #[tactic(auto, using(crate::proofs::TakeLemmas::fits_nothing))]
     pub fn new(alloc: Global, limits: Limits) -> Splitter
         ensures fits { Fits result [] [] }
         ensures limits { result.limits ≡ limits }

@@ -8,7 +8,7 @@ use Rattle.fz_tree.specs.Tree.{Literal, Number, Truth, Range, Braces, Basic, Lit
 use Rattle.fz_tree.specs.Tokens.{mark, number_toks, literal_toks, name_toks, basic_toks, expr_toks, separated}
 use Rattle.fz_tree.specs.of_lex.declared.limits.Limits.{Limits}
 use Rattle.fz_tree.specs.Text.{is_reserved, IsName, IsLiteral, IsBounds, IsBasic, IsExpr, IsLiteralBasic}
-use Rattle.fz_syntax.specs.Reading.{is_mark, next_passes, next_is, next_word, at_most, whole_at, name_at, is_whole, is_name, begins_literal, begins_basic, braces_at, from_whole, literal_at, basic_at, expr_list_at, expr_at, literal_basic_at}
+use Rattle.fz_syntax.specs.Reading.{is_mark, is_word, next_passes, next_is, next_word, at_most, whole_at, name_at, is_whole, is_name, braces_at, from_whole, literal_at, basic_at, expr_list_at, expr_at, literal_basic_at}
 use Rattle.fz_syntax.proofs.Lists.{Shrinks}
 use Rattle.fz_syntax.proofs.Laws.{Always, Took, Takes, ◌⟫◌, step, made, choose, refused, first, marked, worded}
 use Rattle.fz_syntax.proofs.ListLaws.{Law, Ends, no_range, fits_more, apart, AtMost, bounded, list_again, bounded_list_takes}
@@ -55,6 +55,10 @@ name_again name rest is = rw is refl
 
 -- ---- what a literal begins with
 
+abbrev pub begins_literal : TokenValue → Bool
+begins_literal t =
+    is_whole t || (is_word (codes "true") t || (is_word (codes "false") t || is_mark OpenBrace t))
+
 pub literal_begun : (x : Literal) (rest : List TokenValue)
     → next_passes begins_literal (literal_toks x ++ rest) ≡ true
 literal_begun (Truth true) rest = refl
@@ -82,6 +86,9 @@ second_of_two f g (t ∷ ts) e = or_true (f t) (g t) e
     or_true : (a b : Bool) → b ≡ true → (a || b) ≡ true
     or_true true b h = refl
     or_true false b h = h
+
+abbrev pub begins_basic : TokenValue → Bool
+begins_basic t = is_name t || begins_literal t
 
 abbrev pub begins_expr : TokenValue → Bool
 begins_expr t = is_mark OpenBracket t || begins_basic t
@@ -249,14 +256,14 @@ module _ (l m : Limits) (allow : Allow l m) where
 
 -- ---- what is read takes a token at least
 
-pub numbers_shrink : (limit : ℕ) → Shrinks (at_most limit is_whole whole_at)
+pub numbers_shrink : (limit : ℕ) → Shrinks (at_most limit whole_at)
 numbers_shrink limit = (bounded whole_law limit).shrinks
 
 pub listed_shrinks : (limits : Limits)
-    → Shrinks (at_most limits.elements begins_basic (basic_at limits))
+    → Shrinks (at_most limits.elements (basic_at limits))
 listed_shrinks limits = (bounded (basic_law limits limits (same limits)) limits.elements).shrinks
 
 pub literals_shrink : (limits : Limits)
-    → Shrinks (at_most limits.elements begins_literal (literal_basic_at limits))
+    → Shrinks (at_most limits.elements (literal_basic_at limits))
 literals_shrink limits =
     (bounded (literal_basic_law limits limits (same limits)) limits.elements).shrinks

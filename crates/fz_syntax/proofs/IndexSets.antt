@@ -53,12 +53,11 @@ unfolding index_sets_at
 fails_step limits n tokens f found = rw found refl
 
 pub counts_stop : (e : Refusal) (limits : Limits) (left fewer : ℕ) (front : List Literal)
-    (tokens place : List TokenValue) (all : Read (List Literal)) → left ≡ suc fewer
-    → Counts limits left front tokens all → Fails e (index_set_at limits tokens) place
-    → Fails e all place
-counts_stop e limits left fewer front tokens place all one c h =
+    (tokens : List TokenValue) (all : Read (List Literal)) → left ≡ suc fewer
+    → Counts limits left front tokens all → Fails e (index_set_at limits tokens) → Fails e all
+counts_stop e limits left fewer front tokens all one c h =
     let now : with_front front (index_sets_at limits (suc fewer) tokens) ≡ all = ap (λ (n : ℕ). with_front front (index_sets_at limits n tokens)) (sym one) ∙ c.so_far in
-    fails_like e (index_set_at limits tokens) all place (λ f found. sym now ∙ ap (with_front front) (fails_step limits fewer tokens f found)) h
+    fails_like e (index_set_at limits tokens) all (λ found. sym now ∙ ap (with_front front) (fails_step limits fewer tokens tt found)) h
 
 no_more : (limits : Limits) (tokens : List TokenValue)
     → index_sets_at limits zero tokens ≡ Ok ([], tokens)

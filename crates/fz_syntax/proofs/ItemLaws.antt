@@ -9,13 +9,13 @@ use Rattle.fz_tree.specs.Tree.{Number, Truth, Expr, One, Several, Base, IntBase,
 use Rattle.fz_tree.specs.of_lex.declared.limits.Limits.{Limits}
 use Rattle.fz_tree.specs.Text.{IsBase, IsBaseOf, IsParam, IsPredicate, IsValueOf, IsDecl, IsConstraint, IsGoal, IsSolve, HasShape}
 use Rattle.fz_tree.specs.Tokens.{mark, name_toks, basic_toks, expr_toks, separated, notes_toks, base_toks, var_toks, prefix_toks, param_prefix_toks, param_toks, predicate_toks, value_toks, decl_toks, constraint_toks, goal_toks, solve_toks, toks}
-use Rattle.fz_syntax.specs.Reading.{is_word, next_is, next_word, next_passes, any_number, mark_at, word_at, begins_bounds, begins_decl, expr_at, may_lack_value, value_at, given_value_at, param_at, predicate_at, decl_at, constraint_at, goal_at, solve_at, tree_at, ended, tree_of}
+use Rattle.fz_syntax.specs.Reading.{is_word, next_is, next_word, next_passes, any_number, mark_at, word_at, begins_decl, expr_at, may_lack_value, value_at, given_value_at, param_at, predicate_at, decl_at, constraint_at, goal_at, solve_at, tree_at, ended, tree_of}
 use Rattle.fz_syntax.proofs.Lists.{Shrinks}
 use Rattle.fz_syntax.proofs.Laws.{Takes, ◌⟫◌, step, next, made, choose, none, worded, mark_takes, mark_again, word_takes}
 use Rattle.fz_syntax.proofs.ListLaws.{Law, Ends, fits_more, apart_word, each_before, bounded, unbounded, list_again, bounded_list_takes, unbounded_list_takes, items_take, items_again}
 use Rattle.fz_syntax.proofs.ExprLaws.{Allow, same, all_always, name_takes, name_again, basic_law, expr_list_takes, expr_list_again, expr_law, literal_basic_law}
 use Rattle.fz_syntax.proofs.NoteLaws.{notes_take, notes_again}
-use Rattle.fz_syntax.proofs.TypeLaws.{base_of, base_no_var, no_array, var_takes, var_again, base_takes, base_again, type_takes, type_again, param_prefix_takes, param_prefix_again, prefix_takes, prefix_again}
+use Rattle.fz_syntax.proofs.TypeLaws.{begins_bounds, base_of, base_no_var, no_array, var_takes, var_again, base_takes, base_again, type_takes, type_again, param_prefix_takes, param_prefix_again, prefix_takes, prefix_again}
 
 -- parts one after another, and what follows them
 pub flat4 : (a b c d rest : List TokenValue)

@@ -1,5 +1,4 @@
 pub mod Laws
-pub mod Errors
 pub mod Lists
 pub mod Separated
 pub mod Running

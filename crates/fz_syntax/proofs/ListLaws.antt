@@ -1,5 +1,5 @@
 -- The laws of parts one after another and of lists with commas follow from those of their elements.
-use Rattle.std.proofs.Common.{◌≡◌, ℕ, zero, suc, ◌+◌, ◌≤◌, ◌<◌, Bool, true, false, eqb, List, [], ◌∷◌, ◌++◌, length, drop, Ok, ⊎_elim, refl, sym, ap, subst, ◌∙◌, append_assoc, arith, length-append, ◌&&◌, ◌||◌, nat_le}
+use Rattle.std.proofs.Common.{◌≡◌, ℕ, zero, suc, ◌+◌, ◌≤◌, ◌<◌, Bool, true, false, eqb, List, [], ◌∷◌, ◌++◌, length, drop, Ok, ⊎_elim, refl, sym, ap, subst, ◌∙◌, append_assoc, arith, length-append, ◌||◌, nat_le}
 use Rattle.std.specs.List.{flat_map, AllByRecursion}
 use Rattle.std.proofs.lemmas.Bool.{eq-eqb, cases_Bool}
 use Rattle.std.proofs.lemmas.Bool.Decides.{nat_tests}
@@ -235,10 +235,6 @@ room limit i e = grind (arith, nat_tests)
 no_room : (limit i : ℕ) → i < limit → nat_le limit i ≡ false
 no_room limit i lt = grind (arith, nat_tests)
 
-not_both : (a b : Bool) → (a && b) ≡ false → b ≡ true → a ≡ false
-not_both true b e f = sym f ∙ e
-not_both false b e f = refl
-
 abbrev pub AtMost : {A : Type 0} → ℕ → (A → Type 0) → List A → Type 0
 AtMost limit Is xs = (length xs ≤ limit) × AllByRecursion Is xs
 
@@ -269,18 +265,14 @@ module _ {A : Type 0} {begins : TokenValue → Bool} {toks : A → List TokenVal
 
   -- an element is read only where there is room
   pub bounded_takes : (limit i : ℕ)
-      → Takes toks (λ x. (i < limit) × Is x) (at_most limit begins read i)
-  bounded_takes limit i tokens x e = choose (nat_le limit i && next_passes begins tokens) _ _ e
-      (λ full f. refused f)
-      (λ free f.
-      let t = law.takes tokens x f in
-      let begun = ap (next_passes begins) t.parts ∙ law.begun x.0 x.1 t.fits in
-      record { parts = t.parts; fits = (room limit i (not_both _ _ free begun), t.fits) })
+      → Takes toks (λ x. (i < limit) × Is x) (at_most limit read i)
+  bounded_takes limit i tokens x e = choose (nat_le limit i) _ _ e (λ full f. refused f)
+      (λ free f. let t = law.takes tokens x f in
+      record { parts = t.parts; fits = (room limit i free, t.fits) })
 
-  pub bounded : (limit : ℕ) → Elements begins toks Less limit (at_most limit begins read)
+  pub bounded : (limit : ℕ) → Elements begins toks Less limit (at_most limit read)
   bounded limit = record {
-    shrinks = λ i tokens x rest e.
-        choose (nat_le limit i && next_passes begins tokens) _ _ e (λ full f. refused f)
+    shrinks = λ i tokens x rest e. choose (nat_le limit i) _ _ e (λ full f. refused f)
         (λ free f. shortens tokens x rest f);
     again = λ i x rest lt is ends. rw (no_room limit i lt) (law.again x rest is ends);
     begun = λ x rest is. law.begun x rest (fits_more x is);
@@ -290,7 +282,7 @@ module _ {A : Type 0} {begins : TokenValue → Bool} {toks : A → List TokenVal
 
   pub bounded_list_takes : (limit : ℕ) (close : Mark)
       → Takes (λ xs. separated toks xs ++ mark close) (AtMost limit Is)
-      (list_at close (at_most limit begins read))
+      (list_at close (at_most limit read))
   bounded_list_takes limit close tokens xs e =
       let t = list_takes toks _ close _ (bounded_takes limit) tokens xs e in
       let few = few_of Is limit 0 xs.0 (omega arith) t.fits in

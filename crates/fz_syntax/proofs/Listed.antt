@@ -6,7 +6,7 @@ use Rattle.fz_tree.specs.of_lex.declared.token.Mark.TheVariants.{Comma}
 use Rattle.fz_tree.specs.Tree.{Literal, Number, Truth, Range, Braces}
 use Rattle.fz_tree.specs.of_lex.declared.limits.Limits.{Limits}
 use Rattle.fz_syntax.specs.Outcome.{IsListed}
-use Rattle.fz_syntax.specs.Reading.{at_most, begins_literal, is_whole, literal_at, whole_at, from_whole}
+use Rattle.fz_syntax.specs.Reading.{at_most, literal_at, whole_at, from_whole}
 
 listed_literal : (limits : Limits) (l : Literal) (before after : List TokenValue)
     → IsListed l before after → literal_at limits before ≡ Ok (l, Marked Comma ∷ after)
@@ -18,7 +18,7 @@ listed_literal limits (Range low high) before after h = absurd h
 listed_literal limits (Braces numbers) before after h = absurd h
 
 pub listed_element : (limits : Limits) (i : ℕ) (l : Literal) (before after : List TokenValue)
-    → i < limits.elements → IsListed l before after → at_most limits.elements begins_literal
+    → i < limits.elements → IsListed l before after → at_most limits.elements
     (literal_at limits) i before ≡ Ok (l, Marked Comma ∷ after)
 listed_element limits i l before after lt h = rw (lt-leb limits.elements i lt) (listed_literal limits l before after h)
 
@@ -30,5 +30,5 @@ whole_front z before rest h = rw h refl
 -- the same of a number in braces
 pub listed_whole : (limits : Limits) (i : ℕ) (z : ℤ) (before after : List TokenValue)
     → i < limits.elements → before ≡ Whole z ∷ (Marked Comma ∷ after)
-    → at_most limits.elements is_whole whole_at i before ≡ Ok (z, Marked Comma ∷ after)
+    → at_most limits.elements whole_at i before ≡ Ok (z, Marked Comma ∷ after)
 listed_whole limits i z before after lt h = rw (lt-leb limits.elements i lt) (whole_front z before (Marked Comma ∷ after) h)

@@ -9,12 +9,12 @@ use Rattle.fz_tree.specs.Tokens.{mark, literal_toks, in_parens, in_brackets, not
 use Rattle.fz_tree.specs.View.{arg_list, basic_list}
 use Rattle.fz_tree.specs.of_lex.declared.limits.Limits.{Limits}
 use Rattle.fz_tree.specs.Text.{IsNote, AreArgs, IsArg, AreBasics, IsNoteBasic, AreNotes, count_basics}
-use Rattle.fz_syntax.specs.Reading.{Reader, ◌>>=◌, is_mark, next_passes, next_is, after_token, any_number, at_most, is_name, is_quoted, is_deep_name, begins_literal, begins_note_basic, literal_at, note_at, note_args_at, note_arg_at, note_list_at, note_basic_at, notes_at}
+use Rattle.fz_syntax.specs.Reading.{Reader, ◌>>=◌, is_mark, next_passes, next_is, after_token, any_number, at_most, is_name, literal_at, note_at, note_args_at, note_arg_at, note_list_at, note_basic_at, notes_at}
 use Rattle.fz_syntax.proofs.Lists.{Shrinks}
 use Rattle.fz_syntax.proofs.Separated.{Shrinks-after_token}
 use Rattle.fz_syntax.proofs.Laws.{Takes, Split, ◌⟫◌, step, made, choose, refused, first, none, marked, mark_takes, mark_again, split_of}
 use Rattle.fz_syntax.proofs.ListLaws.{Law, Ends, no_args, apart, fits_more, bounded, unbounded, list_again, separated_takes, separated_again, bounded_list_takes, all_of, many_takes, many_again}
-use Rattle.fz_syntax.proofs.ExprLaws.{Allow, same, name_takes, name_again, literal_law, literal_begun, literal_no_name, first_of_two, second_of_two}
+use Rattle.fz_syntax.proofs.ExprLaws.{begins_literal, Allow, same, name_takes, name_again, literal_law, literal_begun, literal_no_name, first_of_two, second_of_two}
 
 -- ---- lists of parts, as a tree of annotations holds them
 
@@ -69,6 +69,19 @@ of_basics NoMoreBasics = ([], refl)
 of_basics (MoreBasics b rest) = let r = of_basics rest in (b ∷ r.0, ap (MoreBasics b) r.1)
 
 -- ---- elements and arguments of a level, where `inner` reads the annotations below it
+
+-- a name begins an annotation, which may be one level too deep
+abbrev is_deep_name : ℕ → TokenValue → Bool
+is_deep_name zero t = false
+is_deep_name (suc depth) t = is_name t
+
+abbrev is_quoted : TokenValue → Bool
+is_quoted (FloatText text) = true
+is_quoted (StringText text) = true
+is_quoted _ = false
+
+abbrev begins_note_basic : ℕ → TokenValue → Bool
+begins_note_basic depth t = is_quoted t || (is_deep_name depth t || begins_literal t)
 
 abbrev begins_arg : ℕ → TokenValue → Bool
 begins_arg depth t = is_mark OpenBracket t || begins_note_basic depth t
@@ -284,8 +297,7 @@ module _ (l m : Limits) (allow : Allow l m) where
   pub note_law : (d e : ℕ) → d ≤ e → NoteLaw l m d e (note_at m e)
   unfolding note_at
   note_law zero zero le = record {
-    takes = λ tokens x f. choose (next_passes is_name tokens) _ _ f
-        (λ named g. refused g) (λ other g. refused g);
+    takes = λ tokens x f. refused f;
     again = λ n rest is ends. absurd (no_level n l is);
     begun = λ n rest is. absurd (no_level n m is);
   }
@@ -329,7 +341,7 @@ module _ (l m : Limits) (allow : Allow l m) where
 -- ---- what is read takes a token at least
 
 pub note_list_shrinks : (limits : Limits) (depth : ℕ) → Shrinks (at_most limits.elements
-    (begins_note_basic depth) (note_basic_at limits (note_at limits depth)))
+    (note_basic_at limits (note_at limits depth)))
 note_list_shrinks limits depth =
     let law = note_law limits limits (same limits) depth depth (omega arith) in
     (bounded (note_basic_law limits limits (same limits) depth depth _ law) limits.elements).shrinks

@@ -26,7 +26,7 @@ use Rattle.fz_tree.specs.View.{bare_solve}
 use Rattle.fz_tree.specs.Text.{IsTextOfTreeWithin}
 use Rattle.fz_syntax.specs.Placed.{PlacedToken, placed_predicate, placed_decl, placed_constraint, placed_solve}
 use Rattle.fz_syntax.specs.Reading.{Fault, Read, Reader, ◌>>=◌, next_passes, many_upto, many_at, any_number, solve_at, tree_at, tree_of, ended, whole}
-use Rattle.fz_syntax.specs.Outcome.{Fails, IsErrorOf, IsRefusal, IsWhole, unexpected_kind}
+use Rattle.fz_syntax.specs.Outcome.{Fails, IsErrorOf, IsWhole}
 use Rattle.fz_syntax.specs.Walk.{ahead, lexemes, Walk}
 use Rattle.fz_syntax.specs.Offering.{bare_all, placed_all, IsTextOfAllWithin, IsRefusedWithin, IsRefusedAt, IsRefusedBy, by_lexer, by_grammar, Part, kind_before, from_solve, from_predicates, all_items, IsLeft, IsWithin, Kind, Leaves, Took, TookAll, TookOne, changed}
 use Rattle.fz_syntax.proofs.Lists.{Shrinks, put_first, many_step, many_ends, many_fails}
@@ -126,7 +126,7 @@ too_long_refused limits source long = record { no_tree = λ t text. let short = 
 fault_or_memory : {B : Type 0} (e : SyntaxError) (read : Result B Fault)
     → IsWhole (λ (b : B). b) (Err e) read → (e ≡ errors.Memory) ⊎ ((f : Fault) × (read ≡ Err f))
 fault_or_memory errors.Memory read h = inl refl
-fault_or_memory _ read h = inr (h.0, h.1)
+fault_or_memory _ read h = inr (tt, h.1)
 
 no_tree_left : {R B : Type 0} (part : Part R B) (i : Rest) (e : SyntaxError) → IsWithin part i
     → (e ≡ errors.Memory) ⊎ ((f : Fault) × (whole (part.read i.limits (lexemes i.parser)) ≡ Err f))
@@ -147,10 +147,9 @@ refused_if {R} {B} part i r e within reads (by_grammar lexed of place) = record 
 
 -- what is left can't be read
 pub left_refused : {R B : Type 0} (part : Part R B) (i : Rest) (r : Refusal) (e : SyntaxError)
-    (left : List TokenValue) → IsWithin part i
-    → Fails r (part.read i.limits (lexemes i.parser)) left
+    → IsWithin part i → Fails r (part.read i.limits (lexemes i.parser))
     → IsRefusedBy i.limits i.source.now r e → IsRefusedAt i e
-left_refused {R} {B} part i r e left within fails = refused_if part i r e within (refused_so (λ (b : B). b) r e (part.read i.limits) (lexemes i.parser) left fails)
+left_refused {R} {B} part i r e within fails = refused_if part i r e within (refused_so (λ (b : B). b) r e (whole (part.read i.limits (lexemes i.parser))) (fails_like r (part.read i.limits (lexemes i.parser)) _ (λ k. ap whole k) fails))
 
 -- ---- the items of a kind
 
@@ -246,15 +245,15 @@ module _ {X A R B : Type 0} (kind : Kind X A) (behind : Part R B) where
   none_took i none = step_leaves here behind (λ b. ([], b)) _ i i.parser (none_step i none)
 
   -- the next one is refused
-  pub item_refused : (i : Rest) (r : Refusal) (e : SyntaxError) (left : List TokenValue)
+  pub item_refused : (i : Rest) (r : Refusal) (e : SyntaxError)
       → next_passes kind.begins (lexemes i.parser) ≡ true
-      → Fails r (kind.read i.limits (lexemes i.parser)) left → IsWithin here i
+      → Fails r (kind.read i.limits (lexemes i.parser)) → IsWithin here i
       → IsRefusedBy i.limits i.source.now r e → IsRefusedAt i e
-  item_refused i r e left begun fails within =
+  item_refused i r e begun fails within =
       let item = any_number (kind.read i.limits) in
       let all = many_at kind.begins item 0 (lexemes i.parser) in
-      let many : Fails r all left = fails_like r (kind.read i.limits (lexemes i.parser)) all left (λ f found. many_fails kind.begins item 0 (lexemes i.parser) f begun found) fails in
-      left_refused here i r e left within (fails_bind r all (behind_items i.limits) left many)
+      let many : Fails r all = fails_like r (kind.read i.limits (lexemes i.parser)) all (λ found. many_fails kind.begins item 0 (lexemes i.parser) tt begun found) fails in
+      left_refused here i r e within (fails_bind r all (behind_items i.limits) many)
 
 -- ---- items taken one after another
 
@@ -305,10 +304,9 @@ none_left (Some t) p none h = absurd cc
 -- tokens follow it
 pub more_refused : (s : Solve) (i : Rest) (r : Refusal) (e : SyntaxError) (left : List TokenValue)
     → solve_at i.limits (lexemes i.parser) ≡ Ok (bare_solve s, left) → 0 < length left
-    → IsRefusal r (unexpected_kind left) → IsWithin from_solve i
-    → IsRefusedBy i.limits i.source.now r e → IsRefusedAt i e
-more_refused s i r e left found some kind within =
-    refused_if from_solve i r e within (λ of. refused_more (λ (t : tree.Solve). t) r e (solve_at i.limits) (lexemes i.parser) left _ found some of kind)
+    → IsWithin from_solve i → IsRefusedBy i.limits i.source.now r e → IsRefusedAt i e
+more_refused s i r e left found some within =
+    refused_if from_solve i r e within (λ of. refused_more (λ (t : tree.Solve). t) r e (solve_at i.limits) (lexemes i.parser) left _ found some of)
 
 -- nothing follows it
 pub solve_left : (s : Solve) (i : Rest) (now : Parser) → solve_at i.limits (lexemes i.parser)

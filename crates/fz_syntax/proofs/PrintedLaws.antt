@@ -11,7 +11,7 @@ use Rattle.fz_tree.specs.Tree.{Literal, Truth, PrintedValue, OneValue, ArrayOf, 
 use Rattle.fz_tree.specs.of_lex.declared.limits.Limits.{Limits}
 use Rattle.fz_tree.specs.Text.{IsLiteral, IsBounds, IsPrintedValue, IsPrinted}
 use Rattle.fz_tree.specs.Tokens.{mark, word, name_toks, literal_toks, separated, array_word, printed_value_toks, printed_toks, itoks}
-use Rattle.fz_syntax.specs.Reading.{is_name, any_number, at_most, literal_at, begins_literal, ended}
+use Rattle.fz_syntax.specs.Reading.{is_name, any_number, at_most, literal_at, ended}
 use Rattle.fz_syntax.specs.ReadingItems.{dimensions_of, next_dimensions, index_set_at, index_sets_at, elements_at, printed_array_at, printed_value_at, printed_at, items_at, items_of}
 use Rattle.fz_syntax.proofs.Lists.{Shrinks}
 use Rattle.fz_syntax.proofs.Laws.{Took, Takes, Split, ◌⟫◌, step, next, made, choose, none, mark_takes, mark_again}
@@ -246,7 +246,7 @@ module _ (l m : Limits) (allow : Allow l m) where
 -- ---- what is read takes a token at least
 
 pub elements_shrink : (limits : Limits)
-    → Shrinks (at_most limits.elements begins_literal (literal_at limits))
+    → Shrinks (at_most limits.elements (literal_at limits))
 elements_shrink limits = (bounded (literal_law limits limits (same limits)) limits.elements).shrinks
 
 pub printed_shrink : (limits : Limits) → Shrinks (any_number (printed_at limits))

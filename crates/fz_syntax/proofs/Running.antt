@@ -51,12 +51,12 @@ gathers_on {A} more part shrinks front items tokens x rest all i at grew b wante
     })
 
 pub gathers_stop : {A : Type 0} (e : Refusal) (more : TokenValue → Bool) (part : ℕ → Reader A)
-    (front : List A) (tokens left : List TokenValue) (all : Read (List A)) (i : ℕ)
+    (front : List A) (tokens : List TokenValue) (all : Read (List A)) (i : ℕ)
     → i ≡ length front → (b : Bool) → b ≡ true → b ≡ next_passes more tokens
-    → Gathers more part front tokens all → Fails e (part i tokens) left → Fails e all left
-gathers_stop e more part front tokens left all i at b wanted tested g h =
-    fails_like e (part i tokens) all left
-    (λ f found. loop_fails more part front (length front) tokens f all (sym tested ∙ wanted)
+    → Gathers more part front tokens all → Fails e (part i tokens) → Fails e all
+gathers_stop e more part front tokens all i at b wanted tested g h =
+    fails_like e (part i tokens) all
+    (λ found. loop_fails more part front (length front) tokens tt all (sym tested ∙ wanted)
     (ap (λ j. part j tokens) (sym at) ∙ found) g.so_far) h
 
 pub gathers_all : {A : Type 0} (more : TokenValue → Bool) (part : ℕ → Reader A) (front : List A)
@@ -83,12 +83,12 @@ keeps_on m part shrinks front items before after x rest all i at grew b wanted t
     (ap (part i) (sym (behind m before after true b wanted tested taken)) ∙ found)
 
 pub stops : {A : Type 0} (e : Refusal) (m : Mark) (part : ℕ → Reader A) (front : List A)
-    (before after left : List TokenValue) (all : Read (List A)) (i : ℕ) → i ≡ length front
+    (before after : List TokenValue) (all : Read (List A)) (i : ℕ) → i ≡ length front
     → (b : Bool) → b ≡ true → b ≡ next_is m before → Taken m before after
-    → Continues m part front before all → Fails e (part i after) left → Fails e all left
-stops e m part front before after left all i at b wanted tested taken c h =
-    gathers_stop e (is_mark m) (after_token part) front before left all i at b wanted tested c
-    (subst (λ ts. Fails e (part i ts) left) (behind m before after true b wanted tested taken) h)
+    → Continues m part front before all → Fails e (part i after) → Fails e all
+stops e m part front before after all i at b wanted tested taken c h =
+    gathers_stop e (is_mark m) (after_token part) front before all i at b wanted tested c
+    (subst (λ ts. Fails e (part i ts)) (behind m before after true b wanted tested taken) h)
 
 pub is_whole_list : {A : Type 0} (m : Mark) (part : ℕ → Reader A) (front : List A)
     (before after : List TokenValue) (all : Read (List A)) (b : Bool) → b ≡ false
@@ -121,9 +121,9 @@ pub awaits_part : {A : Type 0} (m : Mark) (part : ℕ → Reader A) → Shrinks 
 awaits_part m part shrinks front items after x rest all i at grew found a = keeps_on m part shrinks front items a.before after x rest all i at grew true refl (sym a.marked) a.taken found a.so_far
 
 pub awaits_fails : {A : Type 0} (e : Refusal) (m : Mark) (part : ℕ → Reader A) (front : List A)
-    (after left : List TokenValue) (all : Read (List A)) (i : ℕ) → i ≡ length front
-    → Awaits m part front after all → Fails e (part i after) left → Fails e all left
-awaits_fails e m part front after left all i at a h = stops e m part front a.before after left all i at true refl (sym a.marked) a.taken a.so_far h
+    (after : List TokenValue) (all : Read (List A)) (i : ℕ) → i ≡ length front
+    → Awaits m part front after all → Fails e (part i after) → Fails e all
+awaits_fails e m part front after all i at a h = stops e m part front a.before after all i at true refl (sym a.marked) a.taken a.so_far h
 
 -- The parts so far, and those that are still read, of which the next is an element: none is there
 -- yet, or the comma was taken behind which the next one stands.
@@ -142,12 +142,12 @@ wants_part {A} element shrinks front items after x rest all i at grew found (wan
 wants_part element shrinks front items after x rest all i at grew found (wants_next a) = awaits_part Comma element shrinks front items after x rest all i at grew found a
 
 pub wants_fails : {A : Type 0} (e : Refusal) (element : ℕ → Reader A) (front : List A)
-    (after left : List TokenValue) (all : Read (List A)) (i : ℕ) → i ≡ length front
-    → Wants element front after all → Fails e (element i after) left → Fails e all left
-wants_fails {A} e element front after left all i at (wants_first none begins) h =
+    (after : List TokenValue) (all : Read (List A)) (i : ℕ) → i ≡ length front
+    → Wants element front after all → Fails e (element i after) → Fails e all
+wants_fails {A} e element front after all i at (wants_first none begins) h =
     let zeroth : i ≡ 0 = at ∙ ap (λ (xs : List A). length xs) none in
-    subst (λ r. Fails e r left) begins (separated_fails e element after left (subst (λ n. Fails e (element n after) left) zeroth h))
-wants_fails e element front after left all i at (wants_next a) h = awaits_fails e Comma element front after left all i at a h
+    subst (λ r. Fails e r) begins (separated_fails e element after (subst (λ n. Fails e (element n after)) zeroth h))
+wants_fails e element front after all i at (wants_next a) h = awaits_fails e Comma element front after all i at a h
 
 -- the element is read, and the comma behind it is taken
 pub wants_more : {A : Type 0} (element : ℕ → Reader A) → Shrinks element

@@ -1,33 +1,30 @@
 -- The steps of a loop over elements with commas between them, and of one over parts that each begin
 -- with a mark.
-use Rattle.std.proofs.Common.{◌≡◌, ℕ, cond, List, [], ◌∷◌, drop, Ok, Err, refl, ap, arith, length-drop}
+use Rattle.std.proofs.Common.{◌≡◌, ℕ, cond, List, [], ◌∷◌, drop, Result, Ok, Err, refl, ap, arith, length-drop}
 use Rattle.fz_syntax.specs.declared.parser.refusal.Refusal.{Refusal}
 use Rattle.fz_syntax.specs.declared.parser.refusal.Refusal.TheVariants as refusals
 use Rattle.fz_tree.specs.of_lex.declared.token.Mark.{Mark}
 use Rattle.fz_tree.specs.of_lex.declared.token.Mark.TheVariants.{Comma}
 use Rattle.fz_tree.specs.of_lex.Token.{TokenValue}
-use Rattle.fz_syntax.specs.Reading.{Syntax, Float, TooDeep, TooMany, Fault, FaultKind, Read, Reader, ◌>>=◌, is_mark, next_is, many_at, after_token, separated_at}
+use Rattle.fz_syntax.specs.Reading.{Fault, Read, Reader, ◌>>=◌, is_mark, next_is, many_at, after_token, separated_at}
 use Rattle.fz_syntax.specs.Outcome.{Fails}
 use Rattle.fz_syntax.proofs.Lists.{Shrinks, with_front}
 
-abbrev fault : FaultKind → List TokenValue → Fault
-fault kind left = record { kind = kind; left = left }
+-- any refusal, where reading fails
+pub fails_from : {A : Type 0} (e : Refusal) (read : Result A Fault) → read ≡ Err tt → Fails e read
+fails_from refusals.Memory read h = tt
+fails_from _ read h = h
+
+-- two readings that fail alike
+pub fails_like : {A B : Type 0} (e : Refusal) (read : Result A Fault) (all : Result B Fault)
+    → (read ≡ Err tt → all ≡ Err tt) → Fails e read → Fails e all
+fails_like refusals.Memory read all like h = tt
+fails_like _ read all like h = like h
 
 -- what fails at its first step fails
 pub fails_bind : {A B : Type 0} (e : Refusal) (read : Read A) (f : A × List TokenValue → Read B)
-    (left : List TokenValue) → Fails e read left → Fails e (read >>= f) left
-fails_bind refusals.Memory read f left h = tt
-fails_bind _ read f left h = ap (λ r. r >>= f) h
-
--- two readings that fail alike
-pub fails_like : {A B : Type 0} (e : Refusal) (read : Read A) (all : Read B)
-    (left : List TokenValue) → ((f : Fault) → read ≡ Err f → all ≡ Err f) → Fails e read left
-    → Fails e all left
-fails_like refusals.Memory read all left like h = tt
-fails_like refusals.Syntax read all left like h = like (fault Syntax left) h
-fails_like refusals.Float read all left like h = like (fault Float left) h
-fails_like refusals.TooDeep read all left like h = like (fault TooDeep left) h
-fails_like refusals.TooMany read all left like h = like (fault TooMany left) h
+    → Fails e read → Fails e (read >>= f)
+fails_bind e read f h = fails_like e read (read >>= f) (λ k. ap (λ r. r >>= f) k) h
 
 pub Shrinks-after_token : {A : Type 0} (part : ℕ → Reader A) → Shrinks part
     → Shrinks (after_token part)
@@ -45,7 +42,6 @@ unfolding separated_at
 separated_starts element tokens x rest found = rw found refl
 
 pub separated_fails : {A : Type 0} (e : Refusal) (element : ℕ → Reader A)
-    (tokens left : List TokenValue) → Fails e (element 0 tokens) left
-    → Fails e (separated_at element tokens) left
+    (tokens : List TokenValue) → Fails e (element 0 tokens) → Fails e (separated_at element tokens)
 unfolding separated_at
-separated_fails e element tokens left h = fails_bind e (element 0 tokens) _ left h
+separated_fails e element tokens h = fails_bind e (element 0 tokens) _ h

@@ -1,5 +1,5 @@
 -- The laws of types.
-use Rattle.std.proofs.Common.{◌≡◌, ℕ, pos, negsuc, ◌≤◌, Bool, true, false, List, [], ◌∷◌, ◌++◌, drop, Option, Some, None, Ok, refl, ap, ◌∙◌, append_assoc, arith}
+use Rattle.std.proofs.Common.{◌≡◌, ℕ, pos, negsuc, ◌≤◌, Bool, true, false, List, [], ◌∷◌, ◌++◌, drop, Option, Some, None, Ok, refl, ap, ◌∙◌, append_assoc, arith, ◌||◌}
 use Rattle.std.specs.Prelude.{codes, nat_le, IfSome}
 use Rattle.std.proofs.lemmas.Bool.Decides.{Decides-int_eq, nat_tests}
 use Rattle.fz_tree.specs.of_lex.declared.token.Mark.TheVariants.{OpenBracket, CloseBracket, OpenBrace, DotDot}
@@ -8,7 +8,7 @@ use Rattle.fz_tree.specs.Tree.{Literal, Number, Truth, Range, Braces, Base, Bool
 use Rattle.fz_tree.specs.of_lex.declared.limits.Limits.{Limits}
 use Rattle.fz_tree.specs.Text.{IsBounds, IsBase, IsPlain, IsBaseOf, IsAnyIndex, IsParamArray, most_indexes}
 use Rattle.fz_tree.specs.Tokens.{mark, word, literal_toks, separated, in_brackets, bounds_toks, base_toks, var_toks, index_toks, prefix_toks, any_index_toks, param_prefix_toks}
-use Rattle.fz_syntax.specs.Reading.{Reader, ◌>>=◌, next_is, next_word, next_passes, at_most, whole_at, mark_at, word_at, begins_bounds, range_at, bounds_at, int_at, base_at, plain_at, type_at, is_one, one_at, size_at, index_at, array_at, any_index_at, begins_index, indexes_at, param_prefix_at, prefix_at, var_at}
+use Rattle.fz_syntax.specs.Reading.{Reader, ◌>>=◌, is_mark, is_word, is_whole, next_is, next_word, next_passes, at_most, whole_at, mark_at, word_at, range_at, bounds_at, int_at, base_at, plain_at, type_at, is_one, one_at, size_at, index_at, array_at, any_index_at, indexes_at, param_prefix_at, prefix_at, var_at}
 use Rattle.fz_syntax.proofs.Lists.{Shrinks}
 use Rattle.fz_syntax.proofs.Laws.{Always, Takes, ◌⟫◌, step, next, made, choose, refused, first, none, marked, worded, split_of, mark_takes, mark_again, word_takes}
 use Rattle.fz_syntax.proofs.ListLaws.{Law, apart_word, bounded, bounded_takes, few_of, separated_takes, separated_again}
@@ -45,6 +45,12 @@ base_of limits true b is = is
 base_of limits false b is = plain_is_base limits b is
 
 -- ---- what a type begins with
+
+abbrev pub begins_bounds : TokenValue → Bool
+begins_bounds t = is_whole t || is_mark OpenBrace t
+
+abbrev begins_index : TokenValue → Bool
+begins_index t = is_whole t || is_word (codes "int") t
 
 bounds_begun : (limits : Limits) (x : Literal) (rest : List TokenValue) → IsBounds limits x
     → next_passes begins_bounds (literal_toks x ++ rest) ≡ true
@@ -306,7 +312,7 @@ module _ (l m : Limits) (allow : Allow l m) where
 
 -- an index set of a list that isn't full
 abbrev pub listed_index : Limits → ℕ → Reader (Option ℕ)
-listed_index limits = at_most most_indexes begins_index (any_index_at limits)
+listed_index limits = at_most most_indexes (any_index_at limits)
 
 pub indexes_shrink : (limits : Limits) → Shrinks (listed_index limits)
 indexes_shrink limits =

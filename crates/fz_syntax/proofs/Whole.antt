@@ -7,55 +7,30 @@ use Rattle.fz_tree.specs.of_lex.declared.error.SyntaxError.TheVariants as errors
 use Rattle.fz_syntax.specs.declared.parser.refusal.Refusal.{Refusal}
 use Rattle.fz_syntax.specs.declared.parser.refusal.Refusal.TheVariants as refusals
 use Rattle.fz_tree.specs.of_lex.Token.{TokenValue}
-use Rattle.fz_syntax.specs.Reading.{Fault, FaultKind, Read, Syntax, Float, TooDeep, TooMany, Reader, ended, whole}
-use Rattle.fz_syntax.specs.Outcome.{IsFault, IsWhole, IsRefusal, IsErrorOf, Fails, unexpected_kind}
-use Rattle.fz_tree.specs.of_lex.of_base.declared.span.Span.{Span}
+use Rattle.fz_syntax.specs.Reading.{Fault, Read, Reader, ended, whole}
+use Rattle.fz_syntax.specs.Outcome.{IsWhole, IsErrorOf, Fails}
 use Rattle.fz_tree.specs.of_lex.Lexing.{SpannedToken, LexesWithin}
 use Rattle.fz_tree.specs.of_lex.View.{IsLexicalFaultWithin}
 use Rattle.fz_tree.specs.of_lex.declared.limits.Limits.{Limits}
 use Rattle.fz_tree.specs.Refusals.{IsValue, IsRefusalWithin}
 use Rattle.fz_syntax.proofs.Laws.{Takes}
+use Rattle.fz_syntax.proofs.Separated.{fails_from}
 
-fault_of : {X A : Type 0} (view : X → A) (e : SyntaxError) (f : Fault) (read : Result A Fault)
-    → read ≡ Err f → IsFault e f.kind → IsWhole view (Err e) read
-fault_of view errors.Memory f read is k = tt
-fault_of view _ f read is k = (f, is, k)
-
-error_of : (r : Refusal) (e : SyntaxError) (k : FaultKind) → IsErrorOf r e → IsRefusal r k
-    → IsFault e k
-error_of refusals.Syntax (errors.Syntax p) Syntax of is = tt
-error_of refusals.Syntax (errors.Syntax p) _ of is = absurd is
-error_of refusals.Syntax _ _ of is = absurd of
-error_of refusals.Float (errors.Float p) Float of is = tt
-error_of refusals.Float (errors.Float p) _ of is = absurd is
-error_of refusals.Float _ _ of is = absurd of
-error_of refusals.TooDeep (errors.TooDeep p) TooDeep of is = tt
-error_of refusals.TooDeep (errors.TooDeep p) _ of is = absurd is
-error_of refusals.TooDeep _ _ of is = absurd of
-error_of refusals.TooMany (errors.TooMany p) TooMany of is = tt
-error_of refusals.TooMany (errors.TooMany p) _ of is = absurd is
-error_of refusals.TooMany _ _ of is = absurd of
-error_of refusals.Memory _ _ of is = absurd is
+-- what is refused is a fault
+pub refused_so : {X A : Type 0} (view : X → A) (r : Refusal) (e : SyntaxError) (read : Result A Fault)
+    → Fails r read → IsErrorOf r e → IsWhole view (Err e) read
+refused_so view refusals.Memory e read h of = rw of tt
+refused_so view _ errors.Memory read h of = tt
+refused_so view _ _ read h of = (of, h)
 
 -- tokens behind what was read are refused
 pub refused_more : {X A : Type 0} (view : X → A) (r : Refusal) (e : SyntaxError) (read : Reader A)
     (tokens left : List TokenValue) (x : A) → read tokens ≡ Ok (x, left) → 0 < length left
-    → IsErrorOf r e → IsRefusal r (unexpected_kind left)
-    → IsWhole view (Err e) (whole (read tokens))
+    → IsErrorOf r e → IsWhole view (Err e) (whole (read tokens))
 unfolding ended
-refused_more view r e read tokens [] x found some of k = absurd (omega arith)
-refused_more view r e read tokens (t ∷ rest) x found some of k = fault_of view e (record { kind = unexpected_kind (t ∷ rest); left = t ∷ rest }) (whole (read tokens)) (ap whole found) (error_of r e (unexpected_kind (t ∷ rest)) of k)
-
--- what is refused is a fault
-pub refused_so : {X A : Type 0} (view : X → A) (r : Refusal) (e : SyntaxError) (read : Reader A)
-    (tokens left : List TokenValue) → Fails r (read tokens) left → IsErrorOf r e
-    → IsWhole view (Err e) (whole (read tokens))
-refused_so view refusals.Memory errors.Memory read tokens left h of = tt
-refused_so view refusals.Syntax (errors.Syntax p) read tokens left h of = (record { kind = Syntax; left = left }, ap whole h, tt)
-refused_so view refusals.Float (errors.Float p) read tokens left h of = (record { kind = Float; left = left }, ap whole h, tt)
-refused_so view refusals.TooDeep (errors.TooDeep p) read tokens left h of = (record { kind = TooDeep; left = left }, ap whole h, tt)
-refused_so view refusals.TooMany (errors.TooMany p) read tokens left h of = (record { kind = TooMany; left = left }, ap whole h, tt)
-refused_so view _ _ read tokens left h of = absurd of
+refused_more view r e read tokens [] x found some of = absurd (omega arith)
+refused_more view r e read tokens (t ∷ rest) x found some of =
+    refused_so view r e (whole (read tokens)) (fails_from r (whole (read tokens)) (ap whole found)) of
 
 ends_whole : {A : Type 0} (r : Read A) (x : A) → whole r ≡ Ok x → r ≡ Ok (x, [])
 unfolding ended
@@ -88,11 +63,7 @@ value_of : {X A : Type 0} (view : X → A) (result : Result X SyntaxError) (read
     (m : A) → IsWhole view result read → read ≡ Ok m → IsValue view result m
 value_of view (Ok x) read m e f = same_ok (view x) m read e f
 value_of view (Err errors.Memory) read m h f = tt
-value_of view (Err _) read m h f = no_fault h.0 m read h.1 f
-
-errors_none : (k : FaultKind) → IsFault errors.TooLong k → ⊥
-errors_none Syntax h = h
-errors_none _ h = h
+value_of view (Err _) read m h f = no_fault tt m read h.1 f
 
 -- what is of the grammar within the limits and has these tokens is what is given
 pub only_of : {X A : Type 0} (view : X → A) (toks : A → List TokenValue) (Is : A → Type 0)
@@ -100,23 +71,15 @@ pub only_of : {X A : Type 0} (view : X → A) (toks : A → List TokenValue) (Is
     → (result : Result X SyntaxError) (tokens : List TokenValue) → IsWhole view result (whole (read tokens)) → (x : A) → Is x → tokens ≡ toks x → IsValue view result x
 only_of view toks Is read again result tokens h x is e = value_of view result (whole (read tokens)) x h (ap (λ ts. whole (read ts)) e ∙ again x is)
 
-byte_none : (p : Span) (k : FaultKind) → IsFault (errors.BadByte p) k → ⊥
-byte_none p Syntax h = h
-byte_none p _ h = h
-
-large_none : (p : Span) (k : FaultKind) → IsFault (errors.TooLarge p) k → ⊥
-large_none p Syntax h = h
-large_none p _ h = h
-
 -- the grammar finds its own faults alone, and here the source lexes
 pub grammar_refuses : {X A : Type 0} (view : X → A) (limits : Limits) (source : List ℕ)
     (e : SyntaxError) (read : Result A Fault) (tokens : List SpannedToken)
     → LexesWithin limits source tokens → IsWhole view (Err e) read
     → IsRefusalWithin limits source e
 grammar_refuses view limits source errors.Memory read tokens lexed h = tt
-grammar_refuses view limits source errors.TooLong read tokens lexed h = absurd (errors_none h.0.kind h.2)
-grammar_refuses view limits source (errors.BadByte p) read tokens lexed h = absurd (byte_none p h.0.kind h.2)
-grammar_refuses view limits source (errors.TooLarge p) read tokens lexed h = absurd (large_none p h.0.kind h.2)
+grammar_refuses view limits source errors.TooLong read tokens lexed h = absurd h.0
+grammar_refuses view limits source (errors.BadByte p) read tokens lexed h = absurd h.0
+grammar_refuses view limits source (errors.TooLarge p) read tokens lexed h = absurd h.0
 grammar_refuses view limits source _ read tokens lexed h = (tokens, lexed)
 
 -- the lexer finds its own

@@ -5,7 +5,7 @@
 use Rattle.std.specs.Prelude.{◌≡◌, ◌<◌, ◌≤◌, ℕ, List, [], ◌∷◌, ◌++◌, map, length, codes, Bool, None, Result, Ok, Err}
 use Rattle.std.specs.List.{flat_map}
 use Rattle.fz_tree.specs.of_lex.View.{IsLexicalFaultWithin, IsPlacedWithin}
-use Rattle.fz_tree.specs.of_lex.Lexing.{LexesWithin, SpannedToken, standard_limits}
+use Rattle.fz_tree.specs.of_lex.Lexing.{LexesWithin, SpannedToken}
 use Rattle.fz_tree.specs.of_lex.declared.limits.Limits.{Limits}
 use Rattle.fz_syntax.specs.Outcome.{IsErrorOf}
 use Rattle.fz_syntax.specs.declared.parser.refusal.Refusal.{Refusal}
@@ -66,9 +66,6 @@ pub record IsTextOfAllWithin (limits : Limits) (source : List ℕ) (t : TreeItem
   pub placed : ArePlacedIn source (placed_all t)
   pub stands : Stand source 0 (length source) (spots_from None (placed_all t))
 
-abbrev pub IsTextOfAll : List ℕ → TreeItems → Type 0
-IsTextOfAll = IsTextOfAllWithin standard_limits
-
 -- The source is a text of no tree within the limits, unless memory ran out, and the fault is the
 -- first in the order of faults.
 pub record IsRefusedWithin (limits : Limits) (source : List ℕ) (e : SyntaxError) : Type 0 where
@@ -76,11 +73,8 @@ pub record IsRefusedWithin (limits : Limits) (source : List ℕ) (e : SyntaxErro
   pub order : IsRefusalWithin limits source e
   pub place : IsPlacedWithin (length source) e
 
-abbrev pub IsRefused : List ℕ → SyntaxError → Type 0
-IsRefused = IsRefusedWithin standard_limits
-
--- The grammar refused a token for a reason, and this is the error given: a lexical fault, or else
--- the reason, at some byte range.
+-- The grammar refused a token, and this is the error given: a fault of the lexer, or else one of
+-- the grammar, at some byte range.
 pub data IsRefusedBy (limits : Limits) (source : List ℕ) (reason : Refusal)
     (e : SyntaxError) : Type 0 where
   by_lexer : IsLexicalFaultWithin limits source e → ((tokens : List SpannedToken)
@@ -181,8 +175,8 @@ pub record IsWithin {R B : Type 0} (part : Part R B) (i : Rest) : Type 0 where
   pub no_tree : (f : Fault) → whole (part.read i.limits (lexemes i.parser)) ≡ Err f
       → (t : tree.Tree) → IsTextOfTreeWithin i.limits i.source.now t → ⊥
 
--- What is left of the same source under the same limits now, put together with what was taken, was
--- left before.
+-- Two states of a reader, of the same source under the same limits: any items that are left in the
+-- new one were left in the old one, together with those that were taken in between.
 pub record Leaves {R B Q C : Type 0} (before : Part R B) (after : Part Q C) (all : Q → R)
     (old new : Rest) : Type 0 where
   pub same : new.source.now ≡ old.source.now

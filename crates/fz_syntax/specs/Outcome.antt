@@ -1,6 +1,6 @@
 -- Used only by private functions: a reader of the contracts need not believe this file. How what a
 -- method of the parser returned agrees with what the definitions in Reading give.
-use Rattle.std.specs.Prelude.{◌≡◌, if◌then◌else◌, List, ◌∷◌, Result, Ok, Err}
+use Rattle.std.specs.Prelude.{◌≡◌, List, ◌∷◌, Result, Ok, Err}
 use Rattle.fz_tree.specs.of_lex.declared.error.SyntaxError.{SyntaxError}
 use Rattle.fz_tree.specs.of_lex.declared.error.SyntaxError.TheVariants as errors
 use Rattle.fz_syntax.specs.declared.parser.refusal.Refusal.{Refusal}
@@ -13,56 +13,36 @@ use Rattle.fz_tree.specs.declared.tree.LiteralKind.{LiteralKind}
 use Rattle.fz_tree.specs.declared.tree.LiteralKind.TheVariants as literals
 use Rattle.fz_tree.specs.Tree.{Literal, Number, Truth}
 use Rattle.fz_tree.specs.Tokens.{truth_word}
-use Rattle.fz_syntax.specs.Reading.{FaultKind, Syntax, Float, TooDeep, TooMany, Fault, Read, is_float, next_passes}
+use Rattle.fz_syntax.specs.Reading.{Fault, Read}
 
--- an error is this fault's
-abbrev pub IsFault : SyntaxError → FaultKind → Type 0
-IsFault (errors.Syntax place) Syntax = Unit {0}
-IsFault (errors.Float place) Float = Unit {0}
-IsFault (errors.TooDeep place) TooDeep = Unit {0}
-IsFault (errors.TooMany place) TooMany = Unit {0}
-IsFault _ _ = ⊥
+-- an error that the lexer doesn't find
+abbrev pub IsFault : SyntaxError → Type 0
+IsFault errors.TooLong = ⊥
+IsFault (errors.BadByte place) = ⊥
+IsFault (errors.TooLarge place) = ⊥
+IsFault _ = Unit {0}
 
--- a refusal is this fault's
-abbrev pub IsRefusal : Refusal → FaultKind → Type 0
-IsRefusal refusals.Syntax Syntax = Unit {0}
-IsRefusal refusals.Float Float = Unit {0}
-IsRefusal refusals.TooDeep TooDeep = Unit {0}
-IsRefusal refusals.TooMany TooMany = Unit {0}
-IsRefusal _ _ = ⊥
-
--- an error is this refusal's, at some byte range
+-- an error that is given for a refusal
 abbrev pub IsErrorOf : Refusal → SyntaxError → Type 0
-IsErrorOf refusals.Syntax (errors.Syntax place) = Unit {0}
-IsErrorOf refusals.Float (errors.Float place) = Unit {0}
-IsErrorOf refusals.TooDeep (errors.TooDeep place) = Unit {0}
-IsErrorOf refusals.TooMany (errors.TooMany place) = Unit {0}
-IsErrorOf refusals.Memory errors.Memory = Unit {0}
-IsErrorOf _ _ = ⊥
+IsErrorOf refusals.Memory e = e ≡ errors.Memory
+IsErrorOf _ e = IsFault e
 
--- A refusal is the fault that reading gives, at the tokens that are left, unless memory ran out.
-abbrev pub Fails : {A : Type 0} → Refusal → Read A → List TokenValue → Type 0
-Fails refusals.Memory read left = Unit {0}
-Fails refusals.Syntax read left = read ≡ Err (record { kind = Syntax; left = left })
-Fails refusals.Float read left = read ≡ Err (record { kind = Float; left = left })
-Fails refusals.TooDeep read left = read ≡ Err (record { kind = TooDeep; left = left })
-Fails refusals.TooMany read left = read ≡ Err (record { kind = TooMany; left = left })
+-- A refusal: reading fails, unless memory ran out.
+abbrev pub Fails : {A : Type 0} → Refusal → Result A Fault → Type 0
+Fails refusals.Memory read = Unit {0}
+Fails _ read = read ≡ Err tt
 
 -- A result, as plain data by `view`, and the tokens that are left are what reading gives, unless
 -- memory ran out.
 abbrev pub Gives : {X A : Type 0} → (X → A) → Result X Refusal → Read A → List TokenValue → Type 0
 Gives view (Ok x) read left = read ≡ Ok (view x, left)
-Gives view (Err e) read left = Fails e read left
-
--- why the first token is refused
-abbrev pub unexpected_kind : List TokenValue → FaultKind
-unexpected_kind tokens = if next_passes is_float tokens then Float else Syntax
+Gives view (Err e) read left = Fails e read
 
 -- A result is what reading all of the tokens gives, unless memory ran out.
 abbrev pub IsWhole : {X A : Type 0} → (X → A) → Result X SyntaxError → Result A Fault → Type 0
 IsWhole view (Ok x) read = read ≡ Ok (view x)
 IsWhole view (Err errors.Memory) read = Unit {0}
-IsWhole view (Err e) read = (f : Fault) × (read ≡ Err f) × IsFault e f.kind
+IsWhole view (Err e) read = IsFault e × (read ≡ Err tt)
 
 -- the token of a literal of one token
 abbrev pub plain_token : Plain → TokenValue

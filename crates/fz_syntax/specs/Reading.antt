@@ -1,8 +1,6 @@
 -- Used only by private functions: a reader of the contracts need not believe this file. Reading a
 -- tree from the front of a token list, from left to right, gives the value and the tokens after it,
--- or the first fault. A fault is at the first token with which the tokens so far no longer begin a
--- text of the grammar, or where a limit is passed; the tokens from that one on are given with it.
--- (The order of refusals is this project's profile.)
+-- or a fault, where the tokens are refused: they begin no text of the grammar within the limits.
 use Rattle.std.specs.Prelude.{ℕ, zero, suc, ◌+◌, ℤ, pos, negsuc, Bool, true, false, not, ◌||◌, ◌&&◌, if◌then◌else◌, ◌==◌, nat_le, List, [], ◌∷◌, length, drop, Option, Some, None, Result, Ok, Err, codes}
 use Rattle.std.specs.Str.{bytes_eq}
 use Rattle.std.specs.Ordering.{int_eq}
@@ -14,17 +12,9 @@ use Rattle.fz_tree.specs.View.{arg_list, basic_list}
 use Rattle.fz_tree.specs.of_lex.declared.limits.Limits.{Limits}
 use Rattle.fz_tree.specs.Text.{is_reserved, most_indexes}
 
--- why a token is refused
-pub data FaultKind : Type 0 where
-  Syntax : FaultKind
-  Float : FaultKind
-  TooDeep : FaultKind
-  TooMany : FaultKind
-
--- a fault, and the tokens from the refused one on
-pub record Fault : Type 0 where
-  pub kind : FaultKind
-  pub left : List TokenValue
+-- No public clause says which token is refused, or why: so a fault says nothing more.
+abbrev pub Fault : Type 0
+Fault = Unit {0}
 
 -- a value and the tokens after it, or a fault
 abbrev pub Read : Type 0 → Type 0
@@ -73,38 +63,25 @@ next_is m = next_passes (is_mark m)
 abbrev pub next_word : List ℕ → List TokenValue → Bool
 next_word text = next_passes (is_word text)
 
--- a float, or the word that would begin a float type
-abbrev pub is_float : TokenValue → Bool
-is_float (FloatText text) = true
-is_float (Word w) = bytes_eq w (codes "float")
-is_float _ = false
-
 -- the first token isn't allowed here
-abbrev pub unexpected : {A : Type 0} → Reader A
-unexpected tokens =
-    Err (record { kind = if next_passes is_float tokens then Float else Syntax; left = tokens })
-
-abbrev pub too_many : {A : Type 0} → Reader A
-too_many tokens = Err (record { kind = TooMany; left = tokens })
-
-abbrev pub too_deep : {A : Type 0} → Reader A
-too_deep tokens = Err (record { kind = TooDeep; left = tokens })
+abbrev pub refused : {A : Type 0} → Read A
+refused = Err tt
 
 -- a mark
 unfoldable pub mark_at : Mark → Reader (Unit {0})
-mark_at m tokens = if next_is m tokens then Ok (tt, drop 1 tokens) else unexpected tokens
+mark_at m tokens = if next_is m tokens then Ok (tt, drop 1 tokens) else refused
 
 -- a reserved word
 unfoldable pub word_at : List ℕ → Reader (Unit {0})
-word_at text tokens = if next_word text tokens then Ok (tt, drop 1 tokens) else unexpected tokens
+word_at text tokens = if next_word text tokens then Ok (tt, drop 1 tokens) else refused
 
 unfoldable pub name_at : Reader (List ℕ)
-name_at (Word w ∷ rest) = if is_reserved w then unexpected (Word w ∷ rest) else Ok (w, rest)
-name_at tokens = unexpected tokens
+name_at (Word w ∷ rest) = if is_reserved w then refused else Ok (w, rest)
+name_at tokens = refused
 
 unfoldable pub whole_at : Reader ℤ
 whole_at (Whole n ∷ rest) = Ok (n, rest)
-whole_at tokens = unexpected tokens
+whole_at tokens = refused
 
 -- ---- lists
 
@@ -143,10 +120,9 @@ list_at close element tokens =
 abbrev pub any_number : {A : Type 0} → Reader A → ℕ → Reader A
 any_number element i tokens = element tokens
 
--- an element of a list of at most so many; `begins` tells whether an element can begin with a token
-abbrev pub at_most : {A : Type 0} → ℕ → (TokenValue → Bool) → Reader A → ℕ → Reader A
-at_most limit begins element i tokens =
-    if nat_le limit i && next_passes begins tokens then too_many tokens else element tokens
+-- an element of a list of at most so many
+abbrev pub at_most : {A : Type 0} → ℕ → Reader A → ℕ → Reader A
+at_most limit element i tokens = if nat_le limit i then refused else element tokens
 
 -- ---- expressions
 
@@ -154,21 +130,14 @@ abbrev pub is_whole : TokenValue → Bool
 is_whole (Whole n) = true
 is_whole _ = false
 
-abbrev pub begins_literal : TokenValue → Bool
-begins_literal t =
-    is_whole t || (is_word (codes "true") t || (is_word (codes "false") t || is_mark OpenBrace t))
-
 abbrev pub is_name : TokenValue → Bool
 is_name (Word w) = not (is_reserved w)
 is_name _ = false
 
-abbrev pub begins_basic : TokenValue → Bool
-begins_basic t = is_name t || begins_literal t
-
 -- numbers in braces, after the brace that opens
 unfoldable pub braces_at : Limits → Reader Literal
 braces_at limits tokens = do
-  numbers ← list_at CloseBrace (at_most limits.elements is_whole whole_at) tokens
+  numbers ← list_at CloseBrace (at_most limits.elements whole_at) tokens
   Ok (Braces numbers.0, numbers.1)
 
 -- after an integer: it is the low end of a range, or a literal by itself
@@ -183,7 +152,7 @@ literal_at limits tokens =
     else (if next_word (codes "true") tokens then Ok (Truth true, drop 1 tokens)
     else (if next_word (codes "false") tokens then Ok (Truth false, drop 1 tokens)
     else (if next_is OpenBrace tokens then braces_at limits (drop 1 tokens)
-    else unexpected tokens)))
+    else refused)))
 
 unfoldable pub basic_at : Limits → Reader Basic
 basic_at limits tokens =
@@ -192,7 +161,7 @@ basic_at limits tokens =
 
 unfoldable pub expr_list_at : Limits → Reader (List Basic)
 expr_list_at limits tokens =
-    list_at CloseBracket (at_most limits.elements begins_basic (basic_at limits)) tokens
+    list_at CloseBracket (at_most limits.elements (basic_at limits)) tokens
 
 unfoldable pub expr_at : Limits → Reader Expr
 expr_at limits tokens =
@@ -200,19 +169,6 @@ expr_at limits tokens =
     (Several bs.0, bs.1)) else (basic_at limits tokens >>= λ b. Ok (One b.0, b.1))
 
 -- ---- annotations
-
--- a name begins an annotation, which may be one level too deep
-abbrev pub is_deep_name : ℕ → TokenValue → Bool
-is_deep_name zero t = false
-is_deep_name (suc depth) t = is_name t
-
-abbrev pub is_quoted : TokenValue → Bool
-is_quoted (FloatText text) = true
-is_quoted (StringText text) = true
-is_quoted _ = false
-
-abbrev pub begins_note_basic : ℕ → TokenValue → Bool
-begins_note_basic depth t = is_quoted t || (is_deep_name depth t || begins_literal t)
 
 -- an element of an annotation's arguments, where `inner` reads an annotation
 unfoldable pub note_basic_at : Limits → Reader Note → Reader NoteBasic
@@ -224,8 +180,7 @@ note_basic_at limits inner tokens =
 
 unfoldable pub note_list_at : Limits → ℕ → Reader Note → Reader (List NoteBasic)
 note_list_at limits depth inner tokens =
-    list_at CloseBracket (at_most limits.elements (begins_note_basic depth)
-    (note_basic_at limits inner)) tokens
+    list_at CloseBracket (at_most limits.elements (note_basic_at limits inner)) tokens
 
 unfoldable pub note_arg_at : Limits → ℕ → Reader Note → Reader NoteArg
 note_arg_at limits depth inner tokens =
@@ -243,8 +198,7 @@ note_args_at limits depth inner tokens =
 
 -- an annotation that has at most so many levels
 unfoldable pub note_at : Limits → ℕ → Reader Note
-note_at limits zero tokens =
-    if next_passes is_name tokens then too_deep tokens else unexpected tokens
+note_at limits zero tokens = refused
 note_at limits (suc depth) tokens = do
   name ← name_at tokens
   args ← note_args_at limits depth (note_at limits depth) name.1
@@ -255,11 +209,6 @@ notes_at limits tokens =
     many_at (is_mark ColonColon) (after_token (any_number (note_at limits limits.depth))) 0 tokens
 
 -- ---- types
-
-abbrev pub begins_bounds : TokenValue → Bool
-begins_bounds (Whole n) = true
-begins_bounds (Marked m) = is_mark OpenBrace (Marked m)
-begins_bounds _ = false
 
 unfoldable pub range_at : Reader Literal
 range_at tokens = do
@@ -299,17 +248,16 @@ is_one (Whole n) = int_eq n (pos 1)
 is_one _ = false
 
 unfoldable pub one_at : Reader (Unit {0})
-one_at tokens = if next_passes is_one tokens then Ok (tt, drop 1 tokens) else unexpected tokens
+one_at tokens = if next_passes is_one tokens then Ok (tt, drop 1 tokens) else refused
 
 -- a number that is 0 or more
 abbrev pub size_from : Limits → ℤ → Reader ℕ
-size_from limits (pos n) rest =
-    if nat_le n limits.size then Ok (n, rest) else too_many (Whole (pos n) ∷ rest)
-size_from limits (negsuc n) rest = unexpected (Whole (negsuc n) ∷ rest)
+size_from limits (pos n) rest = if nat_le n limits.size then Ok (n, rest) else refused
+size_from limits (negsuc n) rest = refused
 
 unfoldable pub size_at : Limits → Reader ℕ
 size_at limits (Whole n ∷ rest) = size_from limits n rest
-size_at limits tokens = unexpected tokens
+size_at limits tokens = refused
 
 unfoldable pub index_at : Limits → Reader ℕ
 index_at limits tokens = do
@@ -331,13 +279,9 @@ any_index_at limits tokens =
     if next_word (codes "int") tokens then Ok (None, drop 1 tokens)
     else (index_at limits tokens >>= λ n. Ok (Some n.0, n.1))
 
--- what an index set begins with
-abbrev pub begins_index : TokenValue → Bool
-begins_index t = is_whole t || is_word (codes "int") t
-
 unfoldable pub indexes_at : Limits → Reader (List (Option ℕ))
 indexes_at limits tokens =
-    separated_at (at_most most_indexes begins_index (any_index_at limits)) tokens
+    separated_at (at_most most_indexes (any_index_at limits)) tokens
 
 -- ---- items
 
@@ -385,7 +329,7 @@ value_at limits true (Some n) tokens =
     (Several bs.0, bs.1)
 value_at limits false (Some n) tokens =
     mark_at OpenBracket tokens >>= λ opened. list_at CloseBracket
-    (at_most limits.elements begins_literal (literal_basic_at limits)) opened.1 >>= λ bs. Ok
+    (at_most limits.elements (literal_basic_at limits)) opened.1 >>= λ bs. Ok
     (Several bs.0, bs.1)
 
 -- only a scalar variable may go without a value
@@ -477,7 +421,7 @@ tree_at limits tokens = do
 -- no token is left
 unfoldable pub ended : {A : Type 0} → A × List TokenValue → Result A Fault
 ended (x, []) = Ok x
-ended (x, t ∷ rest) = Err (record { kind = if is_float t then Float else Syntax; left = t ∷ rest })
+ended (x, t ∷ rest) = Err tt
 
 abbrev pub whole : {A : Type 0} → Read A → Result A Fault
 whole (Ok x) = ended x

@@ -6,7 +6,7 @@ use Rattle.fz_tree.specs.of_lex.declared.token.Mark.TheVariants.{OpenParen, Clos
 use Rattle.fz_tree.specs.of_lex.Token.{TokenValue, Word}
 use Rattle.fz_tree.specs.Tree.{Literal, PrintedValue, OneValue, ArrayOf, Printed}
 use Rattle.fz_tree.specs.of_lex.declared.limits.Limits.{Limits}
-use Rattle.fz_syntax.specs.Reading.{Fault, Reader, ◌>>=◌, mark_at, name_at, is_name, many_at, any_number, at_most, list_at, literal_at, bounds_at, begins_literal, whole}
+use Rattle.fz_syntax.specs.Reading.{Fault, Reader, ◌>>=◌, mark_at, name_at, is_name, many_at, any_number, at_most, list_at, literal_at, bounds_at, whole}
 
 -- how many index sets the array that the word begins has; 0 where the word begins no array
 abbrev pub dimensions_of : List ℕ → ℕ
@@ -44,7 +44,7 @@ index_sets_at limits (suc n) tokens =
 -- literals after the bracket that opens their list
 unfoldable pub elements_at : Limits → Reader (List Literal)
 elements_at limits tokens =
-    list_at CloseBracket (at_most limits.elements begins_literal (literal_at limits)) tokens
+    list_at CloseBracket (at_most limits.elements (literal_at limits)) tokens
 
 -- an array of so many index sets, after its word
 unfoldable pub printed_array_at : Limits → ℕ → Reader PrintedValue

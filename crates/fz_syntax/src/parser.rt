@@ -1,6 +1,6 @@
 //! From tokens to a tree, by recursive descent, with no list of tokens in between.
 
-ghost use Rattle.std.specs.Prelude.{ℕ, ◌≡◌, ◌<◌, ◌↔◌, length, List, [], IfOk, IfErr, MatchResult, Err};
+ghost use Rattle.std.specs.Prelude.{◌≡◌, ◌<◌, ◌↔◌, length, List, [], IfOk, IfErr, MatchResult, Err};
 ghost use Rattle.std.specs.List.{AllByRecursion};
 ghost use Rattle.fz_tree.specs.of_lex.View.{IsPlacedWithin};
 ghost use Rattle.fz_syntax.specs.Walk.{Walk, ahead, lexemes};
@@ -9,9 +9,8 @@ ghost use Rattle.fz_syntax.specs.Spots.{Stand, spots, item_spots};
 ghost use Rattle.fz_tree.specs.View.{bare, bare_items};
 ghost use Rattle.fz_syntax.specs.Outcome.{IsWhole};
 ghost use Rattle.fz_tree.specs.of_lex.declared.limits.Limits.{Limits};
-ghost use Rattle.fz_tree.specs.Text.{IsTextOfTree, IsTextOfTreeWithin, IsTextOfItems, IsTextOfItemsWithin, HasShape, IsTree, IsPrinted};
+ghost use Rattle.fz_tree.specs.Text.{IsTextOfTree, IsTextOfTreeWithin, IsTextOfItems, IsTextOfItemsWithin, IsTree, IsPrinted};
 ghost use Rattle.fz_tree.specs.Refusals.{IsValue, IsRefusalOf, IsRefusalWithin};
-ghost use Rattle.fz_syntax.specs.Reading.{tree_of};
 ghost use Rattle.fz_syntax.specs.ReadingItems.{items_of};
 ghost use Rattle.fz_tree.specs.Tokens.{toks, itoks};
 ghost use Rattle.fz_tree.specs.Tree as tree;
@@ -20,6 +19,7 @@ ghost use Rattle.fz_tree.specs.of_lex.declared.error.SyntaxError.TheVariants.{To
 
 mod annotations;
 pub(crate) mod cursor;
+mod elements;
 mod expressions;
 mod items;
 mod kinds;

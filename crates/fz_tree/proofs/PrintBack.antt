@@ -1,9 +1,6 @@
 -- The canonical text of a tree lexes to the tree's tokens, so it is a text of the tree where it is
 -- short enough.
-use Rattle.std.proofs.Common.{◌≡◌, ◌≤◌, ℕ, List, [], ◌∷◌, length, sym, subst}
-use Rattle.std.specs.List.{AllByRecursion}
-use Rattle.fz_lex.specs.Token.{TokenValue, IsTokenText}
-use Rattle.fz_lex.specs.Lexing.{IsTokenWithinLimit}
+use Rattle.std.proofs.Common.{◌≡◌, ◌≤◌, ℕ, false, List, length, sym, subst}
 use Rattle.fz_lex.specs.declared.limits.Limits.{Limits}
 use Rattle.fz_lex.specs.AnyLength.{LexesWithNumbersInLimit}
 use Rattle.fz_lex.proofs.Joined.{joined_lexes}
@@ -12,17 +9,12 @@ use Rattle.fz_tree.specs.Tree.{Tree}
 use Rattle.fz_tree.specs.Tokens.{toks}
 use Rattle.fz_tree.specs.Text.{IsTextOfTreeWithin, IsTree}
 use Rattle.fz_tree.specs.Print.{tree_text, CanBeWritten}
-use Rattle.fz_tree.proofs.PrintLaws.{IsPrintable, tree_joins}
-
-all_printable : (tokens : List TokenValue) → AllByRecursion IsTokenText tokens
-    → AllByRecursion IsTokenWithinLimit tokens → AllByRecursion IsPrintable tokens
-all_printable [] h k = tt
-all_printable (t ∷ tokens) h k = ((h.0, k.0), all_printable tokens h.1 k.1)
+use Rattle.fz_tree.proofs.PrintLaws.{tokens_join}
 
 pub printed_lexes : (t : Tree) (text : List ℕ) → text ≡ tree_text t → CanBeWritten t
     → LexesWithNumbersInLimit text (toks t)
 printed_lexes t text e w =
-    subst (λ bytes. LexesWithNumbersInLimit bytes (toks t)) (sym e) (record { lexes = joined_lexes (tree_text t) (toks t) (tree_joins t (all_printable (toks t) w.texts w.numbers)); numbers = w.numbers })
+    subst (λ bytes. LexesWithNumbersInLimit bytes (toks t)) (sym e) (record { lexes = joined_lexes (tree_text t) (toks t) (tokens_join false (toks t) w.texts w.numbers); numbers = w.numbers })
 
 -- a tree that was read can be written
 pub read_can_be_written : (limits : Limits) (source : List ℕ) (t : Tree)

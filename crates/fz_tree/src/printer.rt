@@ -1,12 +1,15 @@
 //! The canonical text of a tree.
 
-ghost use Rattle.std.specs.Prelude.{◌≡◌, ◌≤◌, ◌++◌, ℕ, List, length, OnOk, IfOk};
+ghost use Rattle.std.specs.Prelude.{◌≡◌, ◌≤◌, ◌++◌, if◌then◌else◌, ℕ, ℤ, List, [], ◌∷◌, length, codes, OnOk, IfOk};
+ghost use Rattle.std.specs.Fmt.{signed_decimal};
 ghost use Rattle.fz_lex.specs.declared.limits.Limits.{Limits};
+ghost use Rattle.fz_lex.specs.Token.{Word, Whole, FloatText, StringText, Marked};
 ghost use Rattle.fz_lex.specs.AnyLength.{LexesWithNumbersInLimit};
 ghost use Rattle.fz_tree.specs.View.{bare};
-ghost use Rattle.fz_tree.specs.Tokens.{toks};
+ghost use Rattle.fz_tree.specs.Tokens.{toks, index_toks};
 ghost use Rattle.fz_tree.specs.Text.{IsTextOfTreeWithin};
 ghost use Rattle.fz_tree.specs.Print.{tree_text, CanBeWritten};
+ghost use Rattle.fz_tree.specs.Printing.{Prints};
 
 mod annotations;
 mod expressions;
@@ -14,19 +17,86 @@ mod items;
 mod types;
 
 use crate::tree::Ast;
+use fz_lex::Mark;
+use itoa::Buffer;
 use std::alloc::{AllocError, Global};
 
-/// The text printed so far. Each method appends the text of one part of a tree.
+/// The text printed so far, and whether a blank may come behind it. Each method appends the tokens
+/// of one part of a tree.
 #[derive(Drop)]
 pub(crate) struct Printer {
     pub(crate) text: Vec<u8>,
+    pub(crate) apart: bool,
 }
 
 impl Printer {
-    pub(crate) fn put(&mut self, bytes: &[u8]) -> Result<(), AllocError>
-        ensures { OnOk result (self.new.text.items ≡ self.old.text.items ++ bytes.now) }
+    fn put(&mut self, bytes: &[u8], apart: bool) -> Result<(), AllocError>
+        ensures text { OnOk result (self.new.text.items ≡ self.old.text.items ++ bytes.now) }
+        ensures state { self.new.apart ≡ apart }
     {
+        self.apart = apart;
         self.text.extend_from_slice(bytes)
+    }
+
+    /// Like `put`, behind a blank where one may come.
+    fn put_apart(&mut self, bytes: &[u8], apart: bool) -> Result<(), AllocError>
+        ensures text { OnOk result (self.new.text.items ≡ self.old.text.items
+            ++ (if self.old.apart then codes " " else []) ++ bytes.now) }
+        ensures state { OnOk result (self.new.apart ≡ apart) }
+    {
+        if self.apart {
+            self.text.extend_from_slice(b" ")?;
+        }
+        self.put(bytes, apart)
+    }
+
+    /// The text of a word, of a number, or of a float or a string.
+    #[tactic(auto, unfolding(crate::specs::Printing::page, crate::specs::Printing::with_token))]
+    pub(crate) fn text(&mut self, text: &[u8]) -> Result<(), AllocError>
+        ensures word { OnOk result (Prints self.old self.new (Word text.now ∷ [])) }
+        ensures whole { OnOk result ((n : ℤ) → text.now ≡ signed_decimal n
+            → Prints self.old self.new (Whole n ∷ [])) }
+        ensures float { OnOk result (Prints self.old self.new (FloatText text.now ∷ [])) }
+        ensures string { OnOk result (Prints self.old self.new (StringText text.now ∷ [])) }
+    {
+        self.put_apart(text, true)
+    }
+
+    pub(crate) fn number(&mut self, number: i64) -> Result<(), AllocError>
+        ensures { OnOk result (Prints self.old self.new (Whole number ∷ [])) }
+    {
+        let mut buffer = Buffer::new();
+        self.text(buffer.format(number).as_bytes())
+    }
+
+    #[tactic(auto, unfolding(crate::specs::Printing::page, crate::specs::Printing::with_token))]
+    pub(crate) fn mark(&mut self, mark: Mark) -> Result<(), AllocError>
+        ensures { OnOk result (Prints self.old self.new (Marked mark ∷ [])) }
+    {
+        match mark {
+            Mark::OpenParen => self.put(b"(", false),
+            Mark::CloseParen => self.put(b")", true),
+            Mark::OpenBracket => self.put_apart(b"[", false),
+            Mark::CloseBracket => self.put(b"]", true),
+            Mark::OpenBrace => self.put_apart(b"{", false),
+            Mark::CloseBrace => self.put(b"}", true),
+            Mark::Comma => self.put(b",", false),
+            Mark::Semicolon => self.put(b";\n", false),
+            Mark::Colon => self.put(b": ", false),
+            Mark::ColonColon => self.put_apart(b"::", true),
+            Mark::Equals => self.put_apart(b"=", true),
+            Mark::DotDot => self.put(b"..", false),
+        }
+    }
+
+    /// The indexes from 1 up to a length.
+    pub(crate) fn index(&mut self, length: usize) -> Result<(), AllocError>
+        ensures { OnOk result (Prints self.old self.new (index_toks length)) }
+    {
+        let mut buffer = Buffer::new();
+        self.number(1)?;
+        self.mark(Mark::DotDot)?;
+        self.text(buffer.format(length).as_bytes())
     }
 }
 
@@ -48,6 +118,7 @@ pub fn to_text(alloc: Global, ast: &Ast<'_>) -> Result<Vec<u8>, AllocError>
 {
     let mut printer = Printer {
         text: Vec::new(alloc),
+        apart: false,
     };
     printer.tree(ast)?;
     Ok(printer.text)

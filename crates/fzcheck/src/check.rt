@@ -1,16 +1,17 @@
 //! The command `check`.
 
-use crate::as_json::{refusal_line, unread_line};
+use crate::as_json::refusal_line;
 use crate::explain::explanation;
-use crate::known::{Unlearned, claims_of};
 use crate::names::check_with_names;
-use crate::refuse::{Detail, refuse, refuse_fault, refuse_file, unread, unread_text};
+use crate::read_text;
+use crate::refuse::{Detail, refuse_fault};
 use crate::teller::Teller;
-use crate::{limits_of, read_text};
-use fz_check::{Answer, CheckError, Claims, Completion, Ending, MOST_READS, check_events, status};
-use fz_command::{CheckOptions, Explaining, Form};
 use fz_explain::{Explainer, Message, NameTable, Text};
-use fz_files::{InPlace, NOTHING, Recent, Recorder, find_input};
+use fz_report::{
+    Answer, CheckError, CheckOptions, Claims, Ending, Explaining, Form, InPlace, MOST_READS,
+    NOTHING, Recent, Recorder, Unlearned, check_events, claims_of, completion_of, find_input,
+    limits_of, refuse, refuse_file, status, unread, unread_line, unread_text,
+};
 use std::alloc::{AllocError, Global};
 use std::cell::RefCell;
 use std::io::{Read, Write};
@@ -171,14 +172,6 @@ fn check_to<S: Read, W: Write>(
         claims,
         limits_of(task.options.size),
     )
-}
-
-pub fn completion_of(completes: bool) -> Completion {
-    if completes {
-        Completion::On
-    } else {
-        Completion::Off
-    }
 }
 
 fn ending_of(cuts: bool) -> Ending {

@@ -7,17 +7,16 @@
 mod as_json;
 mod check;
 mod explain;
-mod known;
 mod names;
 mod refuse;
 mod show;
 mod teller;
 
 use check::check_files;
-use fz_check::{CheckError, Limits};
-use fz_command::{HELP, Refused, Request, Size, VERSION, read_words};
-use fz_files::{ReadError, read_up_to};
-use refuse::{refuse, refuse_usage, refuse_wrong};
+use fz_report::{
+    CheckError, HELP, Limits, ReadError, Refused, Request, VERSION, read_up_to, read_words, refuse,
+    refuse_usage, refuse_wrong,
+};
 use show::show_file;
 use std::alloc::Global;
 use std::io::Read;
@@ -26,14 +25,6 @@ use std::{env, io};
 
 /// The status where a model or the version was shown.
 const SHOWN: u8 = 0;
-
-/// The limits of a model, and of the blocks of its streams.
-fn limits_of(size: Size) -> Limits {
-    match size {
-        Size::Standard => Limits::STANDARD,
-        Size::Large => Limits::LARGE,
-    }
-}
 
 /// The bytes of a model, or one more than the limits allow where there are more.
 fn read_text<R: Read>(alloc: Global, reader: &mut R, limits: Limits) -> Result<Vec<u8>, ReadError> {

@@ -2,11 +2,8 @@
 
 use crate::as_json::names_line;
 use crate::check::{Task, check_stream, refuse_reading};
-use crate::refuse::{refuse, unread};
-use fz_check::{CheckError, Claims, Span};
-use fz_command::Form;
 use fz_explain::{Message, NameTable, TableError, Text, message_at};
-use fz_files::{NOTHING, Recorder, read_up_to};
+use fz_report::{CheckError, Claims, Form, NOTHING, Recorder, Span, read_up_to, refuse, unread};
 use std::alloc::{AllocError, Global};
 use std::fs;
 use std::io::{Read, Write};

@@ -1,12 +1,13 @@
 //! The command `show`.
 
 use crate::explain::explanation;
-use crate::refuse::{Detail, refuse, refuse_fault, refuse_file, unread};
-use crate::{SHOWN, limits_of, read_text};
-use fz_check::{CheckError, show, show_printing_all};
-use fz_command::{Printing, Size};
+use crate::refuse::{Detail, refuse_fault};
+use crate::{SHOWN, read_text};
 use fz_explain::Text;
-use fz_files::{NOTHING, Recorder};
+use fz_report::{
+    CheckError, NOTHING, Printing, Recorder, Size, limits_of, refuse, refuse_file, show,
+    show_printing_all, unread,
+};
 use std::io::Write;
 use std::{fs, io};
 

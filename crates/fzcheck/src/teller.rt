@@ -1,15 +1,15 @@
 //! Who takes the events of a check: the report is written as text or as JSON, and on the way is
 //! shown how far the check is, and why blocks aren't satisfied.
 
-ghost use Rattle.fz_check.specs.Report.{event_line};
+ghost use Rattle.fz_report.specs.of_check.Report.{event_line};
 
-use crate::as_json::{
-    Counts, answer_line, block_line, claim_line, cut_line, explanation_line, refuted_line,
-};
-use fz_check::{Answer, Event, Judged, Taker, TextTaker, Verdict};
-use fz_command::{CheckOptions, Explaining, Form};
+use crate::as_json::{answer_line, explanation_line};
 use fz_explain::{Case, Explainer, Message, Remarks, Text, Unbound};
-use fz_files::{Passed, Progress, Recent, Recorder, Waiting, add_line, read_up_to};
+use fz_report::{
+    Answer, CheckOptions, Counts, Event, Explaining, Form, Judged, Passed, Progress, Recent,
+    Recorder, Taker, TextTaker, Verdict, Waiting, add_line, block_line, claim_line, cut_line,
+    read_up_to, refuted_line,
+};
 use std::alloc::AllocError;
 use std::cell::RefCell;
 use std::fs;

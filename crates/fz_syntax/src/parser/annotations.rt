@@ -3,7 +3,7 @@
 ghost use Rattle.std.specs.Prelude.{◌≡◌, ◌≤◌, ◌<◌, ◌++◌, length, map, IfOk};
 ghost use Rattle.fz_tree.specs.View.{bare_note, bare_arg, bare_basic, bare_notes};
 ghost use Rattle.fz_syntax.specs.Outcome.{Gives};
-ghost use Rattle.fz_syntax.specs.Reading.{mark_at, at_most, separated_at, note_at, note_args_at, note_arg_at, note_list_at, note_basic_at, begins_note_basic, any_number, notes_at, list_at};
+ghost use Rattle.fz_syntax.specs.Reading.{mark_at, at_most, separated_at, note_at, note_args_at, note_arg_at, note_list_at, note_basic_at, any_number, notes_at, list_at};
 ghost use Rattle.fz_tree.specs.of_lex.declared.token.Mark.TheVariants.{CloseParen, CloseBracket};
 ghost use Rattle.fz_syntax.specs.Placed.{placed_mark, placed_separated, placed_note, placed_arg, placed_args, placed_note_basic, placed_notes};
 ghost use Rattle.fz_syntax.specs.Walk.{Walk, lexemes};
@@ -16,7 +16,7 @@ use fz_tree::{Limits, Mark, Note, NoteArg, NoteBasic, TokenKind};
 impl<'a> Parser<'a> {
     /// An annotation of at most `depth` levels.
     #[cycle(notes)]
-    #[tactic(auto, unfolding(crate::specs::Reading::note_at), using(crate::proofs::Walks::passed_then, crate::proofs::Walks::passed_none, crate::proofs::Walks::passed, crate::proofs::Walks::walk_none, crate::proofs::Errors::fails_unexpected, crate::proofs::Separated::fails_bind))]
+    #[tactic(auto, unfolding(crate::specs::Reading::note_at), using(crate::proofs::Walks::passed_then, crate::proofs::Walks::passed_none, crate::proofs::Walks::passed, crate::proofs::Walks::walk_none, crate::proofs::Separated::fails_from, crate::proofs::Separated::fails_bind))]
     pub(crate) fn note(&mut self, limits: &Limits, depth: usize) -> Result<Note<'a>, Refusal>
         ensures read { Gives (bare_note) result (note_at limits.now depth (lexemes self.old))
             (lexemes self.new) }
@@ -37,7 +37,7 @@ impl<'a> Parser<'a> {
     }
 
     #[cycle(notes)]
-    #[tactic(auto, unfolding(crate::specs::Reading::note_args_at, crate::specs::Reading::mark_at), using(crate::proofs::Walks::passed_then, crate::proofs::Walks::passed_none, crate::proofs::Walks::passed, crate::proofs::Walks::walk_none, crate::proofs::Errors::fails_unexpected, crate::proofs::Separated::fails_bind))]
+    #[tactic(auto, unfolding(crate::specs::Reading::note_args_at, crate::specs::Reading::mark_at), using(crate::proofs::Walks::passed_then, crate::proofs::Walks::passed_none, crate::proofs::Walks::passed, crate::proofs::Walks::walk_none, crate::proofs::Separated::fails_from, crate::proofs::Separated::fails_bind))]
     pub(crate) fn note_args(
         &mut self,
         limits: &Limits,
@@ -84,7 +84,7 @@ impl<'a> Parser<'a> {
     }
 
     #[cycle(notes)]
-    #[tactic(auto, unfolding(crate::specs::Reading::note_arg_at), using(crate::proofs::Walks::passed_then, crate::proofs::Walks::passed_none, crate::proofs::Walks::passed, crate::proofs::Walks::walk_none, crate::proofs::Errors::fails_unexpected, crate::proofs::Separated::fails_bind))]
+    #[tactic(auto, unfolding(crate::specs::Reading::note_arg_at), using(crate::proofs::Walks::passed_then, crate::proofs::Walks::passed_none, crate::proofs::Walks::passed, crate::proofs::Walks::walk_none, crate::proofs::Separated::fails_from, crate::proofs::Separated::fails_bind))]
     pub(crate) fn note_arg(&mut self, limits: &Limits, depth: usize) -> Result<NoteArg<'a>, Refusal>
         ensures read { Gives (bare_arg) result (note_arg_at limits.now depth
             (note_at limits.now depth) (lexemes self.old)) (lexemes self.new) }
@@ -100,7 +100,7 @@ impl<'a> Parser<'a> {
     }
 
     #[cycle(notes)]
-    #[tactic(auto, unfolding(crate::specs::Reading::note_list_at, crate::specs::Reading::list_at, crate::specs::Reading::mark_at), using(crate::proofs::Walks::passed_then, crate::proofs::Walks::passed_none, crate::proofs::Walks::passed, crate::proofs::Walks::walk_none, crate::proofs::Errors::fails_unexpected, crate::proofs::Separated::fails_bind))]
+    #[tactic(auto, unfolding(crate::specs::Reading::note_list_at, crate::specs::Reading::list_at, crate::specs::Reading::mark_at), using(crate::proofs::Walks::passed_then, crate::proofs::Walks::passed_none, crate::proofs::Walks::passed, crate::proofs::Walks::walk_none, crate::proofs::Separated::fails_from, crate::proofs::Separated::fails_bind))]
     pub(crate) fn note_list(
         &mut self,
         limits: &Limits,
@@ -129,7 +129,7 @@ impl<'a> Parser<'a> {
         depth: usize,
     ) -> Result<Vec<NoteBasic<'a>>, Refusal>
         ensures read { Gives (λ v. map bare_basic v.items) result
-            (separated_at (at_most limits.now.elements (begins_note_basic depth)
+            (separated_at (at_most limits.now.elements
             (note_basic_at limits.now (note_at limits.now depth))) (lexemes self.old))
             (lexemes self.new) }
         ensures shorter { length (lexemes self.new) ≤ length (lexemes self.old) }
@@ -148,6 +148,7 @@ impl<'a> Parser<'a> {
 
     /// An element of a list that has `count` elements so far.
     #[cycle(notes)]
+    #[tactic(auto, using(crate::proofs::Separated::fails_from))]
     pub(crate) fn listed_note_basic(
         &mut self,
         limits: &Limits,
@@ -155,20 +156,24 @@ impl<'a> Parser<'a> {
         count: usize,
     ) -> Result<NoteBasic<'a>, Refusal>
         ensures read { Gives (bare_basic) result (at_most limits.now.elements
-            (begins_note_basic depth) (note_basic_at limits.now (note_at limits.now depth)) count
+            (note_basic_at limits.now (note_at limits.now depth)) count
             (lexemes self.old)) (lexemes self.new) }
         ensures shorter { length (lexemes self.new) ≤ length (lexemes self.old) }
         ensures end { self.new.end ≡ self.old.end }
         ensures walked { IfOk result (λ b. Walk self.old self.new (placed_note_basic b)) }
     {
-        if count >= limits.elements() && self.begins_note_basic(depth) {
-            return Err(Refusal::TooMany);
+        if count >= limits.elements() {
+            return Err(if depth == 0 && self.begins_name() {
+                Refusal::TooDeep
+            } else {
+                self.full(self.begins_note_basic(depth))
+            });
         }
         self.note_basic(limits, depth)
     }
 
     #[cycle(notes)]
-    #[tactic(auto, unfolding(crate::specs::Reading::note_basic_at), using(crate::proofs::Walks::passed_then, crate::proofs::Walks::passed_none, crate::proofs::Walks::passed, crate::proofs::Walks::walk_none, crate::proofs::Errors::fails_unexpected, crate::proofs::Separated::fails_bind))]
+    #[tactic(auto, unfolding(crate::specs::Reading::note_basic_at), using(crate::proofs::Walks::passed_then, crate::proofs::Walks::passed_none, crate::proofs::Walks::passed, crate::proofs::Walks::walk_none, crate::proofs::Separated::fails_from, crate::proofs::Separated::fails_bind))]
     pub(crate) fn note_basic(
         &mut self,
         limits: &Limits,

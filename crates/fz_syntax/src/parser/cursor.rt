@@ -6,8 +6,8 @@ ghost use Rattle.std.specs.List.{All};
 ghost use Rattle.fz_tree.specs.of_lex.View.{IsSpanWithin, IsPlacedWithin};
 ghost use Rattle.fz_tree.specs.of_lex.Left.{left};
 ghost use Rattle.fz_tree.specs.View.{bare_name};
-ghost use Rattle.fz_syntax.specs.Outcome.{Gives, IsRefusal, IsErrorOf, unexpected_kind};
-ghost use Rattle.fz_syntax.specs.Reading.{next_is, next_word, next_passes, is_float, mark_at, word_at, name_at, whole_at, is_name, is_whole, begins_index, begins_literal, begins_basic, begins_note_basic, is_quoted, begins_decl};
+ghost use Rattle.fz_syntax.specs.Outcome.{Gives, IsErrorOf};
+ghost use Rattle.fz_syntax.specs.Reading.{next_is, next_word, next_passes, mark_at, word_at, name_at, whole_at, is_name, is_whole, begins_decl};
 
 use crate::parser::kinds::{
     begins_decl, begins_index, begins_literal, is_float, is_name, is_quoted,
@@ -128,12 +128,20 @@ impl<'a> Parser<'a> {
         }
     }
 
-    pub(crate) fn unexpected(&self) -> Refusal
-        ensures { IsRefusal result (unexpected_kind (lexemes self.now)) }
-    {
+    /// Why the next token isn't allowed.
+    pub(crate) fn unexpected(&self) -> Refusal {
         match self.tokens.first() {
             Some(first) if is_float(&first) => Refusal::Float,
             _ => Refusal::Syntax,
+        }
+    }
+
+    /// Why a list that is full ends here, where its next element begins or not.
+    pub(crate) fn full(&self, begins: bool) -> Refusal {
+        if begins {
+            Refusal::TooMany
+        } else {
+            self.unexpected()
         }
     }
 
@@ -156,7 +164,7 @@ impl<'a> Parser<'a> {
     }
 
     #[inline(always)]
-    #[tactic(auto, unfolding(crate::specs::Reading::mark_at), using(crate::proofs::Walks::passed_then, crate::proofs::Walks::passed_none, crate::proofs::Walks::passed, crate::proofs::Walks::walk_none, crate::proofs::Errors::fails_unexpected))]
+    #[tactic(auto, unfolding(crate::specs::Reading::mark_at), using(crate::proofs::Walks::passed_then, crate::proofs::Walks::passed_none, crate::proofs::Walks::passed, crate::proofs::Walks::walk_none, crate::proofs::Separated::fails_from))]
     pub(crate) fn expect(&mut self, mark: Mark) -> Result<(), Refusal>
         ensures read { Gives (λ _. tt) result (mark_at mark (lexemes self.old)) (lexemes self.new) }
         ensures shorter { length (lexemes self.new) ≤ length (lexemes self.old) }
@@ -170,7 +178,7 @@ impl<'a> Parser<'a> {
         }
     }
 
-    #[tactic(auto, unfolding(crate::specs::Reading::word_at), using(crate::proofs::Walks::passed_then, crate::proofs::Walks::passed_none, crate::proofs::Walks::passed, crate::proofs::Walks::walk_none, crate::proofs::Errors::fails_unexpected))]
+    #[tactic(auto, unfolding(crate::specs::Reading::word_at), using(crate::proofs::Walks::passed_then, crate::proofs::Walks::passed_none, crate::proofs::Walks::passed, crate::proofs::Walks::walk_none, crate::proofs::Separated::fails_from))]
     pub(crate) fn expect_word(&mut self, word: &[u8]) -> Result<(), Refusal>
         ensures read { Gives (λ _. tt) result (word_at word.now (lexemes self.old))
             (lexemes self.new) }
@@ -203,7 +211,7 @@ impl<'a> Parser<'a> {
     }
 
     #[inline(always)]
-    #[tactic(auto, unfolding(crate::specs::Reading::name_at), using(crate::proofs::Walks::passed_then, crate::proofs::Walks::passed_none, crate::proofs::Walks::passed, crate::proofs::Walks::walk_none, crate::proofs::Errors::fails_unexpected))]
+    #[tactic(auto, unfolding(crate::specs::Reading::name_at), using(crate::proofs::Walks::passed_then, crate::proofs::Walks::passed_none, crate::proofs::Walks::passed, crate::proofs::Walks::walk_none, crate::proofs::Separated::fails_from))]
     pub(crate) fn name(&mut self) -> Result<Name<'a>, Refusal>
         ensures read { Gives bare_name result (name_at (lexemes self.old)) (lexemes self.new) }
         ensures shorter { length (lexemes self.new) ≤ length (lexemes self.old) }
@@ -223,7 +231,7 @@ impl<'a> Parser<'a> {
     }
 
     #[inline(always)]
-    #[tactic(auto, unfolding(crate::specs::Reading::whole_at), using(crate::proofs::Walks::passed_then, crate::proofs::Walks::passed_none, crate::proofs::Walks::passed, crate::proofs::Walks::walk_none, crate::proofs::Errors::fails_unexpected))]
+    #[tactic(auto, unfolding(crate::specs::Reading::whole_at), using(crate::proofs::Walks::passed_then, crate::proofs::Walks::passed_none, crate::proofs::Walks::passed, crate::proofs::Walks::walk_none, crate::proofs::Separated::fails_from))]
     pub(crate) fn whole(&mut self) -> Result<i64, Refusal>
         ensures read { Gives (λ n. n) result (whole_at (lexemes self.old)) (lexemes self.new) }
         ensures shorter { length (lexemes self.new) ≤ length (lexemes self.old) }
@@ -262,18 +270,14 @@ impl<'a> Parser<'a> {
         }
     }
 
-    pub(crate) fn begins_literal(&self) -> bool
-        ensures { result ≡ next_passes begins_literal (lexemes self.now) }
-    {
+    pub(crate) fn begins_literal(&self) -> bool {
         match self.tokens.first() {
             Some(first) => begins_literal(&first),
             None => false,
         }
     }
 
-    pub(crate) fn begins_index(&self) -> bool
-        ensures { result ≡ next_passes begins_index (lexemes self.now) }
-    {
+    pub(crate) fn begins_index(&self) -> bool {
         match self.tokens.first() {
             Some(first) => begins_index(&first),
             None => false,
@@ -281,18 +285,14 @@ impl<'a> Parser<'a> {
     }
 
     #[inline(always)]
-    pub(crate) fn begins_basic(&self) -> bool
-        ensures { result ≡ next_passes begins_basic (lexemes self.now) }
-    {
+    pub(crate) fn begins_basic(&self) -> bool {
         match self.tokens.first() {
             Some(first) => is_name(&first) || begins_literal(&first),
             None => false,
         }
     }
 
-    pub(crate) fn begins_note_basic(&self, depth: usize) -> bool
-        ensures { result ≡ next_passes (begins_note_basic depth) (lexemes self.now) }
-    {
+    pub(crate) fn begins_note_basic(&self, depth: usize) -> bool {
         match self.tokens.first() {
             Some(first) => {
                 is_quoted(&first) || depth > 0 && is_name(&first) || begins_literal(&first)

@@ -1,15 +1,16 @@
 //! Reads literals, names and lists of them.
 
 ghost use Rattle.std.specs.Prelude.{◌≡◌, ◌<◌, ◌≤◌, ◌∷◌, ◌++◌, length, IfOk, IfSome, IfNone, []};
-ghost use Rattle.fz_tree.specs.View.{lexeme, bare_literal, bare_expression, bare_expressions, bare_expr};
+ghost use Rattle.fz_tree.specs.View.{lexeme, bare_literal, bare_expression, bare_expr};
 ghost use Rattle.fz_syntax.specs.Outcome.{Gives, IsListed};
-ghost use Rattle.fz_syntax.specs.Reading.{mark_at, whole_at, is_whole, begins_literal, begins_basic, at_most, separated_at, braces_at, from_whole, literal_at, basic_at, expr_list_at, expr_at, list_at, literal_basic_at};
+ghost use Rattle.fz_syntax.specs.Reading.{mark_at, whole_at, at_most, separated_at, braces_at, from_whole, literal_at, basic_at, expr_list_at, expr_at, list_at, literal_basic_at};
 ghost use Rattle.fz_tree.specs.of_lex.Token.{Whole, Marked};
 ghost use Rattle.fz_tree.specs.of_lex.declared.token.Mark.TheVariants.{CloseBracket, Comma};
-ghost use Rattle.fz_syntax.specs.Placed.{placed_mark, placed_separated, placed_literal, placed_basic, placed_expr};
+ghost use Rattle.fz_syntax.specs.Placed.{placed_mark, placed_literal, placed_basic, placed_expr};
 ghost use Rattle.fz_syntax.specs.Walk.{Passed, Walk, placed_listed, lexemes};
 
 use crate::parser::cursor::Parser;
+use crate::parser::elements::Basics;
 use crate::parser::kinds::{kind_of, plain_of};
 use crate::parser::lists::trimmed;
 use crate::parser::refusal::Refusal;
@@ -79,23 +80,24 @@ impl<'a> Parser<'a> {
     }
 
     /// A number of a list that has `count` elements so far.
+    #[tactic(auto, using(crate::proofs::Separated::fails_from))]
     #[inline(always)]
     pub(crate) fn listed_whole(&mut self, limits: &Limits, count: usize) -> Result<i64, Refusal>
-        ensures read { Gives (λ n. n) result (at_most limits.now.elements is_whole whole_at count
+        ensures read { Gives (λ n. n) result (at_most limits.now.elements whole_at count
             (lexemes self.old)) (lexemes self.new) }
         ensures shorter { length (lexemes self.new) ≤ length (lexemes self.old) }
         ensures end { self.new.end ≡ self.old.end }
         ensures walked { IfOk result (λ _. Passed self.old self.new) }
     {
-        if count >= limits.elements() && self.begins_whole() {
-            return Err(Refusal::TooMany);
+        if count >= limits.elements() {
+            return Err(self.full(self.begins_whole()));
         }
         self.whole()
     }
 
     pub(crate) fn numbers(&mut self, limits: &Limits) -> Result<Vec<i64>, Refusal>
         ensures read { Gives (λ v. v.items) result (separated_at
-            (at_most limits.now.elements is_whole whole_at) (lexemes self.old)) (lexemes self.new) }
+            (at_most limits.now.elements whole_at) (lexemes self.old)) (lexemes self.new) }
         ensures shorter { length (lexemes self.new) ≤ length (lexemes self.old) }
         ensures end { self.new.end ≡ self.old.end }
         ensures walked { IfOk result (λ _. Passed self.old self.new) }
@@ -118,7 +120,7 @@ impl<'a> Parser<'a> {
     }
 
     /// Numbers after the brace that opened at `start`.
-    #[tactic(auto, unfolding(crate::specs::Reading::braces_at, crate::specs::Reading::list_at, crate::specs::Reading::mark_at), using(crate::proofs::Walks::passed_then, crate::proofs::Walks::passed_none, crate::proofs::Walks::passed, crate::proofs::Walks::walk_none, crate::proofs::Errors::fails_unexpected, crate::proofs::Separated::fails_bind))]
+    #[tactic(auto, unfolding(crate::specs::Reading::braces_at, crate::specs::Reading::list_at, crate::specs::Reading::mark_at), using(crate::proofs::Walks::passed_then, crate::proofs::Walks::passed_none, crate::proofs::Walks::passed, crate::proofs::Walks::walk_none, crate::proofs::Separated::fails_from, crate::proofs::Separated::fails_bind))]
     pub(crate) fn braces(&mut self, limits: &Limits, start: usize) -> Result<Literal, Refusal>
         ensures read { Gives (bare_literal) result (braces_at limits.now (lexemes self.old))
             (lexemes self.new) }
@@ -142,7 +144,7 @@ impl<'a> Parser<'a> {
     }
 
     #[inline(always)]
-    #[tactic(auto, unfolding(crate::specs::Reading::from_whole), using(crate::proofs::Walks::passed_then, crate::proofs::Walks::passed_none, crate::proofs::Walks::passed, crate::proofs::Walks::walk_none, crate::proofs::Errors::fails_unexpected, crate::proofs::Separated::fails_bind))]
+    #[tactic(auto, unfolding(crate::specs::Reading::from_whole), using(crate::proofs::Walks::passed_then, crate::proofs::Walks::passed_none, crate::proofs::Walks::passed, crate::proofs::Walks::walk_none, crate::proofs::Separated::fails_from, crate::proofs::Separated::fails_bind))]
     pub(crate) fn from_whole(&mut self, low: i64, start: usize) -> Result<Literal, Refusal>
         ensures read { Gives (bare_literal) result (from_whole low (lexemes self.old))
             (lexemes self.new) }
@@ -166,7 +168,7 @@ impl<'a> Parser<'a> {
 
     /// A literal whose first token starts at `start`.
     #[inline(always)]
-    #[tactic(auto, unfolding(crate::specs::Reading::literal_at), using(crate::proofs::Walks::passed_then, crate::proofs::Walks::passed_none, crate::proofs::Walks::passed, crate::proofs::Walks::walk_none, crate::proofs::Errors::fails_unexpected, crate::proofs::Separated::fails_bind))]
+    #[tactic(auto, unfolding(crate::specs::Reading::literal_at), using(crate::proofs::Walks::passed_then, crate::proofs::Walks::passed_none, crate::proofs::Walks::passed, crate::proofs::Walks::walk_none, crate::proofs::Separated::fails_from, crate::proofs::Separated::fails_bind))]
     fn literal_from(&mut self, limits: &Limits, start: usize) -> Result<Literal, Refusal>
         ensures read { Gives (bare_literal) result (literal_at limits.now (lexemes self.old))
             (lexemes self.new) }
@@ -208,7 +210,7 @@ impl<'a> Parser<'a> {
     }
 
     #[inline(always)]
-    #[tactic(auto, unfolding(crate::specs::Reading::basic_at), using(crate::proofs::Walks::passed_then, crate::proofs::Walks::passed_none, crate::proofs::Walks::passed, crate::proofs::Walks::walk_none, crate::proofs::Errors::fails_unexpected, crate::proofs::Separated::fails_bind))]
+    #[tactic(auto, unfolding(crate::specs::Reading::basic_at), using(crate::proofs::Walks::passed_then, crate::proofs::Walks::passed_none, crate::proofs::Walks::passed, crate::proofs::Walks::walk_none, crate::proofs::Separated::fails_from, crate::proofs::Separated::fails_bind))]
     pub(crate) fn basic(&mut self, limits: &Limits) -> Result<Basic<'a>, Refusal>
         ensures read { Gives (bare_expression) result (basic_at limits.now (lexemes self.old))
             (lexemes self.new) }
@@ -223,64 +225,8 @@ impl<'a> Parser<'a> {
         }
     }
 
-    /// An element of a list that has `count` elements so far.
     #[inline(always)]
-    pub(crate) fn listed_basic(
-        &mut self,
-        limits: &Limits,
-        count: usize,
-    ) -> Result<Basic<'a>, Refusal>
-        ensures read { Gives (bare_expression) result (at_most limits.now.elements begins_basic
-            (basic_at limits.now) count (lexemes self.old)) (lexemes self.new) }
-        ensures shorter { length (lexemes self.new) ≤ length (lexemes self.old) }
-        ensures end { self.new.end ≡ self.old.end }
-        ensures walked { IfOk result (λ b. Walk self.old self.new (placed_basic b)) }
-    {
-        if count >= limits.elements() && self.begins_basic() {
-            return Err(Refusal::TooMany);
-        }
-        self.basic(limits)
-    }
-
-    #[inline(always)]
-    pub(crate) fn separated_basics(&mut self, limits: &Limits) -> Result<Vec<Basic<'a>>, Refusal>
-        ensures read { Gives (λ v. bare_expressions v.items) result
-            (separated_at (at_most limits.now.elements begins_basic (basic_at limits.now))
-            (lexemes self.old)) (lexemes self.new) }
-        ensures shorter { length (lexemes self.new) ≤ length (lexemes self.old) }
-        ensures end { self.new.end ≡ self.old.end }
-        ensures walked { IfOk result (λ v. Walk self.old self.new
-            (placed_separated placed_basic v.items)) }
-    {
-        let mut basics = self.spare.basics.list(self.alloc);
-        basics.push(self.listed_basic(limits, 0)?)?;
-        while self.eat(Mark::Comma) {
-            let basic = self.listed_basic(limits, basics.len())?;
-            basics.push(basic)?;
-        }
-        Ok(self.spare.basics.filled(self.alloc, basics))
-    }
-
-    /// A list's elements, after the bracket that opens it.
-    #[tactic(auto, unfolding(crate::specs::Reading::expr_list_at, crate::specs::Reading::list_at, crate::specs::Reading::mark_at), using(crate::proofs::Walks::passed_then, crate::proofs::Walks::passed_none, crate::proofs::Walks::passed, crate::proofs::Walks::walk_none, crate::proofs::Errors::fails_unexpected, crate::proofs::Separated::fails_bind))]
-    pub(crate) fn expr_list(&mut self, limits: &Limits) -> Result<Vec<Basic<'a>>, Refusal>
-        ensures read { Gives (λ v. bare_expressions v.items) result
-            (expr_list_at limits.now (lexemes self.old)) (lexemes self.new) }
-        ensures shorter { length (lexemes self.new) ≤ length (lexemes self.old) }
-        ensures end { self.new.end ≡ self.old.end }
-        ensures walked { IfOk result (λ v. Walk self.old self.new
-            (placed_separated placed_basic v.items ++ placed_mark CloseBracket)) }
-    {
-        if self.eat(Mark::CloseBracket) {
-            return Ok(Vec::new(self.alloc));
-        }
-        let basics = self.separated_basics(limits)?;
-        self.expect(Mark::CloseBracket)?;
-        Ok(basics)
-    }
-
-    #[inline(always)]
-    #[tactic(auto, unfolding(crate::specs::Reading::expr_at), using(crate::proofs::Walks::passed_then, crate::proofs::Walks::passed_none, crate::proofs::Walks::passed, crate::proofs::Walks::walk_none, crate::proofs::Errors::fails_unexpected, crate::proofs::Separated::fails_bind))]
+    #[tactic(auto, unfolding(crate::specs::Reading::expr_at, crate::specs::Reading::expr_list_at), using(crate::proofs::Walks::passed_then, crate::proofs::Walks::passed_none, crate::proofs::Walks::passed, crate::proofs::Walks::walk_none, crate::proofs::Separated::fails_from, crate::proofs::Separated::fails_bind))]
     pub(crate) fn expr(&mut self, limits: &Limits) -> Result<Expr<'a>, Refusal>
         ensures read { Gives (bare_expr) result (expr_at limits.now (lexemes self.old))
             (lexemes self.new) }
@@ -289,13 +235,13 @@ impl<'a> Parser<'a> {
         ensures walked { IfOk result (λ e. Walk self.old self.new (placed_expr e)) }
     {
         if self.eat(Mark::OpenBracket) {
-            Ok(Expr::List(self.expr_list(limits)?))
+            Ok(Expr::List(self.list::<Basics>(limits, Mark::CloseBracket)?))
         } else {
             Ok(Expr::One(self.basic(limits)?))
         }
     }
 
-    #[tactic(auto, unfolding(crate::specs::Reading::literal_basic_at), using(crate::proofs::Walks::passed_then, crate::proofs::Walks::passed_none, crate::proofs::Walks::passed, crate::proofs::Walks::walk_none, crate::proofs::Errors::fails_unexpected, crate::proofs::Separated::fails_bind))]
+    #[tactic(auto, unfolding(crate::specs::Reading::literal_basic_at), using(crate::proofs::Walks::passed_then, crate::proofs::Walks::passed_none, crate::proofs::Walks::passed, crate::proofs::Walks::walk_none, crate::proofs::Separated::fails_from, crate::proofs::Separated::fails_bind))]
     pub(crate) fn literal_basic(&mut self, limits: &Limits) -> Result<Basic<'a>, Refusal>
         ensures read { Gives (bare_expression) result
             (literal_basic_at limits.now (lexemes self.old)) (lexemes self.new) }
@@ -304,60 +250,5 @@ impl<'a> Parser<'a> {
         ensures walked { IfOk result (λ b. Walk self.old self.new (placed_basic b)) }
     {
         Ok(Basic::Lit(self.literal(limits)?))
-    }
-
-    /// An element of a list that has `count` elements so far.
-    pub(crate) fn listed_literal(
-        &mut self,
-        limits: &Limits,
-        count: usize,
-    ) -> Result<Basic<'a>, Refusal>
-        ensures read { Gives (bare_expression) result (at_most limits.now.elements begins_literal
-            (literal_basic_at limits.now) count (lexemes self.old)) (lexemes self.new) }
-        ensures shorter { length (lexemes self.new) ≤ length (lexemes self.old) }
-        ensures end { self.new.end ≡ self.old.end }
-        ensures walked { IfOk result (λ b. Walk self.old self.new (placed_basic b)) }
-    {
-        if count >= limits.elements() && self.begins_literal() {
-            return Err(Refusal::TooMany);
-        }
-        self.literal_basic(limits)
-    }
-
-    pub(crate) fn separated_literals(&mut self, limits: &Limits) -> Result<Vec<Basic<'a>>, Refusal>
-        ensures read { Gives (λ v. bare_expressions v.items) result
-            (separated_at (at_most limits.now.elements begins_literal (literal_basic_at limits.now))
-            (lexemes self.old)) (lexemes self.new) }
-        ensures shorter { length (lexemes self.new) ≤ length (lexemes self.old) }
-        ensures end { self.new.end ≡ self.old.end }
-        ensures walked { IfOk result (λ v. Walk self.old self.new
-            (placed_separated placed_basic v.items)) }
-    {
-        let mut literals = self.spare.basics.list(self.alloc);
-        literals.push(self.listed_literal(limits, 0)?)?;
-        while self.eat(Mark::Comma) {
-            let literal = self.listed_literal(limits, literals.len())?;
-            literals.push(literal)?;
-        }
-        Ok(self.spare.basics.filled(self.alloc, literals))
-    }
-
-    /// A list's literals, after the bracket that opens it.
-    #[tactic(auto, unfolding(crate::specs::Reading::list_at, crate::specs::Reading::mark_at), using(crate::proofs::Walks::passed_then, crate::proofs::Walks::passed_none, crate::proofs::Walks::passed, crate::proofs::Walks::walk_none, crate::proofs::Errors::fails_unexpected, crate::proofs::Separated::fails_bind))]
-    pub(crate) fn literal_list(&mut self, limits: &Limits) -> Result<Vec<Basic<'a>>, Refusal>
-        ensures read { Gives (λ v. bare_expressions v.items) result
-            (list_at CloseBracket (at_most limits.now.elements begins_literal
-            (literal_basic_at limits.now)) (lexemes self.old)) (lexemes self.new) }
-        ensures shorter { length (lexemes self.new) ≤ length (lexemes self.old) }
-        ensures end { self.new.end ≡ self.old.end }
-        ensures walked { IfOk result (λ v. Walk self.old self.new
-            (placed_separated placed_basic v.items ++ placed_mark CloseBracket)) }
-    {
-        if self.eat(Mark::CloseBracket) {
-            return Ok(Vec::new(self.alloc));
-        }
-        let literals = self.separated_literals(limits)?;
-        self.expect(Mark::CloseBracket)?;
-        Ok(literals)
     }
 }

@@ -1,21 +1,20 @@
 //! Reads the items of a model.
 
-ghost use Rattle.std.specs.Prelude.{◌≡◌, ◌≤◌, ◌++◌, codes, length, map, true, IfOk};
+ghost use Rattle.std.specs.Prelude.{◌≡◌, ◌≤◌, codes, length, true, IfOk};
 ghost use Rattle.fz_tree.specs.View.{bare_expr, bare_param, bare_predicate, bare_constraint, bare_goal, bare_solve, bare_value, bare_decl};
 ghost use Rattle.fz_syntax.specs.Outcome.{Gives};
-ghost use Rattle.fz_syntax.specs.Reading.{mark_at, separated_at, expr_at, any_number, param_at, predicate_at, list_at, next_word, constraint_at, goal_at, solve_at, decl_at, value_at, given_value_at, may_lack_value};
-ghost use Rattle.fz_tree.specs.of_lex.declared.token.Mark.TheVariants.{CloseParen};
-ghost use Rattle.fz_syntax.specs.Placed.{placed_mark, placed_separated, placed_expr, placed_param, placed_predicate, placed_constraint, placed_goal, placed_solve, placed_value, placed_decl};
+ghost use Rattle.fz_syntax.specs.Reading.{param_at, predicate_at, next_word, constraint_at, goal_at, solve_at, decl_at, value_at, given_value_at, may_lack_value};
+ghost use Rattle.fz_syntax.specs.Placed.{placed_expr, placed_param, placed_predicate, placed_constraint, placed_goal, placed_solve, placed_value, placed_decl};
 ghost use Rattle.fz_syntax.specs.Walk.{Walk, lexemes};
 
 use crate::parser::cursor::Parser;
+use crate::parser::elements::{Arguments, Basics, Literals, Parameters};
 use crate::parser::kinds::may_lack_value;
-use crate::parser::lists::trimmed;
 use crate::parser::refusal::Refusal;
 use fz_tree::{Constraint, Decl, Expr, Goal, Limits, Mark, Param, Predicate, Solve};
 
 impl<'a> Parser<'a> {
-    #[tactic(auto, unfolding(crate::specs::Reading::param_at, crate::specs::Reading::var_at), using(crate::proofs::Walks::passed_then, crate::proofs::Walks::passed_none, crate::proofs::Walks::passed, crate::proofs::Walks::walk_none, crate::proofs::Errors::fails_unexpected, crate::proofs::Separated::fails_bind))]
+    #[tactic(auto, unfolding(crate::specs::Reading::param_at, crate::specs::Reading::var_at), using(crate::proofs::Walks::passed_then, crate::proofs::Walks::passed_none, crate::proofs::Walks::passed, crate::proofs::Walks::walk_none, crate::proofs::Separated::fails_from, crate::proofs::Separated::fails_bind))]
     pub(crate) fn param(&mut self, limits: &Limits) -> Result<Param<'a>, Refusal>
         ensures read { Gives (bare_param) result (param_at limits.now (lexemes self.old))
             (lexemes self.new) }
@@ -36,43 +35,7 @@ impl<'a> Parser<'a> {
         })
     }
 
-    pub(crate) fn separated_params(&mut self, limits: &Limits) -> Result<Vec<Param<'a>>, Refusal>
-        ensures read { Gives (λ v. map bare_param v.items) result
-            (separated_at (any_number (param_at limits.now)) (lexemes self.old))
-            (lexemes self.new) }
-        ensures shorter { length (lexemes self.new) ≤ length (lexemes self.old) }
-        ensures end { self.new.end ≡ self.old.end }
-        ensures walked { IfOk result (λ v. Walk self.old self.new
-            (placed_separated placed_param v.items)) }
-    {
-        let mut params = Vec::new(self.alloc);
-        params.push(self.param(limits)?)?;
-        while self.eat(Mark::Comma) {
-            let param = self.param(limits)?;
-            params.push(param)?;
-        }
-        Ok(trimmed(self.alloc, params))
-    }
-
-    #[tactic(auto, unfolding(crate::specs::Reading::list_at, crate::specs::Reading::mark_at), using(crate::proofs::Walks::passed_then, crate::proofs::Walks::passed_none, crate::proofs::Walks::passed, crate::proofs::Walks::walk_none, crate::proofs::Errors::fails_unexpected, crate::proofs::Separated::fails_bind))]
-    pub(crate) fn params(&mut self, limits: &Limits) -> Result<Vec<Param<'a>>, Refusal>
-        ensures read { Gives (λ v. map bare_param v.items) result
-            (list_at CloseParen (any_number (param_at limits.now)) (lexemes self.old))
-            (lexemes self.new) }
-        ensures shorter { length (lexemes self.new) ≤ length (lexemes self.old) }
-        ensures end { self.new.end ≡ self.old.end }
-        ensures walked { IfOk result (λ v. Walk self.old self.new
-            (placed_separated placed_param v.items ++ placed_mark CloseParen)) }
-    {
-        if self.eat(Mark::CloseParen) {
-            return Ok(Vec::new(self.alloc));
-        }
-        let params = self.separated_params(limits)?;
-        self.expect(Mark::CloseParen)?;
-        Ok(params)
-    }
-
-    #[tactic(auto, unfolding(crate::specs::Reading::predicate_at), using(crate::proofs::Walks::passed_then, crate::proofs::Walks::passed_none, crate::proofs::Walks::passed, crate::proofs::Walks::walk_none, crate::proofs::Errors::fails_unexpected, crate::proofs::Separated::fails_bind))]
+    #[tactic(auto, unfolding(crate::specs::Reading::predicate_at), using(crate::proofs::Walks::passed_then, crate::proofs::Walks::passed_none, crate::proofs::Walks::passed, crate::proofs::Walks::walk_none, crate::proofs::Separated::fails_from, crate::proofs::Separated::fails_bind))]
     pub(crate) fn predicate(&mut self, limits: &Limits) -> Result<Predicate<'a>, Refusal>
         ensures read { Gives (bare_predicate) result (predicate_at limits.now (lexemes self.old))
             (lexemes self.new) }
@@ -83,47 +46,12 @@ impl<'a> Parser<'a> {
         self.expect_word(b"predicate")?;
         let name = self.name()?;
         self.expect(Mark::OpenParen)?;
-        let params = self.params(limits)?;
+        let params = self.list::<Parameters>(limits, Mark::CloseParen)?;
         self.expect(Mark::Semicolon)?;
         Ok(Predicate { name, params })
     }
 
-    pub(crate) fn separated_args(&mut self, limits: &Limits) -> Result<Vec<Expr<'a>>, Refusal>
-        ensures read { Gives (λ v. map bare_expr v.items) result
-            (separated_at (any_number (expr_at limits.now)) (lexemes self.old)) (lexemes self.new) }
-        ensures shorter { length (lexemes self.new) ≤ length (lexemes self.old) }
-        ensures end { self.new.end ≡ self.old.end }
-        ensures walked { IfOk result (λ v. Walk self.old self.new
-            (placed_separated placed_expr v.items)) }
-    {
-        let mut arguments = self.spare.exprs.list(self.alloc);
-        arguments.push(self.expr(limits)?)?;
-        while self.eat(Mark::Comma) {
-            let expr = self.expr(limits)?;
-            arguments.push(expr)?;
-        }
-        Ok(self.spare.exprs.filled(self.alloc, arguments))
-    }
-
-    #[tactic(auto, unfolding(crate::specs::Reading::list_at, crate::specs::Reading::mark_at), using(crate::proofs::Walks::passed_then, crate::proofs::Walks::passed_none, crate::proofs::Walks::passed, crate::proofs::Walks::walk_none, crate::proofs::Errors::fails_unexpected, crate::proofs::Separated::fails_bind))]
-    pub(crate) fn constraint_args(&mut self, limits: &Limits) -> Result<Vec<Expr<'a>>, Refusal>
-        ensures read { Gives (λ v. map bare_expr v.items) result
-            (list_at CloseParen (any_number (expr_at limits.now)) (lexemes self.old))
-            (lexemes self.new) }
-        ensures shorter { length (lexemes self.new) ≤ length (lexemes self.old) }
-        ensures end { self.new.end ≡ self.old.end }
-        ensures walked { IfOk result (λ v. Walk self.old self.new
-            (placed_separated placed_expr v.items ++ placed_mark CloseParen)) }
-    {
-        if self.eat(Mark::CloseParen) {
-            return Ok(Vec::new(self.alloc));
-        }
-        let args = self.separated_args(limits)?;
-        self.expect(Mark::CloseParen)?;
-        Ok(args)
-    }
-
-    #[tactic(auto, unfolding(crate::specs::Reading::constraint_at, crate::specs::Reading::word_at), using(crate::proofs::Walks::passed_then, crate::proofs::Walks::passed_none, crate::proofs::Walks::passed, crate::proofs::Walks::walk_none, crate::proofs::Errors::fails_unexpected, crate::proofs::Separated::fails_bind))]
+    #[tactic(auto, unfolding(crate::specs::Reading::constraint_at, crate::specs::Reading::word_at), using(crate::proofs::Walks::passed_then, crate::proofs::Walks::passed_none, crate::proofs::Walks::passed, crate::proofs::Walks::walk_none, crate::proofs::Separated::fails_from, crate::proofs::Separated::fails_bind))]
     /// A constraint, whose first word has been looked at.
     pub(crate) fn constraint(&mut self, limits: &Limits) -> Result<Constraint<'a>, Refusal>
         requires begun { next_word (codes "constraint") (lexemes self.old) ≡ true }
@@ -136,13 +64,13 @@ impl<'a> Parser<'a> {
         self.skip();
         let name = self.name()?;
         self.expect(Mark::OpenParen)?;
-        let args = self.constraint_args(limits)?;
+        let args = self.list::<Arguments>(limits, Mark::CloseParen)?;
         let notes = self.notes(limits)?;
         self.expect(Mark::Semicolon)?;
         Ok(Constraint { name, args, notes })
     }
 
-    #[tactic(auto, unfolding(crate::specs::Reading::goal_at), using(crate::proofs::Walks::passed_then, crate::proofs::Walks::passed_none, crate::proofs::Walks::passed, crate::proofs::Walks::walk_none, crate::proofs::Errors::fails_unexpected, crate::proofs::Separated::fails_bind))]
+    #[tactic(auto, unfolding(crate::specs::Reading::goal_at), using(crate::proofs::Walks::passed_then, crate::proofs::Walks::passed_none, crate::proofs::Walks::passed, crate::proofs::Walks::walk_none, crate::proofs::Separated::fails_from, crate::proofs::Separated::fails_bind))]
     pub(crate) fn goal(&mut self, limits: &Limits) -> Result<Goal<'a>, Refusal>
         ensures read { Gives (bare_goal) result (goal_at limits.now (lexemes self.old))
             (lexemes self.new) }
@@ -160,7 +88,7 @@ impl<'a> Parser<'a> {
         }
     }
 
-    #[tactic(auto, unfolding(crate::specs::Reading::solve_at), using(crate::proofs::Walks::passed_then, crate::proofs::Walks::passed_none, crate::proofs::Walks::passed, crate::proofs::Walks::walk_none, crate::proofs::Errors::fails_unexpected, crate::proofs::Separated::fails_bind))]
+    #[tactic(auto, unfolding(crate::specs::Reading::solve_at), using(crate::proofs::Walks::passed_then, crate::proofs::Walks::passed_none, crate::proofs::Walks::passed, crate::proofs::Walks::walk_none, crate::proofs::Separated::fails_from, crate::proofs::Separated::fails_bind))]
     pub(crate) fn solve(&mut self, limits: &Limits) -> Result<Solve<'a>, Refusal>
         ensures read { Gives (bare_solve) result (solve_at limits.now (lexemes self.old))
             (lexemes self.new) }
@@ -175,7 +103,7 @@ impl<'a> Parser<'a> {
         Ok(Solve { notes, goal })
     }
 
-    #[tactic(auto, unfolding(crate::specs::Reading::value_at), using(crate::proofs::Walks::passed_then, crate::proofs::Walks::passed_none, crate::proofs::Walks::passed, crate::proofs::Walks::walk_none, crate::proofs::Errors::fails_unexpected, crate::proofs::Separated::fails_bind))]
+    #[tactic(auto, unfolding(crate::specs::Reading::value_at, crate::specs::Reading::expr_list_at), using(crate::proofs::Walks::passed_then, crate::proofs::Walks::passed_none, crate::proofs::Walks::passed, crate::proofs::Walks::walk_none, crate::proofs::Separated::fails_from, crate::proofs::Separated::fails_bind))]
     pub(crate) fn value(
         &mut self,
         limits: &Limits,
@@ -193,16 +121,16 @@ impl<'a> Parser<'a> {
             (false, None) => Ok(Expr::One(self.literal_basic(limits)?)),
             (true, Some(_)) => {
                 self.expect(Mark::OpenBracket)?;
-                Ok(Expr::List(self.expr_list(limits)?))
+                Ok(Expr::List(self.list::<Basics>(limits, Mark::CloseBracket)?))
             }
             (false, Some(_)) => {
                 self.expect(Mark::OpenBracket)?;
-                Ok(Expr::List(self.literal_list(limits)?))
+                Ok(Expr::List(self.list::<Literals>(limits, Mark::CloseBracket)?))
             }
         }
     }
 
-    #[tactic(auto, unfolding(crate::specs::Reading::given_value_at), using(crate::proofs::Walks::passed_then, crate::proofs::Walks::passed_none, crate::proofs::Walks::passed, crate::proofs::Walks::walk_none, crate::proofs::Errors::fails_unexpected, crate::proofs::Separated::fails_bind))]
+    #[tactic(auto, unfolding(crate::specs::Reading::given_value_at), using(crate::proofs::Walks::passed_then, crate::proofs::Walks::passed_none, crate::proofs::Walks::passed, crate::proofs::Walks::walk_none, crate::proofs::Separated::fails_from, crate::proofs::Separated::fails_bind))]
     pub(crate) fn given_value(
         &mut self,
         limits: &Limits,
@@ -222,7 +150,7 @@ impl<'a> Parser<'a> {
         Ok(Some(self.value(limits, is_var, array)?))
     }
 
-    #[tactic(auto, unfolding(crate::specs::Reading::decl_at, crate::specs::Reading::var_at), using(crate::proofs::Walks::passed_then, crate::proofs::Walks::passed_none, crate::proofs::Walks::passed, crate::proofs::Walks::walk_none, crate::proofs::Errors::fails_unexpected, crate::proofs::Separated::fails_bind))]
+    #[tactic(auto, unfolding(crate::specs::Reading::decl_at, crate::specs::Reading::var_at), using(crate::proofs::Walks::passed_then, crate::proofs::Walks::passed_none, crate::proofs::Walks::passed, crate::proofs::Walks::walk_none, crate::proofs::Separated::fails_from, crate::proofs::Separated::fails_bind))]
     pub(crate) fn decl(&mut self, limits: &Limits) -> Result<Decl<'a>, Refusal>
         ensures read { Gives (bare_decl) result (decl_at limits.now (lexemes self.old))
             (lexemes self.new) }

@@ -3,16 +3,14 @@
 ghost use Rattle.std.specs.Prelude.{◌≡◌, IfSome};
 ghost use Rattle.fz_tree.specs.View.{lexeme};
 ghost use Rattle.fz_syntax.specs.Outcome.{plain_token, plain_kind};
-ghost use Rattle.fz_syntax.specs.Reading.{is_float, is_name, begins_index, begins_literal, is_quoted, may_lack_value, begins_decl};
+ghost use Rattle.fz_syntax.specs.Reading.{is_name, may_lack_value, begins_decl};
 ghost use Rattle.fz_syntax.specs.ReadingItems.{dimensions_of, token_dimensions};
 ghost use Rattle.fz_syntax.specs.Words.{may_be_reserved};
 ghost use Rattle.fz_tree.specs.Text.{is_one_of, type_words, item_words, truth_words, is_reserved};
 
 use fz_tree::{LiteralKind, Mark, Token, TokenKind};
 
-pub(crate) fn is_float(token: &Token<'_>) -> bool
-    ensures { result ≡ is_float (lexeme token.now) }
-{
+pub(crate) fn is_float(token: &Token<'_>) -> bool {
     token.kind == TokenKind::FloatText
         || token.kind == TokenKind::Word && token.text == b"float".as_slice()
 }
@@ -85,15 +83,11 @@ pub(crate) fn is_name(token: &Token<'_>) -> bool
 }
 
 #[inline(always)]
-pub(crate) fn is_quoted(token: &Token<'_>) -> bool
-    ensures { result ≡ is_quoted (lexeme token.now) }
-{
+pub(crate) fn is_quoted(token: &Token<'_>) -> bool {
     matches!(token.kind, TokenKind::FloatText | TokenKind::Str)
 }
 
-pub(crate) fn begins_literal(token: &Token<'_>) -> bool
-    ensures { result ≡ begins_literal (lexeme token.now) }
-{
+pub(crate) fn begins_literal(token: &Token<'_>) -> bool {
     match token.kind {
         TokenKind::Whole(_) => true,
         TokenKind::Word => { token.text == b"true".as_slice() || token.text == b"false".as_slice() }
@@ -102,9 +96,7 @@ pub(crate) fn begins_literal(token: &Token<'_>) -> bool
     }
 }
 
-pub(crate) fn begins_index(token: &Token<'_>) -> bool
-    ensures { result ≡ begins_index (lexeme token.now) }
-{
+pub(crate) fn begins_index(token: &Token<'_>) -> bool {
     match token.kind {
         TokenKind::Whole(_) => true,
         TokenKind::Word => token.text == b"int".as_slice(),

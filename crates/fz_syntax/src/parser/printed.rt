@@ -3,7 +3,7 @@
 ghost use Rattle.std.specs.Prelude.{◌≡◌, ◌≤◌, ◌==◌, if◌then◌else◌, drop, ◌++◌, length, map, IfOk};
 ghost use Rattle.fz_tree.specs.View.{bare_literal, bare_printed_value, bare_printed, bare_items};
 ghost use Rattle.fz_syntax.specs.Outcome.{Gives};
-ghost use Rattle.fz_syntax.specs.Reading.{any_number, at_most, separated_at, begins_literal, literal_at, many_at, is_name};
+ghost use Rattle.fz_syntax.specs.Reading.{any_number, at_most, separated_at, literal_at, many_at, is_name};
 ghost use Rattle.fz_syntax.specs.ReadingItems.{next_dimensions, index_set_at, index_sets_at, elements_at, printed_array_at, printed_value_at, printed_at};
 ghost use Rattle.fz_syntax.specs.Placed.{placed_mark, placed_word, placed_separated, placed_literal, placed_indexes, placed_printed_value, placed_printed, placed_items};
 ghost use Rattle.fz_tree.specs.of_lex.declared.token.Mark.TheVariants.{CloseBracket, Comma};
@@ -38,7 +38,7 @@ impl<'a> Parser<'a> {
         }
     }
 
-    #[tactic(auto, unfolding(crate::specs::ReadingItems::index_set_at), using(crate::proofs::Walks::passed_then, crate::proofs::Walks::passed_none, crate::proofs::Walks::passed, crate::proofs::Walks::walk_none, crate::proofs::Errors::fails_unexpected, crate::proofs::Separated::fails_bind))]
+    #[tactic(auto, unfolding(crate::specs::ReadingItems::index_set_at), using(crate::proofs::Walks::passed_then, crate::proofs::Walks::passed_none, crate::proofs::Walks::passed, crate::proofs::Walks::walk_none, crate::proofs::Separated::fails_from, crate::proofs::Separated::fails_bind))]
     fn index_set(&mut self, limits: &Limits) -> Result<Literal, Refusal>
         ensures read { Gives bare_literal result (index_set_at limits.now (lexemes self.old))
             (lexemes self.new) }
@@ -68,22 +68,23 @@ impl<'a> Parser<'a> {
     }
 
     /// An element of a list that has `count` elements so far.
+    #[tactic(auto, using(crate::proofs::Separated::fails_from))]
     fn listed_element(&mut self, limits: &Limits, count: usize) -> Result<Literal, Refusal>
-        ensures read { Gives bare_literal result (at_most limits.now.elements begins_literal
+        ensures read { Gives bare_literal result (at_most limits.now.elements
             (literal_at limits.now) count (lexemes self.old)) (lexemes self.new) }
         ensures shorter { length (lexemes self.new) ≤ length (lexemes self.old) }
         ensures end { self.new.end ≡ self.old.end }
         ensures walked { IfOk result (λ l. Walk self.old self.new (placed_literal l)) }
     {
-        if count >= limits.elements() && self.begins_literal() {
-            return Err(Refusal::TooMany);
+        if count >= limits.elements() {
+            return Err(self.full(self.begins_literal()));
         }
         self.literal(limits)
     }
 
     fn separated_elements(&mut self, limits: &Limits) -> Result<Vec<Literal>, Refusal>
         ensures read { Gives (λ v. map bare_literal v.items) result
-            (separated_at (at_most limits.now.elements begins_literal (literal_at limits.now))
+            (separated_at (at_most limits.now.elements (literal_at limits.now))
             (lexemes self.old)) (lexemes self.new) }
         ensures shorter { length (lexemes self.new) ≤ length (lexemes self.old) }
         ensures end { self.new.end ≡ self.old.end }
@@ -108,7 +109,7 @@ impl<'a> Parser<'a> {
     }
 
     /// An array's elements, after the bracket that opens them.
-    #[tactic(auto, unfolding(crate::specs::ReadingItems::elements_at, crate::specs::Reading::list_at, crate::specs::Reading::mark_at), using(crate::proofs::Walks::passed_then, crate::proofs::Walks::passed_none, crate::proofs::Walks::passed, crate::proofs::Walks::walk_none, crate::proofs::Errors::fails_unexpected, crate::proofs::Separated::fails_bind))]
+    #[tactic(auto, unfolding(crate::specs::ReadingItems::elements_at, crate::specs::Reading::list_at, crate::specs::Reading::mark_at), using(crate::proofs::Walks::passed_then, crate::proofs::Walks::passed_none, crate::proofs::Walks::passed, crate::proofs::Walks::walk_none, crate::proofs::Separated::fails_from, crate::proofs::Separated::fails_bind))]
     fn elements(&mut self, limits: &Limits) -> Result<Vec<Literal>, Refusal>
         ensures read { Gives (λ v. map bare_literal v.items) result
             (elements_at limits.now (lexemes self.old)) (lexemes self.new) }
@@ -126,7 +127,7 @@ impl<'a> Parser<'a> {
     }
 
     /// An array, after its word, which says how many index sets it has.
-    #[tactic(auto, unfolding(crate::specs::ReadingItems::printed_array_at), using(crate::proofs::Walks::passed_then, crate::proofs::Walks::passed_none, crate::proofs::Walks::passed, crate::proofs::Walks::walk_none, crate::proofs::Errors::fails_unexpected, crate::proofs::Separated::fails_bind))]
+    #[tactic(auto, unfolding(crate::specs::ReadingItems::printed_array_at), using(crate::proofs::Walks::passed_then, crate::proofs::Walks::passed_none, crate::proofs::Walks::passed, crate::proofs::Walks::walk_none, crate::proofs::Separated::fails_from, crate::proofs::Separated::fails_bind))]
     fn printed_array(&mut self, limits: &Limits, dimensions: usize) -> Result<PrintedValue, Refusal>
         ensures read { Gives bare_printed_value result
             (printed_array_at limits.now dimensions (lexemes self.old)) (lexemes self.new) }
@@ -145,7 +146,7 @@ impl<'a> Parser<'a> {
         Ok(PrintedValue::Array { indexes, elements })
     }
 
-    #[tactic(auto, unfolding(crate::specs::ReadingItems::printed_value_at), using(crate::proofs::Walks::passed_then, crate::proofs::Walks::passed_none, crate::proofs::Walks::passed, crate::proofs::Walks::walk_none, crate::proofs::Errors::fails_unexpected, crate::proofs::Separated::fails_bind))]
+    #[tactic(auto, unfolding(crate::specs::ReadingItems::printed_value_at), using(crate::proofs::Walks::passed_then, crate::proofs::Walks::passed_none, crate::proofs::Walks::passed, crate::proofs::Walks::walk_none, crate::proofs::Separated::fails_from, crate::proofs::Separated::fails_bind))]
     fn printed_value(&mut self, limits: &Limits) -> Result<PrintedValue, Refusal>
         ensures read { Gives bare_printed_value result
             (printed_value_at limits.now (lexemes self.old)) (lexemes self.new) }
@@ -161,7 +162,7 @@ impl<'a> Parser<'a> {
         }
     }
 
-    #[tactic(auto, unfolding(crate::specs::ReadingItems::printed_at), using(crate::proofs::Walks::passed_then, crate::proofs::Walks::passed_none, crate::proofs::Walks::passed, crate::proofs::Walks::walk_none, crate::proofs::Errors::fails_unexpected, crate::proofs::Separated::fails_bind))]
+    #[tactic(auto, unfolding(crate::specs::ReadingItems::printed_at), using(crate::proofs::Walks::passed_then, crate::proofs::Walks::passed_none, crate::proofs::Walks::passed, crate::proofs::Walks::walk_none, crate::proofs::Separated::fails_from, crate::proofs::Separated::fails_bind))]
     fn printed(&mut self, limits: &Limits) -> Result<Printed<'a>, Refusal>
         ensures read { Gives bare_printed result (printed_at limits.now (lexemes self.old))
             (lexemes self.new) }

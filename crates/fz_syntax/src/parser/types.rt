@@ -3,7 +3,7 @@
 ghost use Rattle.std.specs.Prelude.{◌≡◌, ◌≤◌, length, IfOk};
 ghost use Rattle.fz_tree.specs.View.{bare_literal, bare_bounds, bare_base, bare_indexes};
 ghost use Rattle.fz_syntax.specs.Outcome.{Gives};
-ghost use Rattle.fz_syntax.specs.Reading.{range_at, bounds_at, int_at, base_at, plain_at, one_at, size_at, index_at, any_index_at, at_most, begins_index, indexes_at, param_prefix_at, prefix_at, type_at};
+ghost use Rattle.fz_syntax.specs.Reading.{range_at, bounds_at, int_at, base_at, plain_at, one_at, size_at, index_at, any_index_at, at_most, indexes_at, param_prefix_at, prefix_at, type_at};
 ghost use Rattle.fz_tree.specs.of_lex.declared.token.Mark.TheVariants.{CloseBracket};
 ghost use Rattle.fz_tree.specs.Text.{most_indexes};
 ghost use Rattle.fz_syntax.specs.Placed.{placed_literal, placed_bounds, placed_base};
@@ -18,7 +18,7 @@ const MOST_INDEXES: usize = 6;
 
 impl<'a> Parser<'a> {
     /// A range whose first number starts at `start`.
-    #[tactic(auto, unfolding(crate::specs::Reading::range_at), using(crate::proofs::Walks::passed_then, crate::proofs::Walks::passed_none, crate::proofs::Walks::passed, crate::proofs::Walks::walk_none, crate::proofs::Errors::fails_unexpected, crate::proofs::Separated::fails_bind))]
+    #[tactic(auto, unfolding(crate::specs::Reading::range_at), using(crate::proofs::Walks::passed_then, crate::proofs::Walks::passed_none, crate::proofs::Walks::passed, crate::proofs::Walks::walk_none, crate::proofs::Separated::fails_from, crate::proofs::Separated::fails_bind))]
     fn range(&mut self, start: usize) -> Result<Literal, Refusal>
         ensures read { Gives (bare_literal) result (range_at (lexemes self.old))
             (lexemes self.new) }
@@ -37,7 +37,7 @@ impl<'a> Parser<'a> {
     }
 
     /// Bounds whose first token starts at `start`.
-    #[tactic(auto, unfolding(crate::specs::Reading::bounds_at), using(crate::proofs::Walks::passed_then, crate::proofs::Walks::passed_none, crate::proofs::Walks::passed, crate::proofs::Walks::walk_none, crate::proofs::Errors::fails_unexpected, crate::proofs::Separated::fails_bind))]
+    #[tactic(auto, unfolding(crate::specs::Reading::bounds_at), using(crate::proofs::Walks::passed_then, crate::proofs::Walks::passed_none, crate::proofs::Walks::passed, crate::proofs::Walks::walk_none, crate::proofs::Separated::fails_from, crate::proofs::Separated::fails_bind))]
     fn bounds_from(&mut self, limits: &Limits, start: usize) -> Result<Literal, Refusal>
         ensures read { Gives (bare_literal) result (bounds_at limits.now (lexemes self.old))
             (lexemes self.new) }
@@ -65,7 +65,7 @@ impl<'a> Parser<'a> {
     }
 
     /// The word `int`, or bounds.
-    #[tactic(auto, unfolding(crate::specs::Reading::int_at), using(crate::proofs::Walks::passed_then, crate::proofs::Walks::passed_none, crate::proofs::Walks::passed, crate::proofs::Walks::walk_none, crate::proofs::Errors::fails_unexpected, crate::proofs::Separated::fails_bind))]
+    #[tactic(auto, unfolding(crate::specs::Reading::int_at), using(crate::proofs::Walks::passed_then, crate::proofs::Walks::passed_none, crate::proofs::Walks::passed, crate::proofs::Walks::walk_none, crate::proofs::Separated::fails_from, crate::proofs::Separated::fails_bind))]
     pub(crate) fn int(&mut self, limits: &Limits) -> Result<Option<Literal>, Refusal>
         ensures read { Gives (bare_bounds) result (int_at limits.now (lexemes self.old))
             (lexemes self.new) }
@@ -80,7 +80,7 @@ impl<'a> Parser<'a> {
         }
     }
 
-    #[tactic(auto, unfolding(crate::specs::Reading::base_at), using(crate::proofs::Walks::passed_then, crate::proofs::Walks::passed_none, crate::proofs::Walks::passed, crate::proofs::Walks::walk_none, crate::proofs::Errors::fails_unexpected, crate::proofs::Separated::fails_bind))]
+    #[tactic(auto, unfolding(crate::specs::Reading::base_at), using(crate::proofs::Walks::passed_then, crate::proofs::Walks::passed_none, crate::proofs::Walks::passed, crate::proofs::Walks::walk_none, crate::proofs::Separated::fails_from, crate::proofs::Separated::fails_bind))]
     pub(crate) fn base(&mut self, limits: &Limits) -> Result<Base, Refusal>
         ensures read { Gives (bare_base) result (base_at limits.now (lexemes self.old))
             (lexemes self.new) }
@@ -99,7 +99,7 @@ impl<'a> Parser<'a> {
     }
 
     /// The type of a parameter.
-    #[tactic(auto, unfolding(crate::specs::Reading::plain_at), using(crate::proofs::Walks::passed_then, crate::proofs::Walks::passed_none, crate::proofs::Walks::passed, crate::proofs::Walks::walk_none, crate::proofs::Errors::fails_unexpected, crate::proofs::Separated::fails_bind))]
+    #[tactic(auto, unfolding(crate::specs::Reading::plain_at), using(crate::proofs::Walks::passed_then, crate::proofs::Walks::passed_none, crate::proofs::Walks::passed, crate::proofs::Walks::walk_none, crate::proofs::Separated::fails_from, crate::proofs::Separated::fails_bind))]
     pub(crate) fn plain(&mut self) -> Result<Base, Refusal>
         ensures read { Gives (bare_base) result (plain_at (lexemes self.old)) (lexemes self.new) }
         ensures shorter { length (lexemes self.new) ≤ length (lexemes self.old) }
@@ -118,7 +118,7 @@ impl<'a> Parser<'a> {
         }
     }
 
-    #[tactic(auto, unfolding(crate::specs::Reading::one_at), using(crate::proofs::Walks::passed_then, crate::proofs::Walks::passed_none, crate::proofs::Walks::passed, crate::proofs::Walks::walk_none, crate::proofs::Errors::fails_unexpected, crate::proofs::Separated::fails_bind))]
+    #[tactic(auto, unfolding(crate::specs::Reading::one_at), using(crate::proofs::Walks::passed_then, crate::proofs::Walks::passed_none, crate::proofs::Walks::passed, crate::proofs::Walks::walk_none, crate::proofs::Separated::fails_from, crate::proofs::Separated::fails_bind))]
     pub(crate) fn one(&mut self) -> Result<(), Refusal>
         ensures read { Gives (λ _. tt) result (one_at (lexemes self.old)) (lexemes self.new) }
         ensures shorter { length (lexemes self.new) ≤ length (lexemes self.old) }
@@ -138,7 +138,7 @@ impl<'a> Parser<'a> {
         }
     }
 
-    #[tactic(auto, unfolding(crate::specs::Reading::size_at), using(crate::proofs::Walks::passed_then, crate::proofs::Walks::passed_none, crate::proofs::Walks::passed, crate::proofs::Walks::walk_none, crate::proofs::Errors::fails_unexpected, crate::proofs::Separated::fails_bind))]
+    #[tactic(auto, unfolding(crate::specs::Reading::size_at), using(crate::proofs::Walks::passed_then, crate::proofs::Walks::passed_none, crate::proofs::Walks::passed, crate::proofs::Walks::walk_none, crate::proofs::Separated::fails_from, crate::proofs::Separated::fails_bind))]
     pub(crate) fn size(&mut self, limits: &Limits) -> Result<usize, Refusal>
         ensures read { Gives (λ n. n) result (size_at limits.now (lexemes self.old))
             (lexemes self.new) }
@@ -165,7 +165,7 @@ impl<'a> Parser<'a> {
         }
     }
 
-    #[tactic(auto, unfolding(crate::specs::Reading::index_at), using(crate::proofs::Walks::passed_then, crate::proofs::Walks::passed_none, crate::proofs::Walks::passed, crate::proofs::Walks::walk_none, crate::proofs::Errors::fails_unexpected, crate::proofs::Separated::fails_bind))]
+    #[tactic(auto, unfolding(crate::specs::Reading::index_at), using(crate::proofs::Walks::passed_then, crate::proofs::Walks::passed_none, crate::proofs::Walks::passed, crate::proofs::Walks::walk_none, crate::proofs::Separated::fails_from, crate::proofs::Separated::fails_bind))]
     pub(crate) fn index(&mut self, limits: &Limits) -> Result<usize, Refusal>
         ensures read { Gives (λ n. n) result (index_at limits.now (lexemes self.old))
             (lexemes self.new) }
@@ -178,7 +178,7 @@ impl<'a> Parser<'a> {
         self.size(limits)
     }
 
-    #[tactic(auto, unfolding(crate::specs::Reading::any_index_at), using(crate::proofs::Walks::passed_then, crate::proofs::Walks::passed_none, crate::proofs::Walks::passed, crate::proofs::Walks::walk_none, crate::proofs::Errors::fails_unexpected, crate::proofs::Separated::fails_bind))]
+    #[tactic(auto, unfolding(crate::specs::Reading::any_index_at), using(crate::proofs::Walks::passed_then, crate::proofs::Walks::passed_none, crate::proofs::Walks::passed, crate::proofs::Walks::walk_none, crate::proofs::Separated::fails_from, crate::proofs::Separated::fails_bind))]
     pub(crate) fn any_index(&mut self, limits: &Limits) -> Result<Option<usize>, Refusal>
         ensures read { Gives (λ n. n) result (any_index_at limits.now (lexemes self.old))
             (lexemes self.new) }
@@ -194,15 +194,16 @@ impl<'a> Parser<'a> {
     }
 
     /// An index set of an array that has `count` index sets so far.
+    #[tactic(auto, using(crate::proofs::Separated::fails_from))]
     fn listed_index(&mut self, limits: &Limits, count: usize) -> Result<Option<usize>, Refusal>
-        ensures read { Gives (λ n. n) result (at_most most_indexes begins_index
+        ensures read { Gives (λ n. n) result (at_most most_indexes
             (any_index_at limits.now) count (lexemes self.old)) (lexemes self.new) }
         ensures shorter { length (lexemes self.new) ≤ length (lexemes self.old) }
         ensures end { self.new.end ≡ self.old.end }
         ensures walked { IfOk result (λ _. Passed self.old self.new) }
     {
-        if count >= MOST_INDEXES && self.begins_index() {
-            return Err(Refusal::TooMany);
+        if count >= MOST_INDEXES {
+            return Err(self.full(self.begins_index()));
         }
         self.any_index(limits)
     }
@@ -224,7 +225,7 @@ impl<'a> Parser<'a> {
         Ok(indexes)
     }
 
-    #[tactic(auto, unfolding(crate::specs::Reading::param_prefix_at, crate::specs::Reading::array_at), using(crate::proofs::Walks::passed_then, crate::proofs::Walks::passed_none, crate::proofs::Walks::passed, crate::proofs::Walks::walk_none, crate::proofs::Errors::fails_unexpected, crate::proofs::Separated::fails_bind))]
+    #[tactic(auto, unfolding(crate::specs::Reading::param_prefix_at, crate::specs::Reading::array_at), using(crate::proofs::Walks::passed_then, crate::proofs::Walks::passed_none, crate::proofs::Walks::passed, crate::proofs::Walks::walk_none, crate::proofs::Separated::fails_from, crate::proofs::Separated::fails_bind))]
     pub(crate) fn param_prefix(
         &mut self,
         limits: &Limits,
@@ -245,7 +246,7 @@ impl<'a> Parser<'a> {
         Ok(Some(indexes))
     }
 
-    #[tactic(auto, unfolding(crate::specs::Reading::prefix_at, crate::specs::Reading::array_at), using(crate::proofs::Walks::passed_then, crate::proofs::Walks::passed_none, crate::proofs::Walks::passed, crate::proofs::Walks::walk_none, crate::proofs::Errors::fails_unexpected, crate::proofs::Separated::fails_bind))]
+    #[tactic(auto, unfolding(crate::specs::Reading::prefix_at, crate::specs::Reading::array_at), using(crate::proofs::Walks::passed_then, crate::proofs::Walks::passed_none, crate::proofs::Walks::passed, crate::proofs::Walks::walk_none, crate::proofs::Separated::fails_from, crate::proofs::Separated::fails_bind))]
     pub(crate) fn prefix(&mut self, limits: &Limits) -> Result<Option<usize>, Refusal>
         ensures read { Gives (λ n. n) result (prefix_at limits.now (lexemes self.old))
             (lexemes self.new) }
@@ -263,7 +264,7 @@ impl<'a> Parser<'a> {
         Ok(Some(length))
     }
 
-    #[tactic(auto, unfolding(crate::specs::Reading::type_at), using(crate::proofs::Walks::passed_then, crate::proofs::Walks::passed_none, crate::proofs::Walks::passed, crate::proofs::Walks::walk_none, crate::proofs::Errors::fails_unexpected, crate::proofs::Separated::fails_bind))]
+    #[tactic(auto, unfolding(crate::specs::Reading::type_at), using(crate::proofs::Walks::passed_then, crate::proofs::Walks::passed_none, crate::proofs::Walks::passed, crate::proofs::Walks::walk_none, crate::proofs::Separated::fails_from, crate::proofs::Separated::fails_bind))]
     pub(crate) fn element_type(&mut self, limits: &Limits, is_var: bool) -> Result<Base, Refusal>
         ensures read { Gives (bare_base) result (type_at limits.now is_var (lexemes self.old))
             (lexemes self.new) }

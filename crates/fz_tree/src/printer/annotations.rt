@@ -1,65 +1,65 @@
 //! Annotations.
 
-ghost use Rattle.std.specs.Prelude.{◌≡◌, ◌++◌, map, OnOk};
+ghost use Rattle.std.specs.Prelude.{map, OnOk};
 ghost use Rattle.fz_tree.specs.View.{arg_list, basic_list, bare_note, bare_arg, bare_basic, bare_notes};
-ghost use Rattle.fz_tree.specs.Print.{note_text, args_text, arg_text, basics_text, note_basic_text, notes_text};
+ghost use Rattle.fz_tree.specs.Tokens.{note_toks, args_toks, arg_toks, basics_toks, note_basic_toks, notes_toks};
+ghost use Rattle.fz_tree.specs.Printing.{Prints};
 
 use crate::printer::Printer;
 use crate::tree::{Note, NoteArg, NoteBasic};
+use fz_lex::Mark;
 use std::alloc::AllocError;
 
 impl Printer {
     #[cycle(notes)]
     pub(crate) fn note(&mut self, note: &Note<'_>) -> Result<(), AllocError>
-        ensures { OnOk result (self.new.text.items
-            ≡ self.old.text.items ++ note_text (bare_note note.now)) }
+        ensures { OnOk result (Prints self.old self.new (note_toks (bare_note note.now))) }
     {
-        self.put(note.name.text)?;
+        self.text(note.name.text)?;
         self.note_args(&note.args)
     }
 
     /// Arguments in parentheses, where there are any.
     #[cycle(notes)]
     pub(crate) fn note_args(&mut self, args: &[NoteArg<'_>]) -> Result<(), AllocError>
-        ensures { OnOk result (self.new.text.items
-            ≡ self.old.text.items ++ args_text (arg_list (map bare_arg args.now))) }
+        ensures { OnOk result (Prints self.old self.new
+            (args_toks (arg_list (map bare_arg args.now)))) }
     {
         if let [first, others @ ..] = args {
-            self.put(b"(")?;
+            self.mark(Mark::OpenParen)?;
             self.note_arg(first)?;
             'more_args: for other in others {
-                self.put(b",")?;
+                self.mark(Mark::Comma)?;
                 self.note_arg(other)?;
             }
-            self.put(b")")?;
+            self.mark(Mark::CloseParen)?;
         }
         Ok(())
     }
 
     #[cycle(notes)]
     pub(crate) fn note_arg(&mut self, arg: &NoteArg<'_>) -> Result<(), AllocError>
-        ensures { OnOk result (self.new.text.items
-            ≡ self.old.text.items ++ arg_text (bare_arg arg.now)) }
+        ensures { OnOk result (Prints self.old self.new (arg_toks (bare_arg arg.now))) }
     {
         match arg {
             NoteArg::One(basic) => self.note_basic(basic),
             NoteArg::List(basics) => {
-                self.put(b"[")?;
+                self.mark(Mark::OpenBracket)?;
                 self.note_basics(basics)?;
-                self.put(b"]")
+                self.mark(Mark::CloseBracket)
             }
         }
     }
 
     #[cycle(notes)]
     pub(crate) fn note_basics(&mut self, basics: &[NoteBasic<'_>]) -> Result<(), AllocError>
-        ensures { OnOk result (self.new.text.items
-            ≡ self.old.text.items ++ basics_text (basic_list (map bare_basic basics.now))) }
+        ensures { OnOk result (Prints self.old self.new
+            (basics_toks (basic_list (map bare_basic basics.now)))) }
     {
         if let [first, others @ ..] = basics {
             self.note_basic(first)?;
             'more_basics: for other in others {
-                self.put(b",")?;
+                self.mark(Mark::Comma)?;
                 self.note_basic(other)?;
             }
         }
@@ -68,23 +68,21 @@ impl Printer {
 
     #[cycle(notes)]
     pub(crate) fn note_basic(&mut self, basic: &NoteBasic<'_>) -> Result<(), AllocError>
-        ensures { OnOk result (self.new.text.items
-            ≡ self.old.text.items ++ note_basic_text (bare_basic basic.now)) }
+        ensures { OnOk result (Prints self.old self.new (note_basic_toks (bare_basic basic.now))) }
     {
         match basic {
             NoteBasic::Lit(literal) => self.literal(literal),
-            NoteBasic::Float(text) => self.put(text),
-            NoteBasic::Str(text) => self.put(text),
+            NoteBasic::Float(text) => self.text(text),
+            NoteBasic::Str(text) => self.text(text),
             NoteBasic::Inner(note) => self.note(note),
         }
     }
 
     pub(crate) fn notes(&mut self, notes: &[Note<'_>]) -> Result<(), AllocError>
-        ensures { OnOk result (self.new.text.items
-            ≡ self.old.text.items ++ notes_text (bare_notes notes.now)) }
+        ensures { OnOk result (Prints self.old self.new (notes_toks (bare_notes notes.now))) }
     {
         for note in notes {
-            self.put(b" :: ")?;
+            self.mark(Mark::ColonColon)?;
             self.note(note)?;
         }
         Ok(())

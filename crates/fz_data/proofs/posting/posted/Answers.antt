@@ -3,7 +3,8 @@ use Rattle.fz_names.specs.of_meaning.Meaning.{row_of, first_some}
 use Rattle.fz_names.specs.of_meaning.View.{located_expr}
 use Rattle.fz_tree.specs.View.{bare_notes}
 use Rattle.fz_data.specs.Parts.{argument_view}
-use Rattle.fz_data.specs.Scope.{argument_in, defined_in}
+use Rattle.fz_names.specs.of_meaning.Names.{argument_of, defined_by}
+use Rattle.fz_data.specs.Scope.{place_in}
 use Rattle.fz_data.specs.Slots.{segment}
 use Rattle.fz_data.proofs.Grown.{longer_none}
 use Rattle.fz_data.proofs.posting.posted.Goals as goal
@@ -20,6 +21,6 @@ returns-clause-row c =
     }))
     ∙ (λ i. row_of (record {
       name = c.args.constraint.now.name.text.now;
-      arguments = (c.in_ok-arguments.ensures.arguments st (longer_none st) ∙ ap (λ xs. map (argument_in s) (map located_expr xs)) c.deref.ensures.value) i;
-      target = (c.target_of.ensures ∙ ap (λ ns. first_some (defined_in s) (bare_notes ns)) c.deref-3.ensures.value) i;
+      arguments = (c.in_ok-arguments.ensures.arguments st (longer_none st) ∙ ap (λ xs. map (argument_of (place_in s)) (map located_expr xs)) c.deref.ensures.value) i;
+      target = (c.target_of.ensures ∙ ap (λ ns. first_some (defined_by (place_in s)) (bare_notes ns)) c.deref-3.ensures.value) i;
     }))

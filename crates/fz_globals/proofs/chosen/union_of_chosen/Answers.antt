@@ -1,6 +1,6 @@
-use Rattle.std.proofs.Common.{◌≡◌, ◌+ℤ◌, pos, true, false, length, FitsSigned, refl, sym, ap, ◌∙◌, arith, rules}
+use Rattle.std.proofs.Common.{◌≡◌, ◌+ℤ◌, pos, true, false, length, FitsSigned, sym, ap, ◌∙◌, arith, rules}
 use Rattle.std.specs.Int.{w128}
-use Rattle.std.specs.FinSet.{contains, union}
+use Rattle.std.specs.FinSet.{contains}
 use Rattle.std.proofs.lemmas.Int.{to_z-of_z}
 use Rattle.fz_kernel.specs.Views.{sets}
 use Rattle.fz_kernel.proofs.Read.{sets_counted}

@@ -23,11 +23,11 @@ loop-place-preserved c =
       | then-place_in-place w ↦
           let other : (c.place_in.result =ℤ pos i) ≡ false = grind (arith, numerals) in
           let one : length (moved_from (pos (i + 1)) (drop i f)) ≡ suc (length (moved_from (pos (i + 1 + 1)) (drop (i + 1) f))) =
-          ap length (moves f i (as_place o x) there (sym (ap (λ d. d =ℤ pos i) told ∙ shifted (x -ℤ o) i) ∙ other)) in
+          ap length (moves f i (as_place o x) there (sym (ap (λ d. d =ℤ pos i) told ∙ shifted (x -ℤ o) (pos i)) ∙ other)) in
           simp to_z-of_z (record { within = omega arith; counted = omega arith })
       | else-place_in-place w ↦
           let same : (c.place_in.result =ℤ pos i) ≡ true = grind (arith, numerals) in
           let one : length (moved_from (pos (i + 1)) (drop i f)) ≡ length (moved_from (pos (i + 1 + 1)) (drop (i + 1) f)) =
-          ap length (stays f i (as_place o x) there (sym (ap (λ d. d =ℤ pos i) told ∙ shifted (x -ℤ o) i) ∙ same)) in
+          ap length (stays f i (as_place o x) there (sym (ap (λ d. d =ℤ pos i) told ∙ shifted (x -ℤ o) (pos i)) ∙ same)) in
           simp to_z-of_z (record { within = omega arith; counted = omega arith })
     ]

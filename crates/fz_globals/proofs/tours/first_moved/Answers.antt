@@ -18,7 +18,7 @@ returns-then-place_in-place-clause-found c =
     let told : c.place_in.result ≡ (x -ℤ o) = simp to_z-of_z at c.place_in.ensures in
     let so_far : moved_from (pos 1) f ≡ moved_from (pos (i + 1)) (drop i f) = simp to_z-of_z at c.loop-place.invariant in
     let other : (c.place_in.result =ℤ pos i) ≡ false = grind (arith, numerals) in
-    ap (λ l. slice_get l 0) (so_far ∙ moves f i (as_place o x) (placed_at o xs i x c.int.ensures.read) (sym (ap (λ d. d =ℤ pos i) told ∙ shifted (x -ℤ o) i) ∙ other))
+    ap (λ l. slice_get l 0) (so_far ∙ moves f i (as_place o x) (placed_at o xs i x c.int.ensures.read) (sym (ap (λ d. d =ℤ pos i) told ∙ shifted (x -ℤ o) (pos i)) ∙ other))
 
 pub loop-place-preserved : goal.loop-place-preserved
 loop-place-preserved c =
@@ -32,4 +32,4 @@ loop-place-preserved c =
     let told : c.place_in.result ≡ (x -ℤ o) = simp to_z-of_z at c.place_in.ensures in
     let so_far : moved_from (pos 1) f ≡ moved_from (pos (i + 1)) (drop i f) = simp to_z-of_z at c.loop-place.invariant in
     let same : (c.place_in.result =ℤ pos i) ≡ true = grind (arith, numerals) in
-    simp to_z-of_z (so_far ∙ stays f i (as_place o x) (placed_at o xs i x c.int.ensures.read) (sym (ap (λ d. d =ℤ pos i) told ∙ shifted (x -ℤ o) i) ∙ same))
+    simp to_z-of_z (so_far ∙ stays f i (as_place o x) (placed_at o xs i x c.int.ensures.read) (sym (ap (λ d. d =ℤ pos i) told ∙ shifted (x -ℤ o) (pos i)) ∙ same))

@@ -1,4 +1,4 @@
-use Rattle.std.proofs.Common.{◌≡◌, ℤ, ◌+◌, pos, ◌-ℤ◌, false, nat_eq, length, Some, None, FitsSigned, w64, of_z, sym, ap, ◌∙◌, rules}
+use Rattle.std.proofs.Common.{◌≡◌, ℤ, ◌+◌, pos, ◌+ℤ◌, ◌-ℤ◌, false, nat_eq, length, Some, None, FitsSigned, w64, of_z, sym, ap, ◌∙◌, rules}
 use Rattle.std.specs.Int.{w128}
 use Rattle.std.specs.Option.{option_map_or}
 use Rattle.std.proofs.lemmas.Int.{to_z-of_z}
@@ -22,9 +22,10 @@ returns-in-Some c =
     let found : element_at (as_places go ys) (as_place c.args.first c.args.index) ≡ Some (as_place go y) =
     element_found (as_places go ys) (as_place c.args.first c.args.index) c.in-Some.target (as_place go y) place (placed_at go ys c.in-Some.target y c.int.ensures.read) in
     let told : c.place_in.result ≡ (y -ℤ go) = simp to_z-of_z at c.place_in.ensures in
-    let same : nat_eq (of_z w128 c.place_in.result) c.args.place ≡ (c.place_in.result =ℤ pos c.args.place) = search rules in
-    same ∙ ap (λ d. d =ℤ pos c.args.place) told ∙ shifted (y -ℤ go) c.args.place
-    ∙ sym (ap (λ o. option_map_or (λ (z : ℤ). z =ℤ pos (c.args.place + 1)) o false) found)
+    let fits_p : FitsSigned w128 c.args.place = c.ranges.place in
+    let same : nat_eq (of_z w128 c.place_in.result) (of_z w128 c.args.place) ≡ (c.place_in.result =ℤ c.args.place) = search rules in
+    same ∙ ap (λ d. d =ℤ c.args.place) told ∙ shifted (y -ℤ go) c.args.place
+    ∙ sym (ap (λ o. option_map_or (λ (z : ℤ). z =ℤ (c.args.place +ℤ pos 1)) o false) found)
 
 pub returns-in-None : goal.returns-in-None
 returns-in-None c =
@@ -35,4 +36,4 @@ returns-in-None c =
     let counted : c.len.result ≡ length (as_places go ys) = ints_counted c.args.g.now c.len.result c.len.ensures.counted ∙ sym (placed_counted go ys) in
     let none : element_at (as_places go ys) (as_place c.args.first c.args.index) ≡ None =
     none_found (as_places go ys) (as_place c.args.first c.args.index) c.len.result counted (simp to_z-of_z at c.in-None.ensures.none) in
-    sym (ap (λ o. option_map_or (λ (z : ℤ). z =ℤ pos (c.args.place + 1)) o false) none)
+    sym (ap (λ o. option_map_or (λ (z : ℤ). z =ℤ (c.args.place +ℤ pos 1)) o false) none)

@@ -5,8 +5,7 @@ use Rattle.fz_stream.specs.Faults.{IsFaultWithin}
 use Rattle.fz_stream.specs.Step.{IsLineFault}
 use Rattle.fz_stream.specs.Telling.{TellsOfText}
 use Rattle.fz_stream.specs.declared.error.StreamError.TheVariants.{Memory}
-use Rattle.fz_stream.proofs.FaultLemmas.{placed_fault, block_fault, no_value, tells_text}
-use Rattle.fz_stream.proofs.PlaceLemmas.{again_in, again_within, second_printing}
+use Rattle.fz_stream.proofs.FaultLemmas.{placed_fault, block_fault, no_value, tells_text, again_in, again_within, second_printing}
 use Rattle.fz_stream.proofs.block.read_block.Goals as goal
 
 pub returns-in-Err : goal.returns-in-Err

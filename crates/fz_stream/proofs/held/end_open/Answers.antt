@@ -1,5 +1,5 @@
 use Rattle.std.proofs.Common.{arith, refl}
-use Rattle.fz_stream.proofs.LastLemmas.{ends_framed, ends_left_open}
+use Rattle.fz_stream.proofs.EndLemmas.{ends_framed, ends_left_open}
 use Rattle.fz_stream.proofs.held.end_open.Goals as goal
 
 pub returns-then-held-gt0-clause-broken : goal.returns-then-held-gt0-clause-broken

@@ -9,7 +9,7 @@ use Rattle.fz_stream.specs.Inside.{waiting_of}
 use Rattle.fz_stream.specs.Keeping.{HasLine, Stands}
 use Rattle.fz_stream.specs.Parts.{lines_of, Frame}
 use Rattle.fz_stream.specs.Splitting.{EndsWith}
-use Rattle.fz_stream.proofs.LastLemmas.{ends_without, ends_line, ends_last, ends_broken}
+use Rattle.fz_stream.proofs.EndLemmas.{ends_without, ends_line, ends_last, ends_broken}
 use Rattle.fz_stream.proofs.held.end_stream.Goals as goal
 
 -- what is so where all lines have ended, is so of what was held before

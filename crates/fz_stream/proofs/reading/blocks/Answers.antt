@@ -5,8 +5,7 @@ use Rattle.fz_syntax.specs.Lexing.{standard_limits}
 use Rattle.fz_syntax.specs.View.{bare_items}
 use Rattle.fz_stream.specs.Found.{block_of, HasPlaces, EndsWithin}
 use Rattle.fz_stream.proofs.PartLemmas.{every_append}
-use Rattle.fz_stream.proofs.FoundLemmas.{read_in_order, read_before_markers}
-use Rattle.fz_stream.proofs.SoFar.{start_so_far, so_far_goes_on, so_far_block, so_far_claim, so_far_read, so_far_stops_at_block, so_far_stops_at_claim, so_far_stops_at_end, so_far_text_within}
+use Rattle.fz_stream.proofs.SoFar.{start_so_far, so_far_goes_on, so_far_block, so_far_claim, so_far_read, so_far_stops_at_block, so_far_stops_at_claim, so_far_stops_at_end, so_far_text_within, read_in_order, read_before_markers}
 use Rattle.fz_stream.proofs.OnePartLemmas.{stops_no_text}
 use Rattle.fz_stream.specs.Broken.{StopsAfter}
 use Rattle.fz_stream.specs.Parts.{StreamPart, IsBlockText, IsStreamText}

@@ -6,7 +6,6 @@ use Rattle.fz_base.specs.Ranges.{covers}
 use Rattle.fz_base.specs.Sets.{NumberSet}
 use Rattle.fz_base.specs.declared.kept.Numbers.{Numbers}
 use Rattle.fz_base.specs.declared.ranges.Range.{Range}
-use Rattle.fz_base.proofs.SetRelations.{seen}
 use Rattle.fz_base.proofs.sets.IntSet.ranges.Goals as goal
 
 covered : {E : Type 0} (n : Numbers) (s : NumberSet) → ((x : ℤ) → has n x ≡ set.contains s x)
@@ -16,4 +15,4 @@ covered n s same (Ok v) h = λ x. h x ∙ same x
 covered n s same (Err e) h = h
 
 pub returns-clause-same : goal.returns-clause-same
-returns-clause-same c = covered c.kept.result.now c.args.self.now (seen c.kept.result.now c.args.self.now c.kept.ensures.same) c.ranges-2.result c.ranges-2.ensures.same
+returns-clause-same c = covered c.kept.result.now c.args.self.now c.kept.ensures.seen c.ranges-2.result c.ranges-2.ensures.same

@@ -6,7 +6,7 @@ use Rattle.fz_stream.specs.Faults.{IsCuttingFault, IsFaultWithin}
 use Rattle.fz_stream.specs.Parts.{Frame}
 use Rattle.fz_stream.specs.Keeping.{Stands}
 use Rattle.fz_stream.specs.Splitting.{SplitterState, Fits, HasRoomFor, PassesLimit}
-use Rattle.fz_stream.proofs.FeedLemmas.{fed, cut_off, some_ended, none_ended, stands_for, short_held}
+use Rattle.fz_stream.proofs.TakeLemmas.{fed, cut_off, some_ended, none_ended, stands_for, short_held}
 use Rattle.fz_stream.proofs.splitter.Splitter.feed.Goals as goal
 
 pub returns-in-Ok : goal.returns-in-Ok

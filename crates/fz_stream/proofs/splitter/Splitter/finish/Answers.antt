@@ -2,7 +2,7 @@ use Rattle.std.proofs.Common.{◌≡◌, refl, sym, ap, ◌∙◌, subst, ⊎_el
 use Rattle.fz_syntax.specs.Places.{IsSpanWithin}
 use Rattle.fz_stream.specs.declared.splitter.Stage.TheVariants.{Running, Failed}
 use Rattle.fz_stream.specs.Splitting.{SplitterState}
-use Rattle.fz_stream.proofs.FeedLemmas.{stands_for}
+use Rattle.fz_stream.proofs.TakeLemmas.{stands_for}
 use Rattle.fz_stream.proofs.splitter.Splitter.finish.Goals as goal
 
 pub returns-in-Ok : goal.returns-in-Ok

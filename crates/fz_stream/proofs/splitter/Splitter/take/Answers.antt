@@ -9,7 +9,7 @@ use Rattle.fz_stream.specs.Parts.{BlockFrame}
 use Rattle.fz_stream.specs.Splitting.{SplitterState}
 use Rattle.fz_stream.specs.Step.{IsLineFault}
 use Rattle.fz_stream.proofs.FaultLemmas.{line_fault, fault_more}
-use Rattle.fz_stream.proofs.TakenLemmas.{broken_inside, broken_last}
+use Rattle.fz_stream.proofs.TakeLemmas.{broken_inside, broken_last}
 use Rattle.fz_stream.proofs.splitter.Splitter.take.Goals as goal
 
 pub returns-in-Err : goal.returns-in-Err

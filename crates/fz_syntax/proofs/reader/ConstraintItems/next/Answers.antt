@@ -21,4 +21,4 @@ returns-in-Ok c =
     record { offers = item_took constraint_kind from_solve c.in-Ok.item c.args.self.rest c.constraint.new.self (constraints_shrink _) reads }
 
 pub returns : goal.returns
-returns c = record { offers = item_refused constraint_kind from_solve c.args.self.rest c.in-Err.refusal c.refused.result _ (sym c.next_word.ensures ∙ c.if-not-next_word.false) c.in-Err.ensures.read c.args.self.within (c.refused.ensures c.args.self.within.short (c.in-Err.ensures.end ∙ c.args.self.within.ends)) }
+returns c = record { offers = item_refused constraint_kind from_solve c.args.self.rest c.in-Err.refusal c.refused.result (sym c.next_word.ensures ∙ c.if-not-next_word.false) c.in-Err.ensures.read c.args.self.within (c.refused.ensures c.args.self.within.short (c.in-Err.ensures.end ∙ c.args.self.within.ends)) }

@@ -21,4 +21,4 @@ returns-in-Ok c =
     record { offers = item_took decl_kind from_constraints c.in-Ok.item c.args.self.rest c.decl.new.self (decls_shrink _) reads }
 
 pub returns : goal.returns
-returns c = record { offers = item_refused decl_kind from_constraints c.args.self.rest c.in-Err.refusal c.refused.result _ (sym c.begins_decl.ensures ∙ c.if-not-begins_decl.false) c.in-Err.ensures.read c.args.self.within (c.refused.ensures c.args.self.within.short (c.in-Err.ensures.end ∙ c.args.self.within.ends)) }
+returns c = record { offers = item_refused decl_kind from_constraints c.args.self.rest c.in-Err.refusal c.refused.result (sym c.begins_decl.ensures ∙ c.if-not-begins_decl.false) c.in-Err.ensures.read c.args.self.within (c.refused.ensures c.args.self.within.short (c.in-Err.ensures.end ∙ c.args.self.within.ends)) }

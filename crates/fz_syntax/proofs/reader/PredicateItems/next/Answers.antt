@@ -21,4 +21,4 @@ returns-in-Ok c =
     record { offers = item_took predicate_kind from_decls c.in-Ok.item c.args.self.rest c.predicate.new.self (predicates_shrink _) reads }
 
 pub returns : goal.returns
-returns c = record { offers = item_refused predicate_kind from_decls c.args.self.rest c.in-Err.refusal c.refused.result _ (sym c.next_word.ensures ∙ c.if-not-next_word.false) c.in-Err.ensures.read c.args.self.within (c.refused.ensures c.args.self.within.short (c.in-Err.ensures.end ∙ c.args.self.within.ends)) }
+returns c = record { offers = item_refused predicate_kind from_decls c.args.self.rest c.in-Err.refusal c.refused.result (sym c.next_word.ensures ∙ c.if-not-next_word.false) c.in-Err.ensures.read c.args.self.within (c.refused.ensures c.args.self.within.short (c.in-Err.ensures.end ∙ c.args.self.within.ends)) }

@@ -1,7 +1,8 @@
-use Rattle.std.proofs.Common.{◌≡◌, ◌++◌, take, map}
+use Rattle.std.proofs.Common.{take, map}
 use Rattle.fz_tree.specs.View.{bare_expression}
-use Rattle.fz_tree.specs.Print.{text_after_commas, basic_text}
+use Rattle.fz_tree.specs.Tokens.{after_commas, basic_toks}
+use Rattle.fz_tree.specs.Printing.{Prints}
 use Rattle.fz_tree.proofs.printer.Printer.basics.Given as goal
 
 abbrev pub invariant-loop-other : goal.invariant-loop-other
-invariant-loop-other l = l.self.text.items ≡ l.initial.self.text.items ++ text_after_commas basic_text (map bare_expression (take l.other-index l.others))
+invariant-loop-other l = Prints l.initial.self l.self (after_commas basic_toks (map bare_expression (take l.other-index l.others)))

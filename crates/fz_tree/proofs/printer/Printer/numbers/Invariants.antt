@@ -1,7 +1,7 @@
-use Rattle.std.proofs.Common.{◌≡◌, ◌++◌, take}
-use Rattle.std.specs.Fmt.{signed_decimal}
-use Rattle.fz_tree.specs.Print.{text_after_commas}
+use Rattle.std.proofs.Common.{take}
+use Rattle.fz_tree.specs.Tokens.{after_commas, number_toks}
+use Rattle.fz_tree.specs.Printing.{Prints}
 use Rattle.fz_tree.proofs.printer.Printer.numbers.Given as goal
 
 abbrev pub invariant-loop-other : goal.invariant-loop-other
-invariant-loop-other l = l.self.text.items ≡ l.initial.self.text.items ++ text_after_commas signed_decimal (take l.other-index l.others)
+invariant-loop-other l = Prints l.initial.self l.self (after_commas number_toks (take l.other-index l.others))

@@ -6,7 +6,7 @@ use Rattle.fz_syntax.proofs.Walks.{separated_first, separated_more, some_pushed,
 use Rattle.fz_syntax.proofs.Folds.{note_unfolds, list_unfolds}
 use Rattle.fz_syntax.specs.Walk.{Walk}
 use Rattle.fz_tree.specs.View.{bare_arg, bare_basic}
-use Rattle.fz_syntax.specs.Reading.{any_number, at_most, note_at, note_arg_at, note_basic_at, begins_note_basic}
+use Rattle.fz_syntax.specs.Reading.{any_number, at_most, note_at, note_arg_at, note_basic_at}
 use Rattle.fz_syntax.proofs.Separated.{separated_fails}
 use Rattle.fz_syntax.proofs.Running.{separated_init, keeps_on, stops, is_whole_list, grown, length_seen}
 use Rattle.fz_syntax.proofs.NoteLaws.{note_list_shrinks, note_args_shrink}
@@ -15,7 +15,7 @@ use Rattle.fz_syntax.proofs.parser.cursor.Parser.+notes.Goals as goal
 pub separated_note_args-returns-in_err-note_arg-clause-read : goal.separated_note_args-returns-in_err-note_arg-clause-read
 separated_note_args-returns-in_err-note_arg-clause-read t c =
     let p = err_from_is_err_and c.from_residual.result c.from_residual.ensures.1 in
-    rw (p.1, p.2) (separated_fails c.in_err-note_arg.field-0.0 (any_number (note_arg_at c.args.limits.now c.args.depth (note_at c.args.limits.now c.args.depth))) _ _ c.in_err-note_arg.ensures.read)
+    rw (p.1, p.2) (separated_fails c.in_err-note_arg.field-0.0 (any_number (note_arg_at c.args.limits.now c.args.depth (note_at c.args.limits.now c.args.depth))) _ c.in_err-note_arg.ensures.read)
 
 pub separated_note_args-more_args-init : goal.separated_note_args-more_args-init
 separated_note_args-more_args-init t c = record {
@@ -29,7 +29,7 @@ separated_note_args-more_args-init t c = record {
 pub separated_note_args-returns-in_err-arg-clause-read : goal.separated_note_args-returns-in_err-arg-clause-read
 separated_note_args-returns-in_err-arg-clause-read t c =
     let p = err_from_is_err_and c.from_residual-in_err-arg.result c.from_residual-in_err-arg.ensures.1 in
-    rw (p.1, p.2) (stops c.in_err-arg.field-0.0 Comma (any_number (note_arg_at c.args.limits.now c.args.depth (note_at c.args.limits.now c.args.depth))) _ _ _ _ _ _ refl _ c.more_args-test.true c.eat.ensures.found c.eat.ensures.left c.more_args.invariant.continues c.in_err-arg.ensures.read)
+    rw (p.1, p.2) (stops c.in_err-arg.field-0.0 Comma (any_number (note_arg_at c.args.limits.now c.args.depth (note_at c.args.limits.now c.args.depth))) _ _ _ _ _ refl _ c.more_args-test.true c.eat.ensures.found c.eat.ensures.left c.more_args.invariant.continues c.in_err-arg.ensures.read)
 
 pub separated_note_args-more_args-preserved : goal.separated_note_args-more_args-preserved
 separated_note_args-more_args-preserved t c = record {
@@ -46,11 +46,11 @@ separated_note_args-returns-clause-read t c = rw c.filled.ensures (is_whole_list
 pub separated_note_basics-returns-in_err-listed_note_basic-clause-read : goal.separated_note_basics-returns-in_err-listed_note_basic-clause-read
 separated_note_basics-returns-in_err-listed_note_basic-clause-read t c =
     let p = err_from_is_err_and c.from_residual.result c.from_residual.ensures.1 in
-    rw (p.1, p.2) (separated_fails c.in_err-listed_note_basic.field-0.0 (at_most c.args.limits.now.elements (begins_note_basic c.args.depth) (note_basic_at c.args.limits.now (note_at c.args.limits.now c.args.depth))) _ _ c.in_err-listed_note_basic.ensures.read)
+    rw (p.1, p.2) (separated_fails c.in_err-listed_note_basic.field-0.0 (at_most c.args.limits.now.elements (note_basic_at c.args.limits.now (note_at c.args.limits.now c.args.depth))) _ c.in_err-listed_note_basic.ensures.read)
 
 pub separated_note_basics-more_basics-init : goal.separated_note_basics-more_basics-init
 separated_note_basics-more_basics-init t c = record {
-  continues = separated_init (at_most c.args.limits.now.elements (begins_note_basic c.args.depth) (note_basic_at c.args.limits.now (note_at c.args.limits.now c.args.depth))) _ _ _ _ _ (ap (map bare_basic) c.new-basics.ensures.items) (grown bare_basic _ _ _ c.in_ok-push.ensures.items) c.in_ok-listed_note_basic.ensures.read;
+  continues = separated_init (at_most c.args.limits.now.elements (note_basic_at c.args.limits.now (note_at c.args.limits.now c.args.depth))) _ _ _ _ _ (ap (map bare_basic) c.new-basics.ensures.items) (grown bare_basic _ _ _ c.in_ok-push.ensures.items) c.in_ok-listed_note_basic.ensures.read;
   shorter = omega arith;
   same_end = omega arith;
   walked = separated_first placed_note_basic _ _ _ c.new-basics.ensures.items c.in_ok-push.ensures.items c.in_ok-listed_note_basic.ensures.walked;
@@ -60,11 +60,11 @@ separated_note_basics-more_basics-init t c = record {
 pub separated_note_basics-returns-in_err-basic-clause-read : goal.separated_note_basics-returns-in_err-basic-clause-read
 separated_note_basics-returns-in_err-basic-clause-read t c =
     let p = err_from_is_err_and c.from_residual-in_err-basic.result c.from_residual-in_err-basic.ensures.1 in
-    rw (p.1, p.2) (stops c.in_err-basic.field-0.0 Comma (at_most c.args.limits.now.elements (begins_note_basic c.args.depth) (note_basic_at c.args.limits.now (note_at c.args.limits.now c.args.depth))) _ _ _ _ _ _ (c.len.ensures ∙ c.more_basics.basics.ok.0 ∙ length_seen bare_basic c.more_basics.basics.items) _ c.more_basics-test.true c.eat.ensures.found c.eat.ensures.left c.more_basics.invariant.continues c.in_err-basic.ensures.read)
+    rw (p.1, p.2) (stops c.in_err-basic.field-0.0 Comma (at_most c.args.limits.now.elements (note_basic_at c.args.limits.now (note_at c.args.limits.now c.args.depth))) _ _ _ _ _ (c.len.ensures ∙ c.more_basics.basics.ok.0 ∙ length_seen bare_basic c.more_basics.basics.items) _ c.more_basics-test.true c.eat.ensures.found c.eat.ensures.left c.more_basics.invariant.continues c.in_err-basic.ensures.read)
 
 pub separated_note_basics-more_basics-preserved : goal.separated_note_basics-more_basics-preserved
 separated_note_basics-more_basics-preserved t c = record {
-  continues = keeps_on Comma (at_most c.args.limits.now.elements (begins_note_basic c.args.depth) (note_basic_at c.args.limits.now (note_at c.args.limits.now c.args.depth))) (note_list_shrinks c.args.limits.now c.args.depth) _ _ _ _ _ _ _ _ (c.len.ensures ∙ c.more_basics.basics.ok.0 ∙ length_seen bare_basic c.more_basics.basics.items) (grown bare_basic _ _ _ c.in_ok-push-2.ensures.items) _ c.more_basics-test.true c.eat.ensures.found c.eat.ensures.left c.in_ok-basic.ensures.read c.more_basics.invariant.continues;
+  continues = keeps_on Comma (at_most c.args.limits.now.elements (note_basic_at c.args.limits.now (note_at c.args.limits.now c.args.depth))) (note_list_shrinks c.args.limits.now c.args.depth) _ _ _ _ _ _ _ _ (c.len.ensures ∙ c.more_basics.basics.ok.0 ∙ length_seen bare_basic c.more_basics.basics.items) (grown bare_basic _ _ _ c.in_ok-push-2.ensures.items) _ c.more_basics-test.true c.eat.ensures.found c.eat.ensures.left c.in_ok-basic.ensures.read c.more_basics.invariant.continues;
   shorter = omega arith;
   same_end = omega arith;
   walked = separated_more placed_note_basic _ _ _ c.more_basics.invariant.some c.in_ok-push-2.ensures.items c.more_basics.invariant.walked (ate Comma _ c.more_basics-test.true c.eat.ensures.found c.eat.ensures.left c.eat.ensures.walked) c.in_ok-basic.ensures.walked;
@@ -72,7 +72,7 @@ separated_note_basics-more_basics-preserved t c = record {
 }
 
 pub separated_note_basics-returns-clause-read : goal.separated_note_basics-returns-clause-read
-separated_note_basics-returns-clause-read t c = rw c.trimmed.ensures (is_whole_list Comma (at_most c.args.limits.now.elements (begins_note_basic c.args.depth) (note_basic_at c.args.limits.now (note_at c.args.limits.now c.args.depth))) _ _ _ _ _ c.more_basics-test.false c.eat.ensures.found c.eat.ensures.left c.more_basics.invariant.continues)
+separated_note_basics-returns-clause-read t c = rw c.trimmed.ensures (is_whole_list Comma (at_most c.args.limits.now.elements (note_basic_at c.args.limits.now (note_at c.args.limits.now c.args.depth))) _ _ _ _ _ c.more_basics-test.false c.eat.ensures.found c.eat.ensures.left c.more_basics.invariant.continues)
 
 pub separated_note_args-returns-clause-walked : goal.separated_note_args-returns-clause-walked
 separated_note_args-returns-clause-walked t c = rw c.filled.ensures (walk_end (walk_kept _ c.more_args-test.false c.eat.ensures.kept c.more_args.invariant.walked) (walk_still _ _ refl refl refl))

@@ -3,7 +3,7 @@ use Rattle.fz_tree.specs.of_lex.declared.token.Mark.TheVariants.{Comma}
 use Rattle.fz_syntax.specs.Walk.{Walk, lexemes}
 use Rattle.fz_syntax.specs.Placed.{placed_separated, placed_arg, placed_note_basic}
 use Rattle.fz_tree.specs.View.{bare_arg, bare_basic}
-use Rattle.fz_syntax.specs.Reading.{separated_at, any_number, at_most, note_at, note_arg_at, note_basic_at, begins_note_basic}
+use Rattle.fz_syntax.specs.Reading.{separated_at, any_number, at_most, note_at, note_arg_at, note_basic_at}
 use Rattle.fz_syntax.proofs.Running.{Continues}
 use Rattle.fz_syntax.proofs.parser.cursor.Parser.+notes.Given as goal
 
@@ -48,10 +48,10 @@ decreases-separated_note_args-more_args l = length (lexemes l.self)
 
 abbrev pub invariant-separated_note_basics-more_basics : goal.invariant-separated_note_basics-more_basics
 invariant-separated_note_basics-more_basics l = record {
-  continues : Continues Comma (at_most l.limits.elements (begins_note_basic l.depth)
+  continues : Continues Comma (at_most l.limits.elements
       (note_basic_at l.limits (note_at l.limits l.depth))) (map bare_basic l.basics.items)
       (lexemes l.self)
-      (separated_at (at_most l.limits.elements (begins_note_basic l.fn.depth) (note_basic_at l.limits (note_at l.limits l.fn.depth))) (lexemes l.fn.self));
+      (separated_at (at_most l.limits.elements (note_basic_at l.limits (note_at l.limits l.fn.depth))) (lexemes l.fn.self));
   shorter : length (lexemes l.self) ≤ length (lexemes l.fn.self);
   same_end : l.self.end ≡ l.fn.self.end;
   walked : Walk l.fn.self l.self (placed_separated placed_note_basic l.basics.items);

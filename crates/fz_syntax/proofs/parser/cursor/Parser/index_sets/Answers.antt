@@ -19,7 +19,7 @@ pub returns-in_err-set-clause-read : goal.returns-in_err-set-clause-read
 returns-in_err-set-clause-read c =
     let at = c.len.ensures ∙ c.loop-self.sets.ok.0 in
     let p = err_from_is_err_and c.from_residual.result c.from_residual.ensures.1 in
-    rw (p.1, p.2) (counts_stop c.in_err-set.field-0.0 c.args.limits.now _ (c.args.count - suc (length c.loop-self.sets.items)) _ _ _ _ (omega (arith, c.loop-self-test.true, at)) c.loop-self.invariant.counts c.in_err-set.ensures.read)
+    rw (p.1, p.2) (counts_stop c.in_err-set.field-0.0 c.args.limits.now _ (c.args.count - suc (length c.loop-self.sets.items)) _ _ _ (omega (arith, c.loop-self-test.true, at)) c.loop-self.invariant.counts c.in_err-set.ensures.read)
 
 pub loop-self-preserved : goal.loop-self-preserved
 loop-self-preserved c =

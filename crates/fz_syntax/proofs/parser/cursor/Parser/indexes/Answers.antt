@@ -12,7 +12,7 @@ pub returns-in_err-listed_index-clause-read : goal.returns-in_err-listed_index-c
 unfolding indexes_at
 returns-in_err-listed_index-clause-read c =
     let p = err_from_is_err_and c.from_residual.result c.from_residual.ensures.1 in
-    rw (p.1, p.2) (separated_fails c.in_err-listed_index.field-0.0 (listed_index c.args.limits.now) _ _ c.in_err-listed_index.ensures.read)
+    rw (p.1, p.2) (separated_fails c.in_err-listed_index.field-0.0 (listed_index c.args.limits.now) _ c.in_err-listed_index.ensures.read)
 
 pub loop-self-init : goal.loop-self-init
 unfolding indexes_at
@@ -27,7 +27,7 @@ pub returns-in_err-index-clause-read : goal.returns-in_err-index-clause-read
 unfolding indexes_at
 returns-in_err-index-clause-read c =
     let p = err_from_is_err_and c.from_residual-in_err-index.result c.from_residual-in_err-index.ensures.1 in
-    rw (p.1, p.2) (stops c.in_err-index.field-0.0 Comma (listed_index c.args.limits.now) _ _ _ _ _ _ (c.len.ensures ∙ c.loop-self.indexes.ok.0) _ c.loop-self-test.true c.eat.ensures.found c.eat.ensures.left c.loop-self.invariant.continues c.in_err-index.ensures.read)
+    rw (p.1, p.2) (stops c.in_err-index.field-0.0 Comma (listed_index c.args.limits.now) _ _ _ _ _ (c.len.ensures ∙ c.loop-self.indexes.ok.0) _ c.loop-self-test.true c.eat.ensures.found c.eat.ensures.left c.loop-self.invariant.continues c.in_err-index.ensures.read)
 
 pub loop-self-preserved : goal.loop-self-preserved
 unfolding indexes_at

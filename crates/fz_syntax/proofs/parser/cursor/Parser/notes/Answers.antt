@@ -21,7 +21,7 @@ loop-self-init c = record {
 pub returns-in_err-note-clause-read : goal.returns-in_err-note-clause-read
 returns-in_err-note-clause-read c =
     let p = err_from_is_err_and c.from_residual.result c.from_residual.ensures.1 in
-    rw (p.1, p.2) (stops c.in_err-note.field-0.0 ColonColon (any_number (note_at c.args.limits.now c.args.limits.now.depth)) _ _ _ _ _ _ refl _ c.loop-self-test.true c.eat.ensures.found c.eat.ensures.left c.loop-self.invariant.continues (rw c.depth.ensures at c.in_err-note.ensures.read))
+    rw (p.1, p.2) (stops c.in_err-note.field-0.0 ColonColon (any_number (note_at c.args.limits.now c.args.limits.now.depth)) _ _ _ _ _ refl _ c.loop-self-test.true c.eat.ensures.found c.eat.ensures.left c.loop-self.invariant.continues (rw c.depth.ensures at c.in_err-note.ensures.read))
 
 pub loop-self-preserved : goal.loop-self-preserved
 loop-self-preserved c = record {

@@ -1,13 +1,13 @@
 use Rattle.std.proofs.Common.{◌≡◌, ◌≤◌, length}
 use Rattle.fz_syntax.specs.Walk.{Passed, lexemes}
-use Rattle.fz_syntax.specs.Reading.{at_most, separated_at, whole_at, is_whole}
+use Rattle.fz_syntax.specs.Reading.{at_most, separated_at, whole_at}
 use Rattle.fz_syntax.proofs.Running.{Wants}
 use Rattle.fz_syntax.proofs.parser.cursor.Parser.numbers.Given as goal
 
 abbrev pub invariant-numbers : goal.invariant-numbers
 invariant-numbers l = record {
-  wants : Wants (at_most l.limits.elements is_whole whole_at) l.numbers.items (lexemes l.self)
-      (separated_at (at_most l.limits.elements is_whole whole_at) (lexemes l.fn.self));
+  wants : Wants (at_most l.limits.elements whole_at) l.numbers.items (lexemes l.self)
+      (separated_at (at_most l.limits.elements whole_at) (lexemes l.fn.self));
   shorter : length (lexemes l.self) ≤ length (lexemes l.fn.self);
   same_end : l.self.end ≡ l.fn.self.end;
   walked : Passed l.fn.self l.self;
@@ -18,8 +18,8 @@ decreases-numbers l = length (lexemes l.self)
 
 abbrev pub invariant-listed : goal.invariant-listed
 invariant-listed l = record {
-  wants : Wants (at_most l.limits.elements is_whole whole_at) l.numbers.items (lexemes l.self)
-      (separated_at (at_most l.limits.elements is_whole whole_at) (lexemes l.fn.self));
+  wants : Wants (at_most l.limits.elements whole_at) l.numbers.items (lexemes l.self)
+      (separated_at (at_most l.limits.elements whole_at) (lexemes l.fn.self));
   shorter : length (lexemes l.self) ≤ length (lexemes l.initial.self);
   same_end : l.self.end ≡ l.fn.self.end;
   walked : Passed l.fn.self l.self;

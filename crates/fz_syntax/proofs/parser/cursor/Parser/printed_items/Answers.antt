@@ -20,7 +20,7 @@ loop-self-init c = record {
 pub returns-in_err-item-clause-read : goal.returns-in_err-item-clause-read
 returns-in_err-item-clause-read c =
     let p = err_from_is_err_and c.from_residual.result c.from_residual.ensures.1 in
-    rw (p.1, p.2) (gathers_stop c.in_err-item.field-0.0 is_name (any_number (printed_at c.args.limits.now)) _ _ _ _ _ refl _ c.loop-self-test.true c.begins_name.ensures c.loop-self.invariant.gathers c.in_err-item.ensures.read)
+    rw (p.1, p.2) (gathers_stop c.in_err-item.field-0.0 is_name (any_number (printed_at c.args.limits.now)) _ _ _ _ refl _ c.loop-self-test.true c.begins_name.ensures c.loop-self.invariant.gathers c.in_err-item.ensures.read)
 
 pub loop-self-preserved : goal.loop-self-preserved
 loop-self-preserved c = record {

@@ -1,11 +1,19 @@
+use Rattle.std.proofs.Common.{refl}
 use Rattle.fz_tree.specs.of_lex.declared.token.Mark.TheVariants.{OpenBracket}
 use Rattle.fz_syntax.proofs.Walks.{mark_walk, walk_then}
+use Rattle.fz_syntax.proofs.ExprLaws.{listed_shrinks, literals_shrink}
 use Rattle.fz_syntax.proofs.parser.cursor.Parser.value.Goals as goal
 
-pub returns-in_ok-expr_list-in-true-Some-clause-walked : goal.returns-in_ok-expr_list-in-true-Some-clause-walked
-returns-in_ok-expr_list-in-true-Some-clause-walked c =
-    walk_then (mark_walk OpenBracket c.in_ok-expect-in-true-Some.ensures.walked c.in_ok-expect-in-true-Some.ensures.read) c.in_ok-expr_list-in-true-Some.ensures.walked
+pub returns-in_ok-list-in-true-Some-clause-walked : goal.returns-in_ok-list-in-true-Some-clause-walked
+returns-in_ok-list-in-true-Some-clause-walked c =
+    walk_then (mark_walk OpenBracket c.in_ok-expect-in-true-Some.ensures.walked c.in_ok-expect-in-true-Some.ensures.read) c.in_ok-list-in-true-Some.ensures.walked
 
-pub returns-in_ok-literal_list-in-false-Some-clause-walked : goal.returns-in_ok-literal_list-in-false-Some-clause-walked
-returns-in_ok-literal_list-in-false-Some-clause-walked c =
-    walk_then (mark_walk OpenBracket c.in_ok-expect-in-false-Some.ensures.walked c.in_ok-expect-in-false-Some.ensures.read) c.in_ok-literal_list-in-false-Some.ensures.walked
+pub returns-in_ok-list-in-false-Some-clause-walked : goal.returns-in_ok-list-in-false-Some-clause-walked
+returns-in_ok-list-in-false-Some-clause-walked c =
+    walk_then (mark_walk OpenBracket c.in_ok-expect-in-false-Some.ensures.walked c.in_ok-expect-in-false-Some.ensures.read) c.in_ok-list-in-false-Some.ensures.walked
+
+pub list-requires : goal.list-requires
+list-requires c = λ k. ((refl, tt), listed_shrinks c.args.limits.now)
+
+pub list-requires-in-false-Some : goal.list-requires-in-false-Some
+list-requires-in-false-Some c = λ k. ((refl, tt), literals_shrink c.args.limits.now)

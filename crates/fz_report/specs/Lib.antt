@@ -1,0 +1,1 @@
+pub use Rattle.fz_check.specs as of_check
