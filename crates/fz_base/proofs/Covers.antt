@@ -1,31 +1,18 @@
 -- Facts on ranges in order, and on the numbers that they cover.
-use Rattle.std.proofs.Common.{◌≡◌, ◌≤◌, ℤ, pos, ◌+ℤ◌, ◌-ℤ◌, ◌≤ℤ◌, ◌<ℤ◌, Bool, true, false, ◌&&◌, ◌||◌, ◌⊎◌, List, [], ◌∷◌, ◌++◌, length, get_or, drop, take, ℕ, zero, suc, ◌+◌, ◌<◌, refl, sym, ap, ◌∙◌, inl, inr, arith, FitsSigned, w64}
+use Rattle.std.proofs.Common.{◌≡◌, ◌≤◌, ℤ, pos, ◌+ℤ◌, ◌-ℤ◌, ◌≤ℤ◌, ◌<ℤ◌, true, false, ◌||◌, ◌⊎◌, List, [], ◌∷◌, ◌++◌, length, get_or, drop, take, ℕ, zero, suc, ◌+◌, ◌<◌, refl, sym, ap, ◌∙◌, arith, FitsSigned, w64}
 use Rattle.std.specs.Prelude.{int_le}
+use Rattle.std.proofs.Math.Bool.{or_assoc}
 use Rattle.std.proofs.lemmas.Bool.{true≢false}
 use Rattle.std.proofs.lemmas.Int.{ints}
 use Rattle.std.proofs.lemmas.List.{take_more}
 use Rattle.fz_base.specs.declared.ranges.Range.{Range}
 use Rattle.fz_base.specs.Ranges.{lowest, highest, AreInOrder, CoversOnly, EndUpTo, is_between, covers}
+-- laws of tests, which crates above cite from here
+pub use Rattle.std.proofs.Math.Bool.{and-false, and-true, or-false, or-true}
 
-pub or_assoc : (a b c : Bool) → (a || (b || c)) ≡ ((a || b) || c)
-or_assoc true b c = refl
-or_assoc false b c = refl
-
-pub or-false : (a : Bool) → (a || false) ≡ a
-or-false true = refl
-or-false false = refl
-
-pub and-false : (a : Bool) → (a && false) ≡ false
-and-false true = refl
-and-false false = refl
-
-pub and-true : (a : Bool) → (a && true) ≡ a
-and-true true = refl
-and-true false = refl
-
-pub or-true : (a : Bool) → (a || true) ≡ true
-or-true true = refl
-or-true false = refl
+-- a range to read where a list has none
+abbrev pub nowhere : Range
+nowhere = record { lo = pos 0; hi = pos 0 }
 
 -- x is below z, or not
 pub apart : (x z : ℤ) → (x <ℤ z) ⊎ (z ≤ℤ x)
@@ -72,7 +59,7 @@ ends_further d e (r ∷ rs) h b = (omega (arith, ints), ends_further d e rs h b.
 pub covers-append : (rs ss : List Range) (x : ℤ)
     → covers (rs ++ ss) x ≡ (covers rs x || covers ss x)
 covers-append [] ss x = refl
-covers-append (r ∷ rs) ss x = ap (λ b. is_between r.lo r.hi x || b) (covers-append rs ss x) ∙ or_assoc (is_between r.lo r.hi x) (covers rs x) (covers ss x)
+covers-append (r ∷ rs) ss x = ap (λ b. is_between r.lo r.hi x || b) (covers-append rs ss x) ∙ sym (or_assoc (is_between r.lo r.hi x) (covers rs x) (covers ss x))
 
 -- what the first ranges cover with one more
 pub covers_more : (rs : List Range) (k : ℕ) (d : Range) (x : ℤ) → k < length rs
@@ -134,7 +121,7 @@ module _ (f lo hi : ℤ) (old front new : List Range) (last : Range) (was : old 
       let ends : last.hi ≤ℤ lo = (ends_last lo front last (rw was at below)).1 in
       let start : last.lo ≤ℤ last.hi = parts.2.1 in
       let longer : (is_between last.lo hi x || false) ≡ ((is_between last.lo last.hi x || false) || is_between lo hi x) = grind (arith, ints) in
-      rw (is, was, covers-append, covers-append) (ap (λ b. covers front x || b) longer ∙ or_assoc (covers front x) (is_between last.lo last.hi x || false) (is_between lo hi x))
+      rw (is, was, covers-append, covers-append) (ap (λ b. covers front x || b) longer ∙ sym (or_assoc (covers front x) (is_between last.lo last.hi x || false) (is_between lo hi x)))
 
   -- a range of its own
   pub apart_in_order : new ≡ (front ++ last ∷ []) ++ record { lo = lo; hi = hi } ∷ [] → (last.hi +ℤ pos 1) <ℤ lo → AreInOrder f new
@@ -218,19 +205,19 @@ covers_end f (r ∷ rs) (suc k) d o h = rw (covers_end (r.hi +ℤ pos 2) rs k d 
 -- what is covered lies between the ends
 pub covered_from : (f x : ℤ) (rs : List Range) (d : Range) → AreInOrder f rs → covers rs x ≡ true
     → (get_or rs 0 d).lo ≤ℤ x
-covered_from f x rs d o c = elim (apart x (get_or rs 0 d).lo) [ inl h ↦ absurd (true≢false (sym c ∙ covers_before f x rs d o h)) | inr h ↦ h ]
+covered_from f x rs d o c = let before = covers_before f x rs d o in grind (arith, ints)
 
 pub covered_up_to : (f x : ℤ) (rs : List Range) (k : ℕ) (d : Range) → AreInOrder f rs
     → length rs ≡ k + 1 → covers rs x ≡ true → x ≤ℤ (get_or rs k d).hi
-covered_up_to f x rs k d o e c = elim (apart (get_or rs k d).hi x) [ inl h ↦ absurd (true≢false (sym c ∙ covers_beyond (get_or rs k d).hi x rs (ends_at_last f rs k d o e) h)) | inr h ↦ h ]
+covered_up_to f x rs k d o e c = let beyond = covers_beyond (get_or rs k d).hi x rs (ends_at_last f rs k d o e) in grind (arith, ints)
 
 -- what ranges in order cover has 64 bits
 pub covered_fits : (x : ℤ) (rs : List Range) → AreInOrder lowest rs → covers rs x ≡ true
     → FitsSigned w64 x
 covered_fits x rs o c =
-    let from : lowest ≤ℤ x = elim (apart x lowest) [ inl h ↦ absurd (true≢false (sym c ∙ covers_below lowest x rs o h)) | inr h ↦ h ] in
-    let up_to : x ≤ℤ highest = elim (apart highest x) [ inl h ↦ absurd (true≢false (sym c ∙ covers_beyond highest x rs (ends_up_to_highest lowest rs o) h)) | inr h ↦ h ] in
-    omega (arith, ints)
+    let below = covers_below lowest x rs o in
+    let beyond = covers_beyond highest x rs (ends_up_to_highest lowest rs o) in
+    grind (arith, ints)
 
 -- ---- ranges that cover one number alone
 

@@ -9,7 +9,8 @@ use Rattle.std.specs.FinSet.{contains, from_list, contains-from_list, is_subset,
 use Rattle.fz_base.specs.declared.ranges.Range.{Range}
 use Rattle.fz_base.specs.declared.ranges.Rule.{Rule}
 use Rattle.fz_base.specs.declared.ranges.Rule.TheVariants.{Union, Intersect, Minus, Symdiff}
-use Rattle.fz_base.specs.Sets.{NumberSet, numbers_between, LiesWithin, IsOnly}
+use Rattle.fz_base.specs.Sets.{NumberSet, numbers_between}
+use Rattle.fz_base.specs.Elements.{LiesWithin, IsOnly}
 use Rattle.fz_base.specs.declared.kept.Numbers.{Numbers}
 use Rattle.fz_base.specs.declared.kept.Numbers.TheVariants.{Low, Ranges}
 use Rattle.fz_base.specs.Keeping.{combined, has, set_of, AreKept}

@@ -1,5 +1,5 @@
 -- Ranges in order, with a gap between each two, are the only ones that cover what they cover.
-use Rattle.std.proofs.Common.{◌≡◌, ℤ, pos, ◌+ℤ◌, ◌≤ℤ◌, true, false, ◌||◌, List, [], ◌∷◌, refl, sym, ap, ◌∙◌, inl, inr, arith}
+use Rattle.std.proofs.Common.{◌≡◌, ℤ, pos, ◌+ℤ◌, ◌≤ℤ◌, ◌||◌, List, [], ◌∷◌, refl, sym, ap, ◌∙◌, inl, inr, arith}
 use Rattle.std.proofs.lemmas.Bool.{true≢false}
 use Rattle.std.proofs.lemmas.Int.{ints}
 use Rattle.fz_base.specs.declared.ranges.Range.{Range}
@@ -15,22 +15,20 @@ module _ (f g : ℤ) (r s : Range) (rs ss : List Range) (order : AreInOrder f (r
   -- the first number of the one is in the other
   begins_behind : s.lo ≤ℤ r.lo
   begins_behind =
-      elim (apart r.lo s.lo) [
-        | inl h ↦ absurd (true≢false (sym (in_first r rs r.lo (omega (arith, ints)) order.1) ∙ alike r.lo ∙ covers_below s.lo r.lo (s ∷ ss) (omega (arith, ints), other.1, other.2, other.3) h))
-        | inr h ↦ h
-      ]
+      let here = in_first r rs r.lo (omega (arith, ints)) order.1 in
+      let same = alike r.lo in
+      let none = covers_below s.lo r.lo (s ∷ ss) (omega (arith, ints), other.1, other.2, other.3) in
+      grind (arith, ints)
 
   -- the number behind the first range of the other is in none of the other's
   ends_before : r.lo ≡ s.lo → r.hi ≤ℤ s.hi
   ends_before same =
-      elim (apart s.hi r.hi) [
-        | inl h ↦
-            let next : ℤ = s.hi +ℤ pos 1 in
-            let here : covers (r ∷ rs) next ≡ true = in_first r rs next (omega (arith, ints)) (omega (arith, ints)) in
-            let none : covers ss next ≡ false = covers_below (s.hi +ℤ pos 2) next ss other.3 (omega (arith, ints)) in
-            absurd (true≢false (sym here ∙ alike next ∙ in_others s ss next (omega (arith, ints)) ∙ none))
-        | inr h ↦ h
-      ]
+      let next : ℤ = s.hi +ℤ pos 1 in
+      let here = in_first r rs next in
+      let alike_next = alike next in
+      let past = in_others s ss next (omega (arith, ints)) in
+      let none = covers_below (s.hi +ℤ pos 2) next ss other.3 (omega (arith, ints)) in
+      grind (arith, ints)
 
   -- the others cover the same, if the first ones are the same
   others_alike : r.hi ≡ s.hi → (x : ℤ) → covers rs x ≡ covers ss x

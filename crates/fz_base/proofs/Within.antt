@@ -1,11 +1,10 @@
 -- Whether what ranges cover is covered by others, one range after another.
-use Rattle.std.proofs.Common.{◌≡◌, ℤ, pos, ◌+ℤ◌, ◌≤ℤ◌, true, false, ◌||◌, List, [], ◌∷◌, length, get_or, drop, ◌<◌, FitsSigned, w64, sym, ap, ◌∙◌, inl, inr, arith}
+use Rattle.std.proofs.Common.{◌≡◌, ℤ, pos, ◌+ℤ◌, ◌≤ℤ◌, true, ◌||◌, List, [], ◌∷◌, length, get_or, drop, ◌<◌, FitsSigned, w64, sym, ap, ◌∙◌, arith}
 use Rattle.std.specs.Prelude.{◌↔◌}
-use Rattle.std.proofs.lemmas.Bool.{true≢false}
 use Rattle.std.proofs.lemmas.Int.{ints}
 use Rattle.fz_base.specs.declared.ranges.Range.{Range}
 use Rattle.fz_base.specs.Ranges.{lowest, AreInOrder, LiesIn, ReachesTo, is_between, covers}
-use Rattle.fz_base.proofs.Covers.{in_first, apart, between_above, covers_below, in_order_at, in_order_from, or-true}
+use Rattle.fz_base.proofs.Covers.{in_first, covers_below, in_order_at, in_order_from, or-true}
 
 -- ---- the ranges that reach to a number
 
@@ -26,16 +25,12 @@ pub not_all : (rs : List Range) (d : Range) (lo hi : ℤ) → 0 < length rs → 
     → ((x : ℤ) → lo ≤ℤ x → x ≤ℤ hi → covers rs x ≡ true) → ⊥
 not_all [] d lo hi some order ahead le not_both all = absurd (omega arith)
 not_all (r ∷ rs) d lo hi some order ahead le not_both all =
-    elim (apart lo r.lo) [
-      | inl h ↦ true≢false (sym (all lo (omega (arith, ints)) le) ∙ covers_below r.lo lo (r ∷ rs) (omega (arith, ints), order.1, order.2, order.3) h)
-      | inr h ↦ elim (apart r.hi hi) [
-        | inl k ↦
-            let next : ℤ = r.hi +ℤ pos 1 in
-            let none : covers (r ∷ rs) next ≡ false = ap (λ b. b || covers rs next) (between_above r.lo r.hi next (omega (arith, ints))) ∙ covers_below (r.hi +ℤ pos 2) next rs order.3 (omega (arith, ints)) in
-            true≢false (sym (all next (omega (arith, ints)) (omega (arith, ints))) ∙ none)
-        | inr k ↦ not_both h k
-      ]
-    ]
+    let next : ℤ = r.hi +ℤ pos 1 in
+    let first = all lo (omega (arith, ints)) le in
+    let before = covers_below r.lo lo (r ∷ rs) (omega (arith, ints), order.1, order.2, order.3) in
+    let behind = all next in
+    let none = covers_below (r.hi +ℤ pos 2) next rs order.3 (omega (arith, ints)) in
+    grind (arith, ints)
 
 -- ---- one range after another
 
@@ -55,7 +50,7 @@ module _ (ss left : List Range) where
   -- what is covered begins at the first range
   begins : (r : Range) (rs : List Range) (x : ℤ) → AreInOrder lowest (r ∷ rs)
       → covers (r ∷ rs) x ≡ true → r.lo ≤ℤ x
-  begins r rs x o h = elim (apart x r.lo) [ inl k ↦ absurd (true≢false (sym h ∙ covers_below r.lo x (r ∷ rs) (omega (arith, ints), o.1, o.2, o.3) k)) | inr k ↦ k ]
+  begins r rs x o h = let before = covers_below r.lo x (r ∷ rs) (omega (arith, ints), o.1, o.2, o.3) in grind (arith, ints)
 
   pub lies_in_more : (rs : List Range) (d : Range) → 0 < length rs → AreInOrder lowest rs
       → ((x : ℤ) → (get_or rs 0 d).lo ≤ℤ x → covers left x ≡ covers ss x)
@@ -64,15 +59,15 @@ module _ (ss left : List Range) where
   lies_in_more (r ∷ rs) d some order alike all = (
     λ later x h.
         let from : r.lo ≤ℤ x = begins r rs x order h in
-        sym (alike x from)
-        ∙ (elim (apart r.hi x) [
-          | inl k ↦ later x (sym (ap (λ b. b || covers rs x) (between_above r.lo r.hi x k)) ∙ h)
-          | inr k ↦ all x from k
-        ]),
+        sym (alike x from) ∙ here x from h (later x),
     λ whole x h.
         let in_all : covers (r ∷ rs) x ≡ true = ap (λ b. is_between r.lo r.hi x || b) h ∙ or-true (is_between r.lo r.hi x) in
         alike x (begins r rs x order in_all) ∙ whole x in_all,
   )
+    where
+      here : (x : ℤ) → r.lo ≤ℤ x → covers (r ∷ rs) x ≡ true → (covers rs x ≡ true → covers left x ≡ true)
+          → covers left x ≡ true
+      here x from h later = let in_first = all x from in grind (arith, ints)
 
   pub lies_not_in : (rs : List Range) (d : Range) → 0 < length rs
       → ((x : ℤ) → (get_or rs 0 d).lo ≤ℤ x → covers left x ≡ covers ss x)

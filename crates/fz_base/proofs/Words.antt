@@ -1,11 +1,11 @@
 -- The bits of a word as a set of numbers.
-use Rattle.std.proofs.Common.{◌≡◌, ◌<◌, ◌^◌, ◌+◌, ◌-◌, ◌*◌, ◌/◌, ◌%◌, ℕ, zero, suc, min, max, ℤ, pos, negsuc, ◌≤ℤ◌, ◌-ℤ◌, nat_abs, Bool, true, false, not, ◌&&◌, ◌||◌, ◌==◌, ◌↔◌, ltb, List, [], ◌∷◌, cond, filter, length, refl, sym, ap, ◌∙◌, inl, inr, arith, bit_and, bit_or, bit_xor, count_ones, FitsSigned, w64, pow-suc}
+use Rattle.std.proofs.Common.{◌≡◌, ◌<◌, ◌^◌, ◌+◌, ◌-◌, ◌*◌, ◌/◌, ◌%◌, ℕ, zero, suc, ℤ, pos, negsuc, ◌≤ℤ◌, ◌-ℤ◌, nat_abs, Bool, true, false, not, ◌&&◌, ◌||◌, ◌==◌, ◌↔◌, List, [], ◌∷◌, cond, filter, length, refl, sym, ap, ◌∙◌, inl, inr, arith, bit_and, bit_or, bit_xor, count_ones, FitsSigned, w64, pow-suc}
 use Rattle.std.specs.Int.{bit_at}
 use Rattle.std.specs.List.{list_any}
 use Rattle.std.specs.Ordering.{int_eq}
 use Rattle.std.specs.Cmp.{int_cmp_total, both_ways}
 use Rattle.std.specs.FinSet.{contains, contains-from_list, len}
-use Rattle.std.proofs.lemmas.Bool.{true≢false, ltb-true, lt-ltb, cases_lt, cases_eq, and_parts}
+use Rattle.std.proofs.lemmas.Bool.{lt-ltb, cases_lt, cases_eq, and_parts}
 use Rattle.std.proofs.lemmas.Bool.Decides.{Decides-int_eq, nat_tests}
 use Rattle.std.proofs.lemmas.Int.{ints}
 use Rattle.std.specs.Int.{int_max, int_min}
@@ -15,61 +15,30 @@ use lib.Count.{ones-le, ones_step}
 use Rattle.fz_base.specs.Bits.{has_bit, numbers_of_bits}
 use Rattle.fz_base.specs.Ranges.{is_between}
 use Rattle.fz_base.specs.Sets.{counting_from}
-use Rattle.fz_base.proofs.Covers.{and-false, and-true, between_yes}
+use Rattle.fz_base.proofs.Covers.{between_yes}
 use Rattle.fz_base.proofs.Numbers.{list_any-counting_from, len-from_list, Rise-filter, Rise-counting_from}
-
--- ---- one bit of what is made of two words
-
-or_bit : (p q : ℕ) → p < 2 → q < 2 → (max p q == 1) ≡ ((p == 1) || (q == 1))
-or_bit p q h k = grind (arith, nat_tests)
-
-and_bit : (p q : ℕ) → p < 2 → q < 2 → (min p q == 1) ≡ ((p == 1) && (q == 1))
-and_bit p q h k = grind (arith, nat_tests)
-
-minus_bit : (p q : ℕ) → p < 2 → q < 2 → (min p (1 - q) == 1) ≡ ((p == 1) && not (q == 1))
-minus_bit p q h k = grind (arith, nat_tests)
-
-xor_bit : (p q : ℕ) → p < 2 → q < 2
-    → ((p + q) % 2 == 1) ≡ (((p == 1) && not (q == 1)) || ((q == 1) && not (p == 1)))
-xor_bit p q h k = grind (arith, nat_tests)
-
-same_bit : (p q : ℕ) → p < 2 → q < 2 → (p == 1) ≡ (q == 1) → p ≡ q
-same_bit p q h k e = grind (arith, nat_tests)
 
 -- ---- the result of an operation on two words
 
-under : (b p q r : Bool) → (b ≡ true → r ≡ (p || q)) → (b && r) ≡ ((b && p) || (b && q))
-under b p q r h = grind (arith, nat_tests)
-
 pub has_or : (a b : ℕ) (x : ℤ) → has_bit (bit_or a b) x ≡ (has_bit a x || has_bit b x)
-has_or a b (pos n) = under (ltb n 64) (bit_at a n == 1) (bit_at b n == 1) (bit_at (bit_or a b) n == 1) (λ _. ap (λ d. d == 1) (bit_at_or a b n) ∙ or_bit (bit_at a n) (bit_at b n) (bit_at-lt a n) (bit_at-lt b n))
+has_or a b (pos n) = grind (arith, nat_tests, bit_at_or a b n, bit_at-lt a n, bit_at-lt b n)
 has_or a b (negsuc n) = refl
 
-both : (b p q r : Bool) → (b ≡ true → r ≡ (p && q)) → (b && r) ≡ ((b && p) && (b && q))
-both b p q r h = grind (arith, nat_tests)
-
 pub has_and : (a b : ℕ) (x : ℤ) → has_bit (bit_and a b) x ≡ (has_bit a x && has_bit b x)
-has_and a b (pos n) = both (ltb n 64) (bit_at a n == 1) (bit_at b n == 1) (bit_at (bit_and a b) n == 1) (λ _. ap (λ d. d == 1) (bit_at_and a b n) ∙ and_bit (bit_at a n) (bit_at b n) (bit_at-lt a n) (bit_at-lt b n))
+has_and a b (pos n) = grind (arith, nat_tests, bit_at_and a b n, bit_at-lt a n, bit_at-lt b n)
 has_and a b (negsuc n) = refl
-
-without : (b p q r : Bool) → (b ≡ true → r ≡ (p && not q)) → (b && r) ≡ ((b && p) && not (b && q))
-without b p q r h = grind (arith, nat_tests)
 
 pub has_minus : (a b : ℕ) (x : ℤ) → b < 2 ^ 64
     → has_bit (bit_and a (18446744073709551615 - b)) x ≡ (has_bit a x && not (has_bit b x))
 has_minus a b (pos n) h =
-    without (ltb n 64) (bit_at a n == 1) (bit_at b n == 1) (bit_at (bit_and a (18446744073709551615 - b)) n == 1) (λ low.
-    ap (λ d. d == 1) (bit_at_and a (18446744073709551615 - b) n ∙ ap (min (bit_at a n)) (bit_at_not w64 b n h (ltb-true n 64 low)))
-    ∙ minus_bit (bit_at a n) (bit_at b n) (bit_at-lt a n) (bit_at-lt b n))
+    let part = bit_at_and a (18446744073709551615 - b) n in
+    let other : n < 64 → bit_at (18446744073709551615 - b) n ≡ 1 - bit_at b n = bit_at_not w64 b n h in
+    grind (arith, nat_tests, bit_at-lt a n, bit_at-lt b n)
 has_minus a b (negsuc n) h = refl
-
-either : (b p q r : Bool) → (b ≡ true → r ≡ ((p && not q) || (q && not p)))
-    → (b && r) ≡ (((b && p) && not (b && q)) || ((b && q) && not (b && p)))
-either b p q r h = grind (arith, nat_tests)
 
 pub has_xor : (a b : ℕ) (x : ℤ) → has_bit (bit_xor a b) x
     ≡ ((has_bit a x && not (has_bit b x)) || (has_bit b x && not (has_bit a x)))
-has_xor a b (pos n) = either (ltb n 64) (bit_at a n == 1) (bit_at b n == 1) (bit_at (bit_xor a b) n == 1) (λ _. ap (λ d. d == 1) (bit_at_xor a b n) ∙ xor_bit (bit_at a n) (bit_at b n) (bit_at-lt a n) (bit_at-lt b n))
+has_xor a b (pos n) = grind (arith, nat_tests, bit_at_xor a b n, bit_at-lt a n, bit_at-lt b n)
 has_xor a b (negsuc n) = refl
 
 pub ruleset operations = (has_or, has_and, has_minus, has_xor)
@@ -77,48 +46,42 @@ pub ruleset operations = (has_or, has_and, has_minus, has_xor)
 -- ---- words with the same numbers
 
 pub same_words : (a b : ℕ) → a < 2 ^ 64 → b < 2 ^ 64 → ((x : ℤ) → has_bit a x ≡ has_bit b x) → a ≡ b
-same_words a b h k alike =
-    same_from_bits_below 64 a b h k (λ i low. same_bit (bit_at a i) (bit_at b i) (bit_at-lt a i) (bit_at-lt b i) (strip (ltb i 64) _ _ (lt-ltb i 64 low) (alike (pos i))))
+same_words a b h k alike = same_from_bits_below 64 a b h k same
   where
-    strip : (b p q : Bool) → b ≡ true → (b && p) ≡ (b && q) → p ≡ q
-    strip true p q t e = e
-    strip false p q t e = absurd (true≢false (sym t))
+    same : (i : ℕ) → i < 64 → bit_at a i ≡ bit_at b i
+    same i low = grind (arith, nat_tests, bit_at-lt a i, bit_at-lt b i, alike (pos i))
 
 pub has_none : (x : ℤ) → has_bit 0 x ≡ false
-has_none (pos n) = ap (λ d. ltb n 64 && (d == 1)) (bit_at-zero n) ∙ and-false (ltb n 64)
+has_none (pos n) = grind (arith, nat_tests, bit_at-zero n)
 has_none (negsuc n) = refl
 
 -- what is in the one and not in the other is nothing
-nothing_over : (p q : Bool) → (p && not q) ≡ false → p ≡ true → q ≡ true
-nothing_over p q e t = grind (arith, nat_tests)
-
-all_under : (p q : Bool) → (p ≡ true → q ≡ true) → (p && not q) ≡ false
-all_under p q h = grind (arith, nat_tests)
-
 pub covered_words : (a b : ℕ) → b < 2 ^ 64 → bit_and a (18446744073709551615 - b) ≡ 0 → (x : ℤ)
     → has_bit a x ≡ true → has_bit b x ≡ true
 covered_words a b h e x in_a = nothing_over (has_bit a x) (has_bit b x) (sym (has_minus a b x h) ∙ ap (λ w. has_bit w x) e ∙ has_none x) in_a
+  where
+    nothing_over : (p q : Bool) → (p && not q) ≡ false → p ≡ true → q ≡ true
+    nothing_over p q e t = grind (arith, nat_tests)
 
 pub words_covered : (a b : ℕ) → a < 2 ^ 64 → b < 2 ^ 64
     → ((x : ℤ) → has_bit a x ≡ true → has_bit b x ≡ true) → bit_and a (18446744073709551615 - b) ≡ 0
 words_covered a b h k all =
     same_words (bit_and a (18446744073709551615 - b)) 0 (omega (arith, and_le_l a (18446744073709551615 - b))) (omega arith) (λ x. has_minus a b x k ∙ all_under (has_bit a x) (has_bit b x) (all x) ∙ sym (has_none x))
+  where
+    all_under : (p q : Bool) → (p ≡ true → q ≡ true) → (p && not q) ≡ false
+    all_under p q h = grind (arith, nat_tests)
 
 -- ---- one number, and the numbers between two
 
-apart_numbers : (n k : ℕ) → (n ≡ k → ⊥) → int_eq (pos n) (pos k) ≡ false
-apart_numbers n k h = grind (arith, ints)
-
-same_number : (k : ℕ) → int_eq (pos k) (pos k) ≡ true
-same_number k = grind (arith, ints)
-
 pub has_one : (k : ℕ) (x : ℤ) → k < 64 → has_bit (2 ^ k) x ≡ int_eq x (pos k)
 has_one k (pos n) h =
+    let own = bit_at-pow_same k in
+    let other = bit_at-pow_other k n in
     elim (cases_eq n k) [
-      | inl e ↦ ap (λ (m : ℕ). has_bit (2 ^ k) (pos m)) e ∙ (λ i. lt-ltb k 64 h i && (bit_at-pow_same k i == 1)) ∙ sym (same_number k) ∙ ap (λ (m : ℕ). int_eq (pos m) (pos k)) (sym e)
-      | inr d ↦ ap (λ w. ltb n 64 && (w == 1)) (bit_at-pow_other k n d) ∙ and-false (ltb n 64) ∙ sym (apart_numbers n k d)
+      | inl e ↦ rw e (grind (arith, ints, nat_tests))
+      | inr d ↦ grind (arith, ints, nat_tests)
     ]
-has_one k (negsuc n) h = let other : int_eq (negsuc n) (pos k) ≡ false = grind (arith, ints) in sym other
+has_one k (negsuc n) h = grind (arith, ints)
 
 pub has_with : (bits k : ℕ) (x : ℤ) → k < 64 → has_bit
     (bit_or bits (1 * 2 ^ k % 18446744073709551616)) x ≡ (has_bit bits x || int_eq x (pos k))
@@ -128,33 +91,21 @@ has_with bits k x h = ap (λ w. has_bit (bit_or bits w) x) (one_shl k 64 h) ∙ 
 pub has_up_to : (k : ℕ) (x : ℤ) → k < 64
     → has_bit (2 ^ (k + 1) - 1) x ≡ is_between (pos 0) (pos k) x
 has_up_to k (pos n) h =
-    elim (cases_lt n (k + 1)) [
-      | inl low ↦
-          let within : is_between (pos 0) (pos k) (pos n) ≡ true = grind (arith, ints) in
-          (λ i. lt-ltb n 64 (omega arith) i && (bit_at_ones (k + 1) n low i == 1)) ∙ sym within
-      | inr high ↦
-          let outside : is_between (pos 0) (pos k) (pos n) ≡ false = grind (arith, ints) in
-          ap (λ w. ltb n 64 && (w == 1)) (bit_at_ones_above (k + 1) n high) ∙ and-false (ltb n 64) ∙ sym outside
-    ]
-has_up_to k (negsuc n) h = let outside : is_between (pos 0) (pos k) (negsuc n) ≡ false = grind (arith, ints) in sym outside
+    let below = bit_at_ones (k + 1) n in
+    let above = bit_at_ones_above (k + 1) n in
+    elim (cases_lt n (k + 1)) [ inl low ↦ grind (arith, ints, nat_tests) | inr high ↦ grind (arith, ints, nat_tests) ]
+has_up_to k (negsuc n) h = grind (arith, ints)
 
 -- the numbers from one on
 pub has_from : (k : ℕ) (x : ℤ) → k < 64 → has_bit (2 ^ 64 - 2 ^ k) x ≡ is_between (pos k) (pos 63) x
 has_from k (pos n) h =
+    let below = bit_at_mask_below k 64 n in
+    let inside = bit_at_mask_inside k 64 n in
     elim (cases_lt n k) [
-      | inl low ↦
-          let outside : is_between (pos k) (pos 63) (pos n) ≡ false = grind (arith, ints) in
-          ap (λ w. ltb n 64 && (w == 1)) (bit_at_mask_below k 64 n low) ∙ and-false (ltb n 64) ∙ sym outside
-      | inr from ↦ elim (cases_lt n 64) [
-        | inl low ↦
-            let within : is_between (pos k) (pos 63) (pos n) ≡ true = grind (arith, ints) in
-            (λ i. lt-ltb n 64 low i && (bit_at_mask_inside k 64 n from low i == 1)) ∙ sym within
-        | inr high ↦
-            let outside : is_between (pos k) (pos 63) (pos n) ≡ false = grind (arith, ints) in
-            (elim (ltb n 64) as (λ b. ltb n 64 ≡ b → (b && (bit_at (2 ^ 64 - 2 ^ k) n == 1)) ≡ false) [ true ↦ λ t. let bad : n < 64 = ltb-true n 64 t in absurd (omega arith) | false ↦ λ _. refl ]) refl ∙ sym outside
-      ]
+      | inl low ↦ grind (arith, ints, nat_tests)
+      | inr from ↦ elim (cases_lt n 64) [ inl low ↦ grind (arith, ints, nat_tests) | inr high ↦ grind (arith, ints, nat_tests) ]
     ]
-has_from k (negsuc n) h = let outside : is_between (pos k) (pos 63) (negsuc n) ≡ false = grind (arith, ints) in sym outside
+has_from k (negsuc n) h = grind (arith, ints)
 
 -- ---- the numbers of a list that a test keeps
 
@@ -166,16 +117,8 @@ is_listed-filter : (p : ℤ → Bool) (xs : List ℤ) (q : ℤ)
     → is_listed (filter p xs) q ≡ (is_listed xs q && p q)
 is_listed-filter p [] q = refl
 is_listed-filter p (x ∷ xs) q =
-    elim (p x) as (λ b. p x ≡ b → is_listed (cond b (x ∷ filter p xs) (filter p xs)) q ≡ ((int_eq q x || is_listed xs q) && p q)) [
-      | true ↦ λ passes. elim (int_eq q x) as (λ e. int_eq q x ≡ e → (e || is_listed (filter p xs) q) ≡ ((e || is_listed xs q) && p q)) [
-        | true ↦ λ same. sym (ap p ((Decides-int_eq q x).0 same) ∙ passes)
-        | false ↦ λ _. is_listed-filter p xs q
-      ] refl
-      | false ↦ λ fails. elim (int_eq q x) as (λ e. int_eq q x ≡ e → is_listed (filter p xs) q ≡ ((e || is_listed xs q) && p q)) [
-        | true ↦ λ same. let out : p q ≡ false = ap p ((Decides-int_eq q x).0 same) ∙ fails in is_listed-filter p xs q ∙ rw out (and-false (is_listed xs q))
-        | false ↦ λ _. is_listed-filter p xs q
-      ] refl
-    ] refl
+    let same = (Decides-int_eq q x).0 in
+    grind (arith, is_listed-filter p xs q)
 
 -- ---- the set of a word
 
@@ -207,9 +150,7 @@ counted_bits bits n (suc k) h e =
   where
     one_more : (d : ℕ) → d < 2 → (xs : List ℤ)
         → length (cond (d == 1) (pos n ∷ xs) xs) ≡ d + length xs
-    one_more zero h xs = omega arith
-    one_more (suc zero) h xs = omega arith
-    one_more (suc (suc d)) h xs = absurd (omega arith)
+    one_more d h xs = grind (arith, nat_tests)
 
 pub len-numbers_of_bits : (bits : ℕ) → bits < 2 ^ 64 → count_ones bits ≡ len (numbers_of_bits bits)
 unfolding numbers_of_bits
@@ -284,7 +225,7 @@ within_cut bits cut lo hi is r h = (
     ends x e = (grind (arith, ints), grind (arith, ints))
 
     low : (x : ℤ) → has_bit bits x ≡ true → is_between (pos 0) (pos 63) x ≡ true
-    low x e = sym (and-true (is_between (pos 0) (pos 63) x)) ∙ ap (λ b. is_between (pos 0) (pos 63) x && b) (sym e) ∙ has_low bits x ∙ e
+    low x e = grind (arith, has_low bits x)
 
 -- ---- spreading a word out, one number after another
 
@@ -297,9 +238,6 @@ has_less rest t x h =
     ∙ has_minus rest (2 ^ t) x (pow_below t 64 h)
     ∙ ap (λ b. has_bit rest x && not b) (has_one t x h)
 
-one_moved : (b r e : Bool) → (e ≡ true → b ≡ true) → ((b && not r) || e) ≡ (b && not (r && not e))
-one_moved b r e h = grind (arith, nat_tests)
-
 module _ (bits rest t : ℕ) (small : t < 64) (set : bit_at rest t ≡ 1) (first : (i : ℕ) → i < t → bit_at rest i ≡ 0) (part : (x : ℤ) → has_bit rest x ≡ true → has_bit bits x ≡ true) where
   pub in_rest : has_bit rest (pos t) ≡ true
   in_rest = λ i. lt-ltb t 64 small i && (set i == 1)
@@ -308,25 +246,17 @@ module _ (bits rest t : ℕ) (small : t < 64) (set : bit_at rest t ≡ 1) (first
       ≡ (has_bit bits x && not (has_bit
       (bit_and rest (18446744073709551615 - 1 * 2 ^ t % 18446744073709551616)) x))
   spread_more x =
-      one_moved (has_bit bits x) (has_bit rest x) (int_eq x (pos t)) (λ e. let same : x ≡ pos t = (Decides-int_eq x (pos t)).0 e in ap (has_bit bits) same ∙ part (pos t) in_rest)
-      ∙ ap (λ b. has_bit bits x && not b) (sym (has_less rest t x small))
+      let own : int_eq x (pos t) ≡ true → has_bit bits x ≡ true = λ e. rw ((Decides-int_eq x (pos t)).0 e) (part (pos t) in_rest) in
+      grind (arith, has_less rest t x small)
 
   pub part_less : (x : ℤ) → has_bit (bit_and rest
       (18446744073709551615 - 1 * 2 ^ t % 18446744073709551616)) x ≡ true → has_bit bits x ≡ true
-  part_less x e = part x (and_parts (has_bit rest x) (not (int_eq x (pos t))) (sym (has_less rest t x small) ∙ e)).0
+  part_less x e = grind (arith, has_less rest t x small, part x)
 
   -- what is left lies above
   pub above_lowest : (k : ℕ) → has_bit (bit_and rest
       (18446744073709551615 - 1 * 2 ^ t % 18446744073709551616)) (pos k) ≡ true → t < k
-  above_lowest k e =
-      let parts = and_parts (has_bit rest (pos k)) (not (int_eq (pos k) (pos t))) (sym (has_less rest t (pos k) small) ∙ e) in
-      elim (cases_lt k t) [
-        | inl low ↦ absurd (true≢false (sym (and_parts (ltb k 64) (bit_at rest k == 1) parts.0).1 ∙ ap (λ d. d == 1) (first k low)))
-        | inr from ↦ elim (cases_lt t k) [
-          | inl above ↦ above
-          | inr up ↦ let same : k ≡ t = omega arith in absurd (true≢false (sym parts.1 ∙ ap not (ap (λ (n : ℕ). int_eq (pos n) (pos t)) same ∙ same_number t)))
-        ]
-      ]
+  above_lowest k e = grind (arith, ints, nat_tests, has_less rest t (pos k) small, first k)
 
   -- a word with a number less is less
   pub rest_less : rest < 2 ^ 64 → bit_and rest

@@ -5,13 +5,9 @@
 --     NumberSet      a finite set of integers
 --     numbers_between lo hi      the value of the range lo..hi
 --     symmetric_difference s t      what is in exactly one of the two: `set_symdiff`
---     LiesWithin lo hi s      each element of s is from lo to hi
---     Has64Bits s      each element of s is a number of 64 bits
---     IsOnly n s      n is an element of s, and the only one
-use Rattle.std.specs.Prelude.{ℕ, zero, suc, ℤ, pos, negsuc, ◌+ℤ◌, ◌-ℤ◌, ◌≤ℤ◌, ◌≡◌, ◌↔◌, true, List, [], ◌∷◌, FitsSigned}
-use Rattle.std.specs.Int.{w64}
+use Rattle.std.specs.Prelude.{ℕ, zero, suc, ℤ, pos, negsuc, ◌+ℤ◌, ◌-ℤ◌, List, [], ◌∷◌}
 use Rattle.std.specs.Ordering.{int_cmp}
-use Rattle.std.specs.FinSet.{FinSet, contains, from_list, union, difference}
+use Rattle.std.specs.FinSet.{FinSet, from_list, union, difference}
 
 -- a finite set of integers
 abbrev pub NumberSet : Type 0
@@ -39,15 +35,3 @@ numbers_between lo hi = from_list (counting_from lo (count_between lo hi))
 -- what is an element of exactly one of the two
 abbrev pub symmetric_difference : NumberSet → NumberSet → NumberSet
 symmetric_difference s t = union (difference s t) (difference t s)
-
--- each element is from lo to hi
-abbrev pub LiesWithin : ℤ → ℤ → NumberSet → Type 0
-LiesWithin lo hi s = (x : ℤ) → contains s x ≡ true → (lo ≤ℤ x) × (x ≤ℤ hi)
-
--- each element is from -2^63 to 2^63 - 1 (this project's profile: an integer has 64 bits)
-abbrev pub Has64Bits : NumberSet → Type 0
-Has64Bits s = (x : ℤ) → contains s x ≡ true → FitsSigned w64 x
-
--- it is an element, and there is no other
-abbrev pub IsOnly : ℤ → NumberSet → Type 0
-IsOnly n s = (x : ℤ) → (contains s x ≡ true) ↔ (x ≡ n)

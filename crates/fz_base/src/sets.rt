@@ -3,7 +3,8 @@ ghost use Rattle.std.specs.Prelude.{◌≡◌, ◌≤◌, ◌^◌, ◌↔◌, �
 ghost use Rattle.std.specs.FinSet as set;
 ghost use Rattle.fz_base.specs.Keeping.{combined, has, set_of, AreKept};
 ghost use Rattle.fz_base.specs.Ranges.{lowest, AreInOrder, covers};
-ghost use Rattle.fz_base.specs.Sets.{numbers_between, symmetric_difference, LiesWithin, Has64Bits, IsOnly};
+ghost use Rattle.fz_base.specs.Sets.{numbers_between, symmetric_difference};
+ghost use Rattle.fz_base.specs.Elements.{LiesWithin, Has64Bits, IsOnly};
 
 use crate::kept::{self, Numbers};
 use crate::ranges::{Range, Rule};

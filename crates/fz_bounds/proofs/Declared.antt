@@ -3,7 +3,8 @@ use Rattle.std.proofs.Common.{◌≡◌, ℕ, zero, suc, ℤ, ◌≤ℤ◌, true
 use Rattle.std.proofs.lemmas.Option.{same_Some}
 use Rattle.std.specs.FinSet.{contains}
 use Rattle.std.specs.List.{AllByRecursion}
-use Rattle.fz_base.specs.Sets.{LiesWithin, NumberSet}
+use Rattle.fz_base.specs.Sets.{NumberSet}
+use Rattle.fz_base.specs.Elements.{LiesWithin}
 use Rattle.fz_base.specs.declared.value.Value.{Value}
 use Rattle.fz_model.specs.declared.Kind.{Kind}
 use Rattle.fz_model.specs.declared.Kind.TheVariants.{Int as IntKind, Bool as BoolKind, Set as SetKind}

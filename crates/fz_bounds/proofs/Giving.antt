@@ -1,7 +1,8 @@
 -- Another value of a variable.
 use Rattle.std.proofs.Common.{◌≡◌, ℕ, zero, suc, ◌≤◌, [], ◌∷◌, length, Option, Some, refl, sym, ap, arith, slice_set}
 use Rattle.fz_base.specs.declared.value.Value.{Value}
-use Rattle.fz_model.specs.Meaning.{Partial, give, value_at}
+use Rattle.fz_model.specs.Meaning.{Partial, value_at}
+use Rattle.fz_model.specs.Steps.{give}
 use Rattle.fz_model.specs.Partial.{without}
 use Rattle.fz_model.specs.Openings.{HasEach}
 

@@ -6,7 +6,8 @@ use Rattle.fz_base.specs.declared.value.Value.TheVariants.{Int, Bool as Truth, S
 use Rattle.fz_model.specs.Relations.{◌=ˢ◌}
 use Rattle.fz_model.specs.declared.Kind.{Kind}
 use Rattle.fz_model.specs.declared.Kind.TheVariants.{Int as IntKind, Bool as BoolKind, Set as SetKind}
-use Rattle.fz_model.specs.Meaning.{Assignment, Partial, give, value_at, whole}
+use Rattle.fz_model.specs.Meaning.{Assignment, Partial, value_at, whole}
+use Rattle.fz_model.specs.Steps.{give}
 use Rattle.fz_model.proofs.Values.{no, same_set_is, set_itself}
 use Rattle.fz_model.proofs.Steps.{value_at_given, value_at_other}
 use Rattle.fz_model.specs.Openings.{HasEach}

@@ -7,7 +7,8 @@ use Rattle.fz_model.specs.Relations.{◌=ˢ◌, kind_of}
 use Rattle.fz_model.specs.declared.Kind.{Kind}
 use Rattle.fz_model.specs.declared.Kind.TheVariants.{Int as IntKind, Bool as BoolKind, Set as SetKind}
 use Rattle.fz_model.specs.declared.Domain.{Domain}
-use Rattle.fz_model.specs.Meaning.{Assignment, Model, Partial, Point, give, inside, points, value_at, whole}
+use Rattle.fz_model.specs.Meaning.{Assignment, Model, Partial, Point, inside, points, value_at, whole}
+use Rattle.fz_model.specs.Steps.{give}
 use Rattle.fz_model.specs.Meaning.Point.{DomainPoint, DefinitionPoint, ArrayPoint, ConstraintPoint}
 use Rattle.fz_model.specs.States.{HoldsIfKnown}
 use Rattle.fz_model.specs.Openings.{HasEach}

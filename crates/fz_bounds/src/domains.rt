@@ -2,7 +2,7 @@
 
 ghost use Rattle.std.specs.Prelude.{◌≡◌, ℤ, int_le, IfSome, IsTrue};
 ghost use Rattle.fz_base.specs.declared.value.Value.{Value as Held};
-ghost use Rattle.fz_base.specs.Sets.{LiesWithin};
+ghost use Rattle.fz_base.specs.Elements.{LiesWithin};
 ghost use Rattle.fz_model.specs.Relations.{kind_of};
 ghost use Rattle.fz_model.specs.Meaning.{admits, inside};
 ghost use Rattle.fz_bounds.specs.Bounds.{is_at_most};

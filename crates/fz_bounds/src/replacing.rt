@@ -1,7 +1,7 @@
 //! Another value for a variable.
 
 ghost use Rattle.std.specs.Prelude.{◌≡◌};
-ghost use Rattle.fz_model.specs.Meaning.{give};
+ghost use Rattle.fz_model.specs.Steps.{give};
 
 use fz_base::Value;
 use fz_model::Partial;

@@ -1,7 +1,7 @@
 -- Where a stream is cut that ends inside a block, and what is judged of it.
 use Rattle.std.proofs.Common.{◌≡◌, ◌≢◌, ℕ, ◌+◌, Bool, true, false, cond, List, [], ◌∷◌, ◌++◌, length, Option, Some, None, Result, Ok, Err, inl, inr, ◌⊎◌, refl, sym, ap, ◌∙◌, subst, append_assoc, append-nil, arith}
 use Rattle.std.proofs.lemmas.Bool.{ne_eqb, eq-eqb, cases_eq, false≢true}
-use Rattle.std.specs.List.{AllByRecursion}
+use Rattle.std.specs.List.{AllByRecursion, onto_first}
 use Rattle.std.specs.Prelude.{IfErr}
 use Rattle.std.specs.Io.KnownBytes.{IsAtEnd}
 use Rattle.fz_base.specs.declared.span.Span.{Span}
@@ -10,8 +10,8 @@ use Rattle.fz_judge.specs.of_stream.declared.error.StreamError.TheVariants as st
 use Rattle.fz_judge.specs.of_stream.declared.line.LineKind.{LineKind}
 use Rattle.fz_judge.specs.of_stream.declared.line.LineKind.TheVariants.{Blank, Comment, Marker, Claim, Item}
 use Rattle.fz_judge.specs.of_stream.Broken.{BreaksAfter, CannotEnd, IsBrokenAtEndAfter}
-use Rattle.fz_judge.specs.of_stream.Parts.{Line, lines_of, onto_first, joined, kind_of, EndsWithFeed, IsFiller, IsFillerKind, IsInner, IsInnerKind, Frame, BlockFrame, ClaimFrame, StreamPart, frame_of, AreBlockLines, Closes, AreLinesOfFrame, AreLinesOf, Covers, IsFramed, IsStreamTextWithin}
-use Rattle.fz_judge.specs.of_stream.Splitting.{EndsLast}
+use Rattle.fz_judge.specs.of_stream.Parts.{Line, lines_of, joined, kind_of, IsFiller, IsFillerKind, IsInner, IsInnerKind, Frame, BlockFrame, ClaimFrame, StreamPart, frame_of, AreBlockLines, Closes, AreLinesOfFrame, AreLinesOf, Covers, IsFramed, IsStreamTextWithin}
+use Rattle.fz_judge.specs.of_stream.Splitting.{EndsLast, EndsWithFeed}
 use Rattle.fz_judge.specs.of_stream.Telling.{IsNoneOrClaim, first_kind}
 use Rattle.fz_judge.specs.of_syntax.Limits.{Limits}
 use Rattle.fz_judge.proofs.of_stream.PartLemmas.{into_frames, two_parts}

@@ -2,7 +2,8 @@
 use Rattle.std.proofs.Common.{◌≡◌, List, [], ◌∷◌, ◌++◌, refl, ap, sym, ◌∙◌}
 use Rattle.std.specs.Option.{option_or}
 use Rattle.std.proofs.lemmas.List.{map-append}
-use Rattle.fz_judge.specs.of_model.Names.{HasNoFault, kinds, scalar_kind, fault_at_decl, decl_fault, decls_fault, constraints_fault, goal_fault, first_fault}
+use Rattle.fz_judge.specs.of_model.Meaning.{first_some}
+use Rattle.fz_judge.specs.of_model.Names.{HasNoFault, kinds, scalar_kind, fault_at_decl, decl_fault, decls_fault, constraint_fault, goal_fault, first_fault}
 use Rattle.fz_judge.specs.of_model.Located.{Decl, LocatedTree}
 use Rattle.fz_check.specs.Outputs.{printed_decl, with_all_printed}
 use Rattle.fz_check.proofs.Same.{printed, looked_up}
@@ -20,7 +21,7 @@ decls_still before (d ∷ ds) =
 
 fault_still : (t : LocatedTree) → first_fault (with_all_printed t) ≡ first_fault t
 fault_still t = λ i. option_or (decls_still [] t.decls i) (option_or
-    (constraints_fault (kinds_still t.decls i) t.constraints)
+    (first_some (constraint_fault (kinds_still t.decls i)) t.constraints)
     (goal_fault (kinds_still t.decls i) t.solve.goal))
 
 pub no_fault_still : (t : LocatedTree) → HasNoFault t → HasNoFault (with_all_printed t)

@@ -7,7 +7,7 @@ use Rattle.fz_judge.specs.of_syntax.Lexing.{IsTokenWithinLimit}
 use Rattle.fz_judge.specs.of_syntax.Mark.TheVariants.{Colon, ColonColon, Semicolon}
 use Rattle.fz_judge.specs.of_syntax.Print.{CanBeWritten}
 use Rattle.fz_judge.specs.of_syntax.Tree as tree
-use Rattle.fz_judge.specs.of_syntax.Tokens.{decl_toks, predicate_toks, constraint_toks, solve_toks, notes_toks, note_toks, value_toks, prefix_toks, toks, var_toks, base_toks, name_toks, mark}
+use Rattle.fz_judge.specs.of_syntax.Tokens.{decl_toks, predicate_toks, constraint_toks, solve_toks, notes_toks, note_toks, value_toks, prefix_toks, toks, var_toks, base_toks, word as name_toks, mark}
 use Rattle.fz_judge.specs.of_model.Located.{Decl, LocatedTree, bare_decl, bare_constraint, bare_solve, bare_of}
 use Rattle.fz_judge.proofs.of_model.Lists.{all_append}
 use Rattle.fz_check.specs.Outputs.{output_var, is_unprinted, printed_decl, with_all_printed}

@@ -5,7 +5,8 @@ use Rattle.fz_base.specs.declared.span.Span.{Span}
 use Rattle.fz_judge.specs.of_syntax.Limits.{Limits}
 use Rattle.fz_judge.specs.of_stream.declared.line.ClaimKind.{ClaimKind}
 use Rattle.fz_judge.specs.of_stream.declared.line.LineKind.TheVariants.{Claim}
-use Rattle.fz_judge.specs.of_stream.Parts.{Line, lines_of, joined, kind_of, EndsWithFeed, AreBlockLines, StreamPart, IsStreamTextWithin}
+use Rattle.fz_judge.specs.of_stream.Parts.{Line, lines_of, joined, kind_of, AreBlockLines, StreamPart, IsStreamTextWithin}
+use Rattle.fz_judge.specs.of_stream.Splitting.{EndsWithFeed}
 use Rattle.fz_check.specs.declared.ending.Ending.{Ending}
 use Rattle.fz_check.specs.declared.ending.Ending.TheVariants.{Whole, Cut}
 use Rattle.fz_check.specs.Report.{Event}

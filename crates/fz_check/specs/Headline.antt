@@ -1,6 +1,5 @@
 -- What an accepted stream has (this project's profile).
 use Rattle.std.specs.Prelude.{◌≡◌, ℕ, ◌≤◌, List, length, map, Option}
-use Rattle.fz_judge.specs.of_syntax.Lexing.{standard_limits}
 use Rattle.fz_judge.specs.of_syntax.Limits.{Limits}
 use Rattle.fz_judge.specs.of_syntax.Text.{IsTextOfTreeWithin}
 use Rattle.fz_judge.specs.of_stream.Parts.{StreamPart, IsStreamTextWithin, blocks_in}
@@ -33,7 +32,3 @@ pub record HasSolutionsWithin (limits : Limits) (model stream : List ℕ)
   pub counted : length blocks ≡ count
   pub at_least_one : 1 ≤ count
   pub solutions : HaveSolutions tree blocks
-
--- at the standard limits
-abbrev pub HasSolutions : List ℕ → List ℕ → ℕ → Type 0
-HasSolutions = HasSolutionsWithin standard_limits

@@ -2,7 +2,8 @@
 use Rattle.std.specs.Prelude.{◌≡◌, ◌≢◌, ◌↔◌, ℕ, ◌+◌, ◌<◌, ◌≤◌, List, ◌∷◌, ◌++◌, length, map, None, ⊤}
 use Rattle.std.specs.List.{AllByRecursion}
 use Rattle.fz_judge.specs.of_syntax.Limits.{Limits}
-use Rattle.fz_judge.specs.of_syntax.Lexing.{most_bytes, standard_limits}
+use Rattle.fz_judge.specs.of_syntax.Lexing.{standard_limits}
+use Rattle.fz_judge.specs.of_syntax.Places.{most_bytes}
 use Rattle.fz_judge.specs.of_syntax.Places.{IsPlacedWithin}
 use Rattle.fz_judge.specs.of_syntax.SyntaxError.{SyntaxError}
 use Rattle.fz_judge.specs.of_syntax.SyntaxError.TheVariants.{TooLong as TextTooLong, Memory as TextMemory}
@@ -11,8 +12,8 @@ use Rattle.fz_judge.specs.of_syntax.Refusals.{IsRefusalWithin}
 use Rattle.fz_judge.specs.of_syntax.Tree.{Tree}
 use Rattle.fz_judge.specs.of_stream.Broken.{StopsAfter}
 use Rattle.fz_judge.specs.of_stream.Faults.{IsStreamFault}
-use Rattle.fz_judge.specs.of_stream.Found.{HasPlaces, block_of}
-use Rattle.fz_judge.specs.of_stream.Parts.{blocks_in, StreamPart, IsStreamText}
+use Rattle.fz_judge.specs.of_stream.Found.{HasPlaces, block_of, IsStreamText}
+use Rattle.fz_judge.specs.of_stream.Parts.{blocks_in, StreamPart}
 use Rattle.fz_judge.specs.of_stream.declared.block.Block as the_block
 use Rattle.fz_judge.specs.of_stream.declared.error.StreamError.{StreamError}
 use Rattle.fz_judge.specs.of_stream.declared.error.StreamError.TheVariants as stream

@@ -12,6 +12,7 @@ use Rattle.fz_judge.specs.Verdict.{Answer, Verdict, Fault}
 use Rattle.fz_judge.specs.BlockView.{located_block}
 use Rattle.fz_judge.specs.Verdict.Verdict.{Satisfied, Violated}
 use Rattle.fz_judge.specs.Verdict.Fault.{NotBetter}
+use Rattle.fz_check.specs.Headline.{HasSolutionsWithin}
 use Rattle.fz_check.specs.Report.{Event, IsReportWithin}
 
 -- Within the limits the model's bytes are a text of a tree without faults, and this holds of its
@@ -66,3 +67,7 @@ HasReportWithin limits c model stream events answer = HoldsOfModelWithin limits 
 
 abbrev pub HasReport : Completion → List ℕ → List ℕ → List Event → Answer → Type 0
 HasReport = HasReportWithin standard_limits
+
+-- the stream has solutions, at the standard limits
+abbrev pub HasSolutions : List ℕ → List ℕ → ℕ → Type 0
+HasSolutions = HasSolutionsWithin standard_limits

@@ -3,17 +3,16 @@
 ghost use Rattle.std.specs.Prelude.{◌≡◌, ◌≤◌, ℕ, List, length, map, IfOk, IfErr};
 ghost use Rattle.std.specs.List.{AllByRecursion};
 ghost use Rattle.fz_judge.specs.of_syntax.Offering.{IsTextOfAllWithin, items_of_tree};
-ghost use Rattle.fz_judge.specs.of_syntax.Lexing.{most_bytes};
+ghost use Rattle.fz_judge.specs.of_syntax.Places.{most_bytes};
 ghost use Rattle.fz_judge.specs.of_model.Names.{HasNoFault};
 ghost use Rattle.fz_judge.specs.of_model.Texts.{IsLoadedFromWithin};
 ghost use Rattle.fz_judge.specs.of_model.View.{located};
 ghost use Rattle.fz_judge.specs.of_stream.Found.{EndsWithin, HasPlaces, IsReadAs, block_of};
 ghost use Rattle.fz_check.specs.declared.tally.Answer.TheVariants.{Accepted};
-ghost use Rattle.fz_check.specs.Headline.{HasSolutions};
 ghost use Rattle.fz_check.specs.Passing.{IsJudgingRefusal, IsStreamRefusal, PassesClaims};
 ghost use Rattle.fz_check.specs.Refused.{IsModelRefusal, IsRefusal};
 ghost use Rattle.fz_check.specs.Report.{IsReport};
-ghost use Rattle.fz_check.specs.Reported.{HasReport};
+ghost use Rattle.fz_check.specs.Reported.{HasReport, HasSolutions};
 ghost use Rattle.fz_check.specs.Shown.{IsShown, IsShownPrintingAll};
 ghost use Rattle.fz_check.specs.View.{answer_view, report_view};
 

@@ -3,7 +3,8 @@
 
 ghost use Rattle.std.specs.Prelude.{◌≡◌, ℕ, [], IfOk, IfErr};
 ghost use Rattle.fz_check.specs.Cutting.{HoldsOfJudged};
-ghost use Rattle.fz_check.specs.Headline.{HasSolutions, HasSolutionsWithin, HoldsOfStream};
+ghost use Rattle.fz_check.specs.Headline.{HasSolutionsWithin, HoldsOfStream};
+ghost use Rattle.fz_check.specs.Reported.{HasSolutions};
 ghost use Rattle.fz_check.specs.Reading.{SpendsReads};
 ghost use Rattle.fz_check.specs.Report.{event_line};
 ghost use Rattle.fz_check.specs.Streaming.{IsEnded, IsEndedBy, IsEndedWithin, IsReportedTo, IsReportedWith, IsReportedWithin, most_reads};

@@ -5,7 +5,7 @@ use Rattle.std.proofs.lemmas.List.{append-nil}
 use Rattle.fz_names.specs.of_meaning.declared.error.ModelError.{ModelError}
 use Rattle.fz_names.specs.of_meaning.Located.{Decl, LocatedTree}
 use Rattle.fz_names.specs.of_meaning.Meaning.{declared_points, numbered_from, place_named, variable_of, first_some, find_name, row_of}
-use Rattle.fz_names.specs.of_meaning.Names.{kinds, places, number_of, place_of_declared, declared_of, posted_of, aim_of, model_of, decls_fault, constraints_fault, goal_fault, first_fault}
+use Rattle.fz_names.specs.of_meaning.Names.{kinds, places, number_of, place_of_declared, declared_of, posted_of, aim_of, model_of, decls_fault, constraint_fault, goal_fault, first_fault}
 use Rattle.fz_names.proofs.of_meaning.NamedKinds.{name_fits}
 use Rattle.fz_names.proofs.of_meaning.Scope.{literal_is_of, variables_are}
 use Rattle.fz_data.specs.Kinds.{PlaceFits, PostedFits}
@@ -96,8 +96,8 @@ module _ (t : LocatedTree) (s : Scope) (held : Store) (cs : Vec the_posted.Poste
 
 module _ (t : LocatedTree) (s : Scope) (st : StandsFor t.decls t.decls s) (clean : decls_fault [] t.decls ≡ None) where
   constraints_same : first_some (constraint_fault_in s) t.constraints
-      ≡ constraints_fault (kinds t.decls) t.constraints
-  constraints_same = ap (λ at. constraints_fault at t.constraints) (same_kinds t.decls t.decls s st)
+      ≡ first_some (constraint_fault (kinds t.decls)) t.constraints
+  constraints_same = ap (λ at. first_some (constraint_fault at) t.constraints) (same_kinds t.decls t.decls s st)
 
   goal_same : goal_fault (kinds_in s) t.solve.goal ≡ goal_fault (kinds t.decls) t.solve.goal
   goal_same = ap (λ at. goal_fault at t.solve.goal) (same_kinds t.decls t.decls s st)

@@ -3,7 +3,8 @@ use Rattle.std.proofs.Common.{◌≡◌, ℕ, true, cond, List, [], ◌∷◌, �
 use Rattle.std.specs.Map.{lookup}
 use Rattle.std.proofs.lemmas.List.{length-map}
 use Rattle.fz_names.specs.of_meaning.Located.{Decl}
-use Rattle.fz_names.specs.of_meaning.Names.{parts, kind_of_base, variable_declared, scalar_variables, Fault, name_fault, fault_at_decl, decl_fault}
+use Rattle.fz_names.specs.of_meaning.Names.{parts, kind_of_base, variable_declared, Fault, name_fault, fault_at_decl, decl_fault}
+use Rattle.fz_names.specs.of_meaning.Laws.{scalar_variables}
 use Rattle.fz_names.proofs.of_meaning.KnownNames.{is_new, parts_clean, next_number}
 use Rattle.fz_names.proofs.of_meaning.ScanSteps.{first_none}
 use Rattle.fz_data.specs.declared.scope.Item.{Item}

@@ -8,7 +8,8 @@ use Rattle.fz_names.specs.of_meaning.Located.{Decl}
 use Rattle.fz_names.specs.of_meaning.Meaning as meaning
 use Rattle.fz_names.specs.of_meaning.Meaning.{declared_points, numbered_from, variable_of}
 use Rattle.fz_names.specs.of_meaning.Meaning.Declared.{Parameter, ScalarVariable, ArrayOfVariables}
-use Rattle.fz_names.specs.of_meaning.Names.{is_scalar_variable, scalar_variables, declared_of, variable_declared}
+use Rattle.fz_names.specs.of_meaning.Names.{is_scalar_variable, declared_of, variable_declared}
+use Rattle.fz_names.specs.of_meaning.Laws.{scalar_variables}
 use Rattle.fz_names.proofs.of_meaning.Lists.{all_append}
 use Rattle.fz_names.proofs.of_meaning.KnownNames.{next_number, scalars_more}
 use Rattle.fz_names.proofs.of_meaning.Names.{numbered_decl}

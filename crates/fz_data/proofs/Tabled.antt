@@ -3,7 +3,8 @@ use Rattle.std.proofs.Common.{◌≡◌, ℕ, ◌+◌, ◌<◌, ◌≤◌, ℤ, 
 use Rattle.std.proofs.Math.Seq.{take-append_seam}
 use Rattle.std.proofs.lemmas.List.{length-map}
 use Rattle.fz_base.specs.declared.value.Value.{Value}
-use Rattle.fz_names.specs.of_meaning.Meaning.{Variable, give, value_at}
+use Rattle.fz_names.specs.of_meaning.Meaning.{Variable, value_at}
+use Rattle.fz_names.specs.of_meaning.Steps.{give}
 use Rattle.fz_data.specs.Partial.{IsTabled, number_in, truth_in, unset_count, without}
 
 map_set : {A B : Type 0} (f : A → B) (xs : List A) (n : ℕ) (x : A)

@@ -3,7 +3,8 @@
 use Rattle.std.specs.Prelude.{◌≡◌, ℕ, ◌++◌, List, [], None, map, flat_map}
 use Rattle.std.specs.List.{AllByRecursion}
 use Rattle.fz_names.specs.of_meaning.Located.{Decl}
-use Rattle.fz_names.specs.of_meaning.Names.{decls_fault, scalar_variables, place_of_declared, declared_of, variable_declared}
+use Rattle.fz_names.specs.of_meaning.Names.{decls_fault, place_of_declared, declared_of, variable_declared}
+use Rattle.fz_names.specs.of_meaning.Laws.{scalar_variables}
 use Rattle.fz_names.specs.of_meaning.Meaning as meaning
 use Rattle.fz_names.specs.of_meaning.Meaning.{Place, declared_points, numbered_from}
 use Rattle.fz_data.specs.declared.parts.Array as the_array

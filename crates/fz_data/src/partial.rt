@@ -2,7 +2,8 @@
 
 ghost use Rattle.std.specs.Prelude.{◌≡◌, ◌<◌, IfOk, None, Some, false, is_some, length, map, option_map, pos, replicate};
 ghost use Rattle.std.specs.FinSet as sets;
-ghost use Rattle.fz_names.specs.of_meaning.Meaning.{give, value, value_at};
+ghost use Rattle.fz_names.specs.of_meaning.Meaning.{value, value_at};
+ghost use Rattle.fz_names.specs.of_meaning.Steps.{give};
 ghost use Rattle.fz_data.specs.Partial.{nothing_for, number_in, truth_in, unset_count, without};
 
 use crate::model::Model;

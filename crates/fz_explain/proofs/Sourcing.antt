@@ -5,10 +5,10 @@ use Rattle.std.proofs.lemmas.Bool.{cases_eq, eqb-false, eqb-true}
 use Rattle.std.proofs.lemmas.List.{append_assoc}
 use Rattle.fz_base.specs.declared.value.Value.{Value}
 use Rattle.fz_judge.specs.of_model.Aimed.{GivesAny, aimed}
-use Rattle.fz_judge.specs.of_model.Meaning.{Model, Partial, Point, give, points, value_at}
+use Rattle.fz_judge.specs.of_model.Meaning.{Model, Partial, Point, points, value_at}
 use Rattle.fz_judge.specs.of_model.Meaning.Point.{DomainPoint, DefinitionPoint, ArrayPoint, ConstraintPoint}
 use Rattle.fz_judge.specs.of_model.Openings.{HasEach}
-use Rattle.fz_judge.specs.of_model.Steps.{Gives, terms_of}
+use Rattle.fz_judge.specs.of_model.Steps.{Gives, terms_of, give}
 use Rattle.fz_judge.proofs.of_model.Gaps.{value_at_new}
 use Rattle.fz_judge.proofs.of_model.Steps.{only_open_none, value_at_other}
 use Rattle.fz_judge.proofs.of_model.Tabled.{has_place}

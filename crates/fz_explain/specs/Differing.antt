@@ -3,7 +3,7 @@ use Rattle.std.specs.Prelude.{ℕ, suc, Bool, false, cond, List, ◌∷◌, Opti
 use Rattle.std.specs.Option.{option_map_or}
 use Rattle.fz_base.specs.declared.value.Value.{Value}
 use Rattle.fz_judge.specs.of_model.Meaning.{Partial, value}
-use Rattle.fz_judge.specs.of_model.Relations.{same_value}
+use Rattle.fz_judge.specs.of_model.States.{same_value}
 use Rattle.fz_judge.specs.of_model.declared.Term.{Term}
 
 -- it has a value under the filling, and that is the printed one

@@ -61,30 +61,10 @@ count_of-permutation xs ys moved v = ap pos (told-permutation (λ x. int_eq x v)
 
 -- ---- two lists side by side
 
-both_none : {A B : Type 0} (p : A → B → Bool) (xs : List A) → all_both p xs [] ≡ true
-both_none p [] = refl
-both_none p (x ∷ xs) = refl
-
 pub all_both-same : {A B : Type 0} (p q : A → B → Bool) → ((x : A) (y : B) → p x y ≡ q x y)
     → (xs : List A) (ys : List B) → all_both p xs ys ≡ all_both q xs ys
 all_both-same p q same (x ∷ xs) (y ∷ ys) = ap (λ b. b && all_both p xs ys) (same x y) ∙ ap (λ b. q x y && b) (all_both-same p q same xs ys)
 all_both-same p q same _ ys = refl
-
-module _ {A B : Type 0} (p : A → B → Bool) (xs : List A) (ys : List B) (i : ℕ) (so_far : all_both p xs ys ≡ all_both p (drop i xs) (drop i ys)) where
-  pub both_end : (length xs ≤ i) ⊎ (length ys ≤ i) → true ≡ all_both p xs ys
-  both_end end = search (rules, none_left, both_none)
-
-  left : (x : A) (y : B) → slice_get xs i ≡ Some x → slice_get ys i ≡ Some y
-      → all_both p xs ys ≡ (p x y && all_both p (drop (i + 1) xs) (drop (i + 1) ys))
-  left x y at_x at_y = so_far ∙ rw (next xs i x at_x, next ys i y at_y)
-
-  pub both_pass : (x : A) (y : B) → slice_get xs i ≡ Some x → slice_get ys i ≡ Some y → p x y ≡ true
-      → all_both p xs ys ≡ all_both p (drop (i + 1) xs) (drop (i + 1) ys)
-  both_pass x y at_x at_y e = left x y at_x at_y ∙ ap (λ b. b && all_both p (drop (i + 1) xs) (drop (i + 1) ys)) e
-
-  pub both_fail : (x : A) (y : B) → slice_get xs i ≡ Some x → slice_get ys i ≡ Some y
-      → p x y ≡ false → false ≡ all_both p xs ys
-  both_fail x y at_x at_y e = sym (left x y at_x at_y ∙ ap (λ b. b && all_both p (drop (i + 1) xs) (drop (i + 1) ys)) e)
 
 pub counts_are-permutation : (xs ys : List ℤ) → IsPermutation xs ys → (vs ns : List ℤ)
     → counts_are ys vs ns ≡ counts_are xs vs ns
@@ -99,19 +79,3 @@ counts_lie-permutation xs ys moved vs least most =
 pub closed-permutation : (vs ys : List ℤ) → IsPermutation vs ys → (xs : List ℤ)
     → is_closed xs ys ≡ is_closed xs vs
 closed-permutation vs ys moved xs = grind (arith, common_steps, list_any-IsPermutation)
-
--- ---- the same list
-
-module _ {A : Type 0} (same : A → A → Bool) (xs ys : List A) (i : ℕ) (so_far : is_same_list same xs ys ≡ is_same_list same (drop i xs) (drop i ys)) where
-  left_same : (x y : A) → slice_get xs i ≡ Some x → slice_get ys i ≡ Some y
-      → is_same_list same xs ys ≡ (same x y
-      && is_same_list same (drop (i + 1) xs) (drop (i + 1) ys))
-  left_same x y at_x at_y = so_far ∙ rw (next xs i x at_x, next ys i y at_y)
-
-  pub still_same : (x y : A) → slice_get xs i ≡ Some x → slice_get ys i ≡ Some y → same x y ≡ true
-      → is_same_list same xs ys ≡ is_same_list same (drop (i + 1) xs) (drop (i + 1) ys)
-  still_same x y at_x at_y e = left_same x y at_x at_y ∙ ap (λ b. b && is_same_list same (drop (i + 1) xs) (drop (i + 1) ys)) e
-
-  pub not_same : (x y : A) → slice_get xs i ≡ Some x → slice_get ys i ≡ Some y → same x y ≡ false
-      → false ≡ is_same_list same xs ys
-  not_same x y at_x at_y e = sym (left_same x y at_x at_y ∙ ap (λ b. b && is_same_list same (drop (i + 1) xs) (drop (i + 1) ys)) e)

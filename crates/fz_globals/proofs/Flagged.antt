@@ -6,27 +6,14 @@ use Rattle.std.specs.Cmp.{int_cmp_total, both_ways}
 use Rattle.std.specs.FinSet.{contains, empty, is_subset, len, contains-empty, is_subset-contains, contains-is_subset, empty_of_len, len-empty}
 use Rattle.std.proofs.lemmas.Int.{ints}
 use Rattle.std.proofs.lemmas.Bool.Decides.{nat_tests}
-use Rattle.fz_base.specs.Sets.{NumberSet, numbers_between, LiesWithin, Has64Bits}
+use Rattle.fz_base.specs.Sets.{NumberSet, numbers_between}
+use Rattle.fz_base.specs.Elements.{LiesWithin, Has64Bits}
 use Rattle.fz_base.specs.Ranges.{is_between}
 use Rattle.fz_base.proofs.Numbers.{contains-numbers_between, same_numbers}
 use Rattle.fz_kernel.specs.of_meaning.Relations.{◌=ᴮ◌, flags_are}
 use Rattle.fz_kernel.proofs.of_meaning.Values.{no}
 use Rattle.fz_globals.proofs.FirstBest.{one_on}
 use Rattle.fz_kernel.proofs.Left.{next}
-
--- ---- flags, one after another
-
-module _ (o : ℤ) (bs : List Bool) (s : NumberSet) (i : ℕ) (r : Bool) (so_far : r ≡ flags_are (o +ℤ pos i) (drop i bs) s) where
-  module _ (b : Bool) (at : slice_get bs i ≡ Some b) where
-    one : r ≡ ((b =ᴮ contains s (o +ℤ pos i)) && flags_are (o +ℤ pos (i + 1)) (drop (i + 1) bs) s)
-    one = so_far ∙ ap (λ l. flags_are (o +ℤ pos i) l s) (next bs i b at) ∙ ap (λ j. (b =ᴮ contains s (o +ℤ pos i)) && flags_are j (drop (i + 1) bs) s) (one_on o i)
-
-    pub flag_agrees : (b =ᴮ contains s (o +ℤ pos i)) ≡ true
-        → r ≡ flags_are (o +ℤ pos (i + 1)) (drop (i + 1) bs) s
-    flag_agrees passed = one ∙ ap (λ c. c && flags_are (o +ℤ pos (i + 1)) (drop (i + 1) bs) s) passed
-
-    pub flag_differs : (b =ᴮ contains s (o +ℤ pos i)) ≡ false → false ≡ r
-    flag_differs other = sym (one ∙ ap (λ c. c && flags_are (o +ℤ pos (i + 1)) (drop (i + 1) bs) s) other)
 
 -- ---- the numbers that are indices
 

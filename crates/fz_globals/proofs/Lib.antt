@@ -10,7 +10,6 @@ pub mod Flagged
 pub mod Halving
 pub mod InTable
 pub mod Led
-pub mod Neighbours
 pub mod NoGaps
 pub mod OnlyIndex
 pub mod Parted

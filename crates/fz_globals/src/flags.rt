@@ -7,6 +7,7 @@ ghost use Rattle.fz_kernel.specs.Views.{bools};
 use crate::indices::{are_indices, index_at};
 use fz_base::IntSet;
 use fz_kernel::Elements;
+use fz_kernel::indices::all_between;
 
 /// Whether the set is that of the indices, from `first` on, of the Booleans that are true.
 pub fn is_flagged(set: &IntSet, flags: &Elements, first: i64) -> bool
@@ -18,12 +19,9 @@ pub fn is_flagged(set: &IntSet, flags: &Elements, first: i64) -> bool
 fn flags_are(first: i64, flags: &Elements, set: &IntSet) -> bool
     ensures { result ≡ flags_are first (bools flags.now) set.now }
 {
-    for place in 0..flags.len() {
-        if flags.truth(place) != has(set, index_at(first, place)) {
-            return false;
-        }
-    }
-    true
+    all_between(0, flags.len(), |place| {
+        flags.truth(place) == has(set, index_at(first, place))
+    })
 }
 
 /// Whether a number is in the set; one of more than 64 bits is not.

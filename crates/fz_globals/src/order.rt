@@ -6,6 +6,7 @@ ghost use Rattle.fz_kernel.specs.Views.{ints, bools};
 use crate::ordered::numbers_in_order;
 use crate::testing::neighbours_pass;
 use fz_kernel::Elements;
+use fz_kernel::indices::all_between;
 use std::alloc::{AllocError, Global};
 
 /// Whether all numbers are equal.
@@ -40,24 +41,18 @@ pub fn is_decreasing(elements: &Elements) -> bool
 pub fn truths_increase(elements: &Elements) -> bool
     ensures exact { result ≡ all_neighbours (λ a b. not a || b) (bools elements.now) }
 {
-    for place in 1..elements.len() {
-        if !implies(elements.truth(place - 1), elements.truth(place)) {
-            return false;
-        }
-    }
-    true
+    all_between(1, elements.len(), |place| {
+        implies(elements.truth(place - 1), elements.truth(place))
+    })
 }
 
 /// Whether no true comes after a false.
 pub fn truths_decrease(elements: &Elements) -> bool
     ensures exact { result ≡ all_neighbours (λ a b. not b || a) (bools elements.now) }
 {
-    for place in 1..elements.len() {
-        if !implies(elements.truth(place), elements.truth(place - 1)) {
-            return false;
-        }
-    }
-    true
+    all_between(1, elements.len(), |place| {
+        implies(elements.truth(place), elements.truth(place - 1))
+    })
 }
 
 fn implies(a: bool, b: bool) -> bool
@@ -85,10 +80,7 @@ fn are_elements(numbers: &[i64], elements: &Elements) -> bool
     if numbers.len() != elements.len() {
         return false;
     }
-    for place in 0..numbers.len() {
-        if numbers[place] != elements.int(place) {
-            return false;
-        }
-    }
-    true
+    all_between(0, numbers.len(), |place| {
+        numbers[place] == elements.int(place)
+    })
 }

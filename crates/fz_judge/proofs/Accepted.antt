@@ -8,10 +8,10 @@ use Rattle.fz_base.specs.declared.value.Value.{Value}
 use Rattle.fz_search.specs.of_model.declared.Kind.TheVariants.{Int as IntKind}
 use Rattle.fz_search.specs.of_model.declared.State.{State}
 use Rattle.fz_search.specs.of_model.declared.State.TheVariants.{Holds, Fails, NoValue, Unknown, TooLarge}
-use Rattle.fz_search.specs.of_model.Relations.{kind_of, same_value, same_values}
+use Rattle.fz_search.specs.of_model.Relations.{kind_of}
 use Rattle.fz_search.specs.of_model.Names.{literal_value}
 use Rattle.fz_search.specs.of_model.Meaning.{Place, Declared, Posted, Aim, Model, Point, Partial, Assignment, value, values, value_at, whole, points, inside, find_name, first_some, HoldsUnder, IsSolution, IsPartial, IsAssignment, FitVariables, variables_of, variable_of, numbered, numbered_from, declared_points, definition_points, constraint_points, objective, objective_of, as_int, number_at}
-use Rattle.fz_search.specs.of_model.States.{state, judged, judged_by, is_outside, both}
+use Rattle.fz_search.specs.of_model.States.{state, judged, judged_by, is_outside, both, same_value, same_values}
 use Rattle.fz_search.specs.of_model.declared.Term.{Term}
 use Rattle.fz_search.specs.of_model.declared.Term.TheVariants.{Var, Fixed}
 use Rattle.fz_search.specs.of_model.Meaning.Place.{Scalar, Array}

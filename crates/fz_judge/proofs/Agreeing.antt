@@ -14,13 +14,14 @@ use Rattle.fz_search.specs.of_model.Builtins.ArgValue.{OneValue, ManyValues}
 use Rattle.fz_search.specs.of_model.Results.Result.{NoResult, Places, UnitTerm}
 use Rattle.fz_search.specs.of_model.declared.Term.{Term}
 use Rattle.fz_search.specs.of_model.declared.Term.TheVariants.{Var, Fixed}
-use Rattle.fz_search.specs.of_model.Meaning.{Argument, Model, Point, Partial, value, values, value_at, give, option_cons, terms_in, argument_value, argument_values, row_of, row_holds, HoldsUnder, inside, as_int}
+use Rattle.fz_search.specs.of_model.Meaning.{Argument, Model, Point, Partial, value, values, value_at, terms_in, argument_value, argument_values, row_of, row_holds, HoldsUnder, inside, as_int}
+use Rattle.fz_search.specs.of_model.Relations.{option_cons}
 use Rattle.fz_search.specs.of_model.Meaning.Place.{Scalar, Array}
 use Rattle.fz_search.specs.of_model.Meaning.Argument.{One, ListOf}
 use Rattle.fz_search.specs.of_model.Meaning.Point.{DomainPoint, DefinitionPoint, ArrayPoint, ConstraintPoint}
 use Rattle.fz_search.proofs.of_model.Lists.{all_left, all_right}
 use Rattle.fz_search.proofs.of_model.Powers.{same_unknown}
-use Rattle.fz_search.specs.of_model.Steps.{Gives, IsResult, IsTarget, NumbersFit, HasUnitCoefficient, terms_of, open_terms}
+use Rattle.fz_search.specs.of_model.Steps.{Gives, IsResult, IsTarget, NumbersFit, HasUnitCoefficient, terms_of, open_terms, give}
 use Rattle.fz_judge.specs.Outlooks.{Agree}
 
 -- ---- values

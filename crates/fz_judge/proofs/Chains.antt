@@ -3,10 +3,10 @@ use Rattle.std.proofs.Common.{◌≡◌, ℕ, suc, zero, ◌+◌, true, false, c
 use Rattle.std.specs.List.{AllByRecursion, enumerate_from}
 use Rattle.std.specs.Option.{option_map_or, option_or}
 use Rattle.fz_base.specs.declared.value.Value.{Value}
-use Rattle.fz_search.specs.of_model.Relations.{kind_of}
+use Rattle.fz_search.specs.of_model.Relations.{kind_of, option_cons}
 use Rattle.fz_search.specs.of_model.Builtins.{ArgValue}
 use Rattle.fz_search.specs.of_model.Builtins.ArgValue.{OneValue, ManyValues}
-use Rattle.fz_search.specs.of_model.Meaning.{Place, Argument, Variable, Model, Point, Partial, Assignment, value, values, value_at, give, whole, option_cons, terms_in, argument_value, argument_values, row_of, row_holds, points, inside, find_name, HoldsUnder, IsAssignment, variables_of}
+use Rattle.fz_search.specs.of_model.Meaning.{Place, Argument, Variable, Model, Point, Partial, Assignment, value, values, value_at, whole, terms_in, argument_value, argument_values, row_of, row_holds, points, inside, find_name, HoldsUnder, IsAssignment, variables_of}
 use Rattle.fz_search.specs.of_model.Aimed.{aimed}
 use Rattle.fz_search.specs.of_model.Openings.{HasEach}
 use Rattle.fz_search.specs.of_model.declared.State.TheVariants.{Unknown}
@@ -17,7 +17,7 @@ use Rattle.fz_search.specs.of_model.declared.Term.TheVariants.{Var, Fixed}
 use Rattle.fz_search.specs.of_model.Meaning.Place.{Scalar, Array}
 use Rattle.fz_search.specs.of_model.Meaning.Argument.{One, ListOf}
 use Rattle.fz_search.specs.of_model.Meaning.Point.{DomainPoint, DefinitionPoint, ArrayPoint, ConstraintPoint}
-use Rattle.fz_search.specs.of_model.Steps.{Gives, IsResult}
+use Rattle.fz_search.specs.of_model.Steps.{Gives, IsResult, give}
 use Rattle.fz_search.proofs.of_model.Lists.{all_append, all_right, all_drop, all_take, all_enumerated, all_both, at_place}
 use Rattle.fz_search.proofs.of_model.ConstraintStates.{row_fits}
 use Rattle.fz_search.proofs.of_model.Points.{points_fit}

@@ -4,10 +4,10 @@ use Rattle.std.proofs.lemmas.Bool.{cases_lt}
 use Rattle.std.proofs.lemmas.List.{map-append}
 use Rattle.fz_base.specs.declared.value.Value.{Value}
 use Rattle.fz_search.specs.of_model.Aimed.{GivesAny, aimed}
-use Rattle.fz_search.specs.of_model.Meaning.{IsPartial, Model, Partial, Point, give, points, variables_of}
+use Rattle.fz_search.specs.of_model.Meaning.{IsPartial, Model, Partial, Point, points, variables_of}
 use Rattle.fz_search.specs.of_model.Partial.{unset_count}
 use Rattle.fz_search.specs.of_model.Relations.{kind_of}
-use Rattle.fz_search.specs.of_model.Steps.{terms_of}
+use Rattle.fz_search.specs.of_model.Steps.{terms_of, give}
 use Rattle.fz_search.proofs.of_model.Partials.{give_fits, has_place}
 use Rattle.fz_search.proofs.of_model.Steps.{only_open_none}
 use Rattle.fz_search.proofs.of_model.Tabled.{one_unset_less}

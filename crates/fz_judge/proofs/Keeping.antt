@@ -12,8 +12,8 @@ use Rattle.std.proofs.lemmas.Option.{slice_get_past, slice_get_within}
 use borrow.Author.Count.{below_more}
 use Rattle.memchr.specs.Find.{Nowhere, NoneBefore, Passes, is_byte}
 use Rattle.fz_base.specs.declared.value.Value.{Value}
-use Rattle.fz_search.specs.of_model.Meaning.{Model, Point, Partial, value_at, give, points}
-use Rattle.fz_search.specs.of_model.Steps.{GivesNothing}
+use Rattle.fz_search.specs.of_model.Meaning.{Model, Point, Partial, value_at, points}
+use Rattle.fz_search.specs.of_model.Steps.{GivesNothing, give}
 use Rattle.fz_search.proofs.of_model.Steps.{value_at_other}
 use Rattle.fz_judge.specs.Outlooks.{IsLater, IsOpen, IsWaiting}
 use Rattle.fz_judge.specs.Kept.{IsPending, watched, WaitsFor, marked, marked_blocks, WaitsToo, IsCovered, IsLeft, IsAwaited, IsSettled, IsKept, IsNext, NoneIsPending}

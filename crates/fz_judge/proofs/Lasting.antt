@@ -13,8 +13,7 @@ use Rattle.fz_search.specs.of_model.Meaning.Place.{Scalar, Array}
 use Rattle.fz_search.specs.of_model.Meaning.Argument.{One, ListOf}
 use Rattle.fz_search.specs.of_model.Meaning.Point.{DomainPoint, DefinitionPoint, ArrayPoint, ConstraintPoint}
 use Rattle.fz_search.specs.of_model.Openings.{HasEach}
-use Rattle.fz_search.specs.of_model.Relations.{same_value}
-use Rattle.fz_search.specs.of_model.States.{both, is_outside, judged, judged_by, state, state_of_row}
+use Rattle.fz_search.specs.of_model.States.{both, is_outside, judged, judged_by, state, state_of_row, same_value}
 use Rattle.fz_search.proofs.of_model.Lists.{all_append, all_map}
 use Rattle.fz_search.proofs.of_model.States.{both_some, judged_fails, row_state_fails}
 use Rattle.fz_search.proofs.of_model.Steps.{map_some, option_cons_parts}

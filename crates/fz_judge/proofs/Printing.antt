@@ -4,9 +4,10 @@ use Rattle.std.proofs.Math.Bool.{and-false}
 use Rattle.std.specs.Option.{option_map_or}
 use Rattle.fz_base.specs.declared.value.Value.{Value}
 use Rattle.fz_base.specs.declared.value.Value.TheVariants.{Set}
-use Rattle.fz_search.specs.of_model.Relations.{same_value, same_values}
+use Rattle.fz_search.specs.of_model.States.{same_value, same_values}
 use Rattle.fz_base.specs.Sets.{NumberSet}
-use Rattle.fz_search.specs.of_model.Meaning.{Partial, option_cons, value, values}
+use Rattle.fz_search.specs.of_model.Meaning.{Partial, value, values}
+use Rattle.fz_search.specs.of_model.Relations.{option_cons}
 use Rattle.fz_search.specs.of_model.declared.Term.{Term}
 use Rattle.fz_search.proofs.of_model.Values.{no, same_value_is, value_itself}
 use Rattle.fz_search.specs.of_model.View.{located_literal}

@@ -5,8 +5,8 @@ use Rattle.fz_base.specs.declared.value.Value.{Value}
 use Rattle.fz_search.specs.of_model.declared.Term.{Term}
 use Rattle.fz_search.specs.of_model.declared.Term.TheVariants.{Var}
 use Rattle.fz_search.specs.of_model.Relations.{kind_of}
-use Rattle.fz_search.specs.of_model.Meaning.{Model, Point, Partial, value, value_at, give}
-use Rattle.fz_search.specs.of_model.Steps.{Gives, open_terms, terms_of}
+use Rattle.fz_search.specs.of_model.Meaning.{Model, Point, Partial, value, value_at}
+use Rattle.fz_search.specs.of_model.Steps.{Gives, open_terms, terms_of, give}
 use Rattle.fz_search.proofs.of_model.Steps.{PointFits, only_value, only_open_none, value_at_other, filter-none, is_open}
 use Rattle.fz_search.specs.of_model.Openings.{HasEach}
 use Rattle.fz_search.proofs.of_model.Under.{value_under}

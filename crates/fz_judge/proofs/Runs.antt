@@ -5,8 +5,8 @@ use Rattle.std.proofs.lemmas.Bool.{cases_eq}
 use Rattle.fz_base.specs.declared.value.Value.{Value}
 use Rattle.fz_search.specs.of_model.declared.Term.{Term}
 use Rattle.fz_search.specs.of_model.declared.Term.TheVariants.{Var, Fixed}
-use Rattle.fz_search.specs.of_model.Meaning.{Model, Point, Partial, value_at, give, points}
-use Rattle.fz_search.specs.of_model.Steps.{Gives, GivesNothing, open_terms, terms_of}
+use Rattle.fz_search.specs.of_model.Meaning.{Model, Point, Partial, value_at, points}
+use Rattle.fz_search.specs.of_model.Steps.{Gives, GivesNothing, open_terms, terms_of, give}
 use Rattle.fz_search.proofs.of_model.Lists.{all_append, all_right, all_drop, all_take, at_place}
 use Rattle.fz_search.proofs.of_model.Points.{points_fit}
 use Rattle.fz_search.proofs.of_model.Steps.{PointFits, only_open_none}

@@ -16,7 +16,8 @@ use Rattle.fz_search.specs.of_model.Names.{literal_value}
 use Rattle.fz_search.specs.of_model.Partial.{nothing_for}
 use Rattle.fz_search.specs.of_model.Shown.{scalar_terms, what_place}
 use Rattle.fz_search.specs.of_model.Slots.{scalar_term}
-use Rattle.fz_search.specs.of_model.Meaning.{Place, Variable, Model, Partial, give, value_at, variables_of, first_some, IsPartial}
+use Rattle.fz_search.specs.of_model.Meaning.{Place, Variable, Model, Partial, value_at, variables_of, first_some, IsPartial}
+use Rattle.fz_search.specs.of_model.Steps.{give}
 use Rattle.fz_search.specs.of_model.Meaning.Place.{Scalar, Array}
 use Rattle.fz_search.specs.of_model.Relations.{kind_of, same_kind}
 use Rattle.fz_search.proofs.of_model.Lists.{all_map}

@@ -5,10 +5,10 @@ use Rattle.std.proofs.lemmas.Bool.{cases_lt}
 use Rattle.std.proofs.lemmas.List.{append_assoc}
 use Rattle.std.proofs.lemmas.Option.{slice_get_within}
 use Rattle.fz_base.specs.declared.value.Value.{Value}
-use Rattle.fz_search.specs.of_model.Meaning.{Model, Point, Partial, give, value_at, variables_of, points, IsPartial}
+use Rattle.fz_search.specs.of_model.Meaning.{Model, Point, Partial, value_at, variables_of, points, IsPartial}
 use Rattle.fz_search.specs.of_model.Partial.{unset_count}
 use Rattle.fz_search.specs.of_model.Aimed.{GivesNone, aimed}
-use Rattle.fz_search.specs.of_model.Steps.{GivesNothing, terms_of}
+use Rattle.fz_search.specs.of_model.Steps.{GivesNothing, terms_of, give}
 use Rattle.fz_search.specs.of_model.Relations.{kind_of}
 use Rattle.fz_search.proofs.of_model.Lists.{there_is}
 use Rattle.fz_search.proofs.of_model.Partials.{give_fits, has_place}

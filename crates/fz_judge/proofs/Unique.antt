@@ -2,10 +2,10 @@
 use Rattle.std.proofs.Common.{◌≡◌, ℕ, List, [], ◌∷◌, ◌++◌, Some, refl, sym, ap, subst, ◌∙◌}
 use Rattle.std.specs.List.{AllByRecursion}
 use Rattle.fz_search.specs.of_model.Relations.{kind_of}
-use Rattle.fz_search.specs.of_model.Meaning.{Model, Point, Partial, give}
+use Rattle.fz_search.specs.of_model.Meaning.{Model, Point, Partial}
 use Rattle.fz_search.specs.of_model.declared.Term.{Term}
 use Rattle.fz_search.specs.of_model.declared.Term.TheVariants.{Var}
-use Rattle.fz_search.specs.of_model.Steps.{Gives, GivesNothing}
+use Rattle.fz_search.specs.of_model.Steps.{Gives, GivesNothing, give}
 use Rattle.fz_judge.specs.Filling.{IsFirstStep, Chain}
 use Rattle.fz_judge.specs.Filling.Chain.{Ends, Step}
 use Rattle.fz_search.proofs.of_model.Steps.{PointFits, only_value}

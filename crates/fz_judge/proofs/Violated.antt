@@ -8,18 +8,18 @@ use Rattle.std.specs.Option.{option_map_or, option_or, option_and_then}
 use Rattle.fz_base.specs.declared.value.Value.{Value}
 use Rattle.fz_search.specs.of_model.declared.State.{State}
 use Rattle.fz_search.specs.of_model.declared.State.TheVariants.{Holds, Fails, NoValue, Unknown, TooLarge}
-use Rattle.fz_search.specs.of_model.Relations.{same_value, same_values}
 use Rattle.fz_search.specs.of_model.Names.{literal_value}
-use Rattle.fz_search.specs.of_model.Meaning.{Place, Variable, Aim, Model, Point, Partial, Assignment, value, values, value_at, give, whole, option_cons, points, find_name, first_some, variables_of, objective, objective_of, as_int}
+use Rattle.fz_search.specs.of_model.Meaning.{Place, Variable, Aim, Model, Point, Partial, Assignment, value, values, value_at, whole, points, find_name, first_some, variables_of, objective, objective_of, as_int}
+use Rattle.fz_search.specs.of_model.Relations.{option_cons}
 use Rattle.fz_search.specs.of_model.Aimed.{aimed}
 use Rattle.fz_search.specs.of_model.Openings.{HasEach}
-use Rattle.fz_search.specs.of_model.States.{PointName, shown_point, state, HoldsIfKnown, IsKnownSolution}
+use Rattle.fz_search.specs.of_model.States.{PointName, shown_point, state, HoldsIfKnown, IsKnownSolution, same_value, same_values}
 use Rattle.fz_search.specs.of_model.declared.Term.{Term}
 use Rattle.fz_search.specs.of_model.declared.Term.TheVariants.{Var, Fixed}
 use Rattle.fz_search.specs.of_model.Meaning.Place.{Scalar, Array}
 use Rattle.fz_search.specs.of_model.Meaning.Aim.{Satisfy, Minimize, Maximize}
 use Rattle.fz_search.specs.of_model.States.PointName.{DomainOf, DefinitionOf, ConstraintOf}
-use Rattle.fz_search.specs.of_model.Steps.{terms_of}
+use Rattle.fz_search.specs.of_model.Steps.{terms_of, give}
 use Rattle.fz_search.proofs.of_model.Lists.{all_left, all_right, all_map, all_both}
 use Rattle.fz_search.proofs.of_model.Under.{never_fails, some_same, value_under}
 use Rattle.fz_search.proofs.of_model.Steps.{value_at_other, option_cons_parts, only_open_none}

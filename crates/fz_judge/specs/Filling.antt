@@ -5,11 +5,11 @@ use Rattle.std.specs.List.{AllByRecursion, enumerate_from}
 use Rattle.std.specs.Option.{option_map_or}
 use Rattle.fz_base.specs.declared.value.Value.{Value}
 use Rattle.fz_search.specs.of_model.Names.{literal_value}
-use Rattle.fz_search.specs.of_model.Meaning.{Place, Variable, Model, Point, Partial, variables_of, give, points, find_name, first_some}
+use Rattle.fz_search.specs.of_model.Meaning.{Place, Variable, Model, Point, Partial, variables_of, points, find_name, first_some}
 use Rattle.fz_search.specs.of_model.declared.Term.{Term}
 use Rattle.fz_search.specs.of_model.declared.Term.TheVariants.{Var, Fixed}
 use Rattle.fz_search.specs.of_model.Meaning.Place.{Scalar, Array}
-use Rattle.fz_search.specs.of_model.Steps.{Gives, GivesNothing}
+use Rattle.fz_search.specs.of_model.Steps.{Gives, GivesNothing, give}
 use Rattle.fz_search.specs.of_model.Aimed.{GivesAny, GivesNone}
 use Rattle.fz_judge.specs.declared.completion.Completion.{Completion}
 use Rattle.fz_judge.specs.declared.completion.Completion.TheVariants.{Off, On}

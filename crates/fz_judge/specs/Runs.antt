@@ -1,8 +1,8 @@
 -- Steps in any order, and where the order doesn't matter.
 use Rattle.std.specs.Prelude.{◌≡◌, ℕ, Some, slice_get}
 use Rattle.fz_base.specs.declared.value.Value.{Value}
-use Rattle.fz_search.specs.of_model.Meaning.{Model, Partial, Point, points, give}
-use Rattle.fz_search.specs.of_model.Steps.{Gives, IsTarget}
+use Rattle.fz_search.specs.of_model.Meaning.{Model, Partial, Point, points}
+use Rattle.fz_search.specs.of_model.Steps.{Gives, IsTarget, give}
 
 -- the second is reached from the first by steps of points, in whatever order
 pub data Run (m : Model) : Partial → Partial → Type 0 where

@@ -7,9 +7,7 @@ use Rattle.fz_stream.specs.Parts.{SolutionBlock}
 use Rattle.fz_stream.specs.of_syntax.Tree as tree
 use Rattle.fz_search.specs.of_model.Located.{Name, Literal, LocatedTree}
 use Rattle.fz_search.specs.of_model.Names.{literal_value, model_of}
-use Rattle.fz_search.specs.of_model.Meaning.{Place, Model, Partial, Assignment, value, values, whole, find_name, Aim, objective, IsSolution}
-use Rattle.fz_search.specs.of_model.Meaning.Place.{Scalar, Array}
-use Rattle.fz_search.specs.of_model.Meaning.Aim.{Satisfy, Minimize, Maximize}
+use Rattle.fz_search.specs.of_model.Meaning.{Place, Scalar, Array, Model, Partial, Assignment, value, values, whole, find_name, Aim, Satisfy, Minimize, Maximize, objective, IsSolution}
 
 -- ---- blocks with byte ranges
 
@@ -57,12 +55,9 @@ HasPrinted K (Array x k ts) (ArrayOf is ls) = values K ts ≡ Some (printed_valu
 HasPrinted K _ _ = ⊥
 
 -- each printed name is declared, and its value is the printed one
-abbrev pub ExtendsItems : Model → Assignment → List Printed → Type 0
-ExtendsItems m A items = AllByRecursion
-    (λ i. IsSomeAnd (find_name m i.name.text) (λ p. HasPrinted (whole A) p i.value)) items
-
 abbrev pub Extends : Model → Assignment → Block → Type 0
-Extends m A block = ExtendsItems m A block.items
+Extends m A block = AllByRecursion
+    (λ i. IsSomeAnd (find_name m i.name.text) (λ p. HasPrinted (whole A) p i.value)) block.items
 
 -- the objective is strictly better than the one before: less where it is minimized, greater where
 -- it is maximized

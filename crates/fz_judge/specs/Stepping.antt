@@ -4,10 +4,10 @@ use Rattle.std.specs.List.{AllByRecursion}
 use Rattle.fz_base.specs.declared.value.Value.{Value}
 use Rattle.fz_search.specs.of_model.declared.Posted.{Posted}
 use Rattle.fz_search.specs.of_model.Meaning as meaning
-use Rattle.fz_search.specs.of_model.Meaning.{IsPartial, Model, Partial, Point, give, points, value_at}
+use Rattle.fz_search.specs.of_model.Meaning.{IsPartial, Model, Partial, Point, points, value_at}
 use Rattle.fz_search.specs.of_model.Meaning.Point.{ConstraintPoint}
 use Rattle.fz_search.specs.of_model.Aimed.{GivesNone}
-use Rattle.fz_search.specs.of_model.Steps.{Gives, GivesNothing}
+use Rattle.fz_search.specs.of_model.Steps.{Gives, GivesNothing, give}
 use Rattle.fz_judge.specs.Filling.{IsFirstStep}
 use Rattle.fz_judge.specs.Kept.{IsKept}
 use Rattle.fz_judge.specs.declared.steps.Giver.{Giver}

@@ -4,11 +4,10 @@ use Rattle.std.specs.Prelude.{◌≡◌, ℕ, suc, zero, ℤ, Bool, true, false,
 use Rattle.std.specs.Option.{option_map_or, option_or}
 use Rattle.fz_search.specs.of_model.declared.State.{State}
 use Rattle.fz_search.specs.of_model.declared.State.TheVariants.{Holds, Fails, NoValue, Unknown, TooLarge}
-use Rattle.fz_search.specs.of_model.Relations.{same_value, same_values}
 use Rattle.fz_search.specs.of_model.Names.{literal_value}
 use Rattle.fz_search.specs.of_model.Meaning.{Place, Aim, Model, Variable, Point, Partial, value, values, points, objective, variables_of, find_name, first_some, IsPartial}
 use Rattle.fz_search.specs.of_model.Openings.{HasEach}
-use Rattle.fz_search.specs.of_model.States.{PointName, state, shown_point}
+use Rattle.fz_search.specs.of_model.States.{PointName, state, shown_point, same_value, same_values}
 use Rattle.fz_search.specs.of_model.Meaning.Place.{Scalar, Array}
 use Rattle.fz_search.specs.of_model.Meaning.Aim.{Minimize, Maximize}
 use Rattle.fz_search.specs.of_model.States.PointName.{DomainOf, DefinitionOf, ConstraintOf}

@@ -10,11 +10,11 @@ use Rattle.fz_search.specs.of_model.declared.Term.TheVariants.{Var, Fixed}
 use Rattle.fz_search.specs.of_model.declared.What.{What}
 use Rattle.fz_search.specs.of_model.declared.What.TheVariants as whats
 use Rattle.fz_search.specs.of_model.Names.{literal_value}
-use Rattle.fz_search.specs.of_model.Relations.{same_value}
 use Rattle.fz_search.specs.of_model.Shown.{scalar_terms}
 use Rattle.fz_search.specs.of_model.Slots.{scalar_term}
-use Rattle.fz_search.specs.of_model.Meaning.{Model, Partial, IsPartial, give, objective, value, value_at, variables_of, find_name}
-use Rattle.fz_search.specs.of_model.States.{PointName}
+use Rattle.fz_search.specs.of_model.Meaning.{Model, Partial, IsPartial, objective, value, value_at, variables_of, find_name}
+use Rattle.fz_search.specs.of_model.Steps.{give}
+use Rattle.fz_search.specs.of_model.States.{PointName, same_value}
 use Rattle.fz_stream.specs.of_syntax.Places.{IsSpanWithin}
 use Rattle.fz_judge.specs.Solutions.{Block, Printed, PrintedValue, printed_values}
 use Rattle.fz_judge.specs.BlockFaults.{moved}

@@ -2,7 +2,8 @@
 
 ghost use Rattle.std.specs.Prelude.{◌≡◌, ◌<◌, ℕ, List, None, IfErr, IfOk, IfSome, OnOk, cond, is_none, length, map};
 ghost use Rattle.std.specs.List.{AllByRecursion};
-ghost use Rattle.fz_search.specs.of_model.Meaning.{IsPartial, Variable as DeclaredVariable, give, value_at, variables_of};
+ghost use Rattle.fz_search.specs.of_model.Meaning.{IsPartial, Variable as DeclaredVariable, value_at, variables_of};
+ghost use Rattle.fz_search.specs.of_model.Steps.{give};
 ghost use Rattle.fz_search.specs.of_model.Names.{literal_value};
 ghost use Rattle.fz_search.specs.of_model.Partial.{nothing_for};
 ghost use Rattle.fz_search.specs.of_model.Shown.{scalar_terms, what_place};

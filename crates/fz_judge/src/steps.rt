@@ -5,8 +5,8 @@
 
 ghost use Rattle.std.specs.Prelude.{◌≡◌, ◌≤◌, ◌<◌, IfOk, IfSome, IsNone, OnOk, Some, length, slice_get, true};
 ghost use Rattle.std.specs.List.{AllByRecursion};
-ghost use Rattle.fz_search.specs.of_model.Meaning.{IsPartial, Model as Meaning, Point, give, points};
-ghost use Rattle.fz_search.specs.of_model.Steps.{Gives, GivesNothing};
+ghost use Rattle.fz_search.specs.of_model.Meaning.{IsPartial, Model as Meaning, Point, points};
+ghost use Rattle.fz_search.specs.of_model.Steps.{Gives, GivesNothing, give};
 ghost use Rattle.fz_judge.specs.Filling.{Chain, IsFirstStep};
 ghost use Rattle.fz_judge.specs.Kept.{IsKept};
 ghost use Rattle.fz_judge.specs.Stepping.{IsAdvanced, IsStepAhead, IsUnderWay, NoneGives, StandBehind, is_shut};

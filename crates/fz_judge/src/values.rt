@@ -3,7 +3,7 @@
 
 ghost use Rattle.std.specs.Prelude.{◌≡◌, IfOk};
 ghost use Rattle.fz_search.specs.of_model.Names.{literal_value};
-ghost use Rattle.fz_search.specs.of_model.Relations.{same_value};
+ghost use Rattle.fz_search.specs.of_model.States.{same_value};
 ghost use Rattle.fz_stream.specs.of_syntax.View.{bare_literal_kind};
 
 use fz_base::{IntSet, Value};

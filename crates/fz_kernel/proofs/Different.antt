@@ -1,18 +1,18 @@
 -- Numbers are all different exactly where each is counted once at most. So their order doesn't
 -- matter; and in ascending order it is enough to compare neighbours.
 use Rattle.std.proofs.Common.{◌≡◌, ℕ, suc, zero, ◌+◌, ◌<◌, ◌≤◌, ℤ, ◌<ℤ◌, ◌≤ℤ◌, Bool, true, false, not, cond, ◌&&◌, ◌||◌, List, [], ◌∷◌, length, get_or, drop, Some, slice_get, refl, sym, ap, subst, ◌∙◌, arith, add-one}
-use Rattle.std.specs.List.{count_by}
+use Rattle.std.specs.List.{count_by, list_all}
 use Rattle.std.specs.List.Sorted.{IsPermutation, IsSorted}
 use Rattle.std.specs.Ordering.{int_cmp}
+use native.Mathlib.Numerals.{unary_clauses}
 use Rattle.std.specs.Cmp.{both_ways}
 use Rattle.std.proofs.lemmas.Int.{ints}
 use Rattle.std.proofs.lemmas.Bool.Decides.{Decides-int_eq}
 use Rattle.std.proofs.lemmas.List.Recursion.{is_count_by}
 use Rattle.std.proofs.lemmas.List.Sorted.{sum_by-IsPermutation}
 use Rattle.fz_base.proofs.Numbers.{not_below}
-use Rattle.fz_data.specs.of_meaning.Relations.{◌=ℤ◌, all_different, is_among}
+use Rattle.fz_data.specs.of_meaning.Relations.{◌=ℤ◌, all_different, all_neighbours, all_pairs, is_among}
 use Rattle.fz_data.proofs.of_meaning.Values.{no, no', and_first, and_second, and_both, same_int, int_itself}
-use Rattle.fz_kernel.proofs.Left.{next}
 
 -- how often the number is listed
 abbrev count : ℤ → List ℤ → ℕ
@@ -66,80 +66,48 @@ all_different-permutation xs ys moved =
     alike : (a : ℤ) → count a xs ≡ count a ys
     alike a = count_is a xs ∙ sym (sum_by-IsPermutation (λ x. cond (x =ℤ a) 1 0) xs ys moved) ∙ sym (count_is a ys)
 
--- each number but the first is above the one before
-abbrev Rise : List ℤ → Type 0
-Rise xs = (k : ℕ) (d : ℤ) → suc k < length xs → get_or xs k d <ℤ get_or xs (suc k) d
+other : (a b : ℤ) → b <ℤ a → (a =ℤ b) ≡ false
+other a b h = grind (arith, ints)
 
-rise_tail : (x : ℤ) (xs : List ℤ) → Rise (x ∷ xs) → Rise xs
-rise_tail x xs up k d h = up (suc k) d (omega arith)
+less : (a b : ℤ) → a ≤ℤ b → (a =ℤ b) ≡ false → a <ℤ b
+less a b h e = grind (arith, ints)
 
-apart : (a b : ℤ) → a <ℤ b → (b =ℤ a) ≡ false
-apart a b h = elim (b =ℤ a) as (λ s. (b =ℤ a) ≡ s → s ≡ false) [ true ↦ λ e. let same : b ≡ a = same_int b a e in absurd (omega (arith, ints)) | false ↦ λ _. refl ] refl
+turned : (a b : ℤ) → (a =ℤ b) ≡ (b =ℤ a)
+turned a b = grind (arith, ints)
 
--- what is no greater than a number is none of those above it
-none_above : (a x : ℤ) (xs : List ℤ) → a ≤ℤ x → Rise (x ∷ xs) → is_among a xs ≡ false
-none_above a x [] low up = refl
-none_above a x (y ∷ ys) low up =
-    let step : x <ℤ y = up 0 x (omega arith) in
-    let above : a <ℤ y = omega (arith, ints) in
-    let at_most : a ≤ℤ y = omega (arith, ints) in
-    ap (λ s. s || is_among a ys) (apart a y above) ∙ none_above a y ys at_most (rise_tail x (y ∷ ys) up)
+later_sorted : (x : ℤ) (xs : List ℤ) → IsSorted int_cmp (x ∷ xs) → IsSorted int_cmp xs
+later_sorted x xs sorted k d h g = rw add-one (simp unary_clauses at (sorted (suc k) d (omega arith) (omega arith)))
 
-rise_different : (xs : List ℤ) → Rise xs → all_different xs ≡ true
-rise_different [] up = refl
-rise_different (x ∷ xs) up =
-    and_both (not (is_among x xs)) (all_different xs) (ap not (none_above x x xs (omega (arith, ints)) up)) (rise_different xs (rise_tail x xs up))
+-- what is less than each of some numbers is none of them
+none_above : (a x : ℤ) (xs : List ℤ) → IsSorted int_cmp (x ∷ xs) → a <ℤ x
+    → is_among a (x ∷ xs) ≡ false
+none_above a x [] sorted low = ap (λ s. s || false) (other x a low)
+none_above a x (y ∷ ys) sorted low =
+    let step : x ≤ℤ y = not_below y x (sorted 0 x (omega arith) (omega arith)) in
+    ap (λ s. s || is_among a (y ∷ ys)) (other x a low) ∙ none_above a y ys (later_sorted x (y ∷ ys) sorted) (omega (arith, ints))
 
--- numbers in order of which no two neighbours are equal
-pub neighbours_tell : (xs : List ℤ) → IsSorted int_cmp xs
-    → ((k : ℕ) (d : ℤ) → k + 1 < length xs → (get_or xs k d =ℤ get_or xs (k + 1) d) ≡ false)
-    → all_different xs ≡ true
-neighbours_tell xs sorted apart = rise_different xs (λ k d h. step k d h)
-  where
-    step : Rise xs
-    step k d h =
-        let below : get_or xs k d ≤ℤ get_or xs (k + 1) d = not_below (get_or xs (k + 1) d) (get_or xs k d) (sorted k d (omega arith) (omega arith)) in
-        let other : (get_or xs k d ≡ get_or xs (k + 1) d) → ⊥ = λ same. no' (sym ((Decides-int_eq (get_or xs k d) (get_or xs (k + 1) d)).1 same) ∙ apart k d (omega arith)) in
-        subst (λ n. get_or xs k d <ℤ get_or xs n d) (add-one k) (omega (arith, ints, other))
+-- numbers in order are different where neighbours are
+pub neighbours_are : (xs : List ℤ) → IsSorted int_cmp xs
+    → all_neighbours (λ x y. not (x =ℤ y)) xs ≡ all_different xs
+neighbours_are [] sorted = refl
+neighbours_are (x ∷ []) sorted = refl
+neighbours_are (x ∷ y ∷ ys) sorted =
+    let low : x ≤ℤ y = not_below y x (sorted 0 x (omega arith) (omega arith)) in
+    let later = later_sorted x (y ∷ ys) sorted in
+    ap (λ b. not (x =ℤ y) && b) (neighbours_are (y ∷ ys) later)
+    ∙ ap (λ b. not b && all_different (y ∷ ys)) (elim (x =ℤ y) as (λ b. (x =ℤ y) ≡ b → b ≡ is_among x (y ∷ ys)) [
+      | true ↦ λ e. ap (λ b. b || is_among x ys) (sym (sym (turned x y) ∙ e))
+      | false ↦ λ e. sym (none_above x y ys later (less x y low e))
+    ] refl)
 
-same_listed : (xs : List ℤ) (k : ℕ) (d a : ℤ) → k < length xs → get_or xs k d ≡ a
-    → is_among a xs ≡ true
-same_listed [] k d a h e = absurd (omega arith)
-same_listed (x ∷ xs) zero d a h e = ap (λ s. s || is_among a xs) ((Decides-int_eq x a).1 e)
-same_listed (x ∷ xs) (suc k) d a h e = elim (x =ℤ a) as (λ s. (s || is_among a xs) ≡ true) [ true ↦ refl | false ↦ same_listed xs k d a (omega arith) e ]
+-- ---- each pair
 
-two_equal : (xs : List ℤ) (k : ℕ) (d : ℤ) → suc k < length xs → get_or xs k d ≡ get_or xs (suc k) d
-    → all_different xs ≡ false
-two_equal [] k d h e = absurd (omega arith)
-two_equal (x ∷ xs) zero d h e = ap (λ s. not s && all_different xs) (same_listed xs 0 d x (omega arith) (sym e))
-two_equal (x ∷ xs) (suc k) d h e = ap (λ s. not (is_among x xs) && s) (two_equal xs k d (omega arith) e) ∙ and_false (not (is_among x xs))
-  where
-    and_false : (p : Bool) → (p && false) ≡ false
-    and_false true = refl
-    and_false false = refl
+none_among : (a : ℤ) (ys : List ℤ) → list_all (λ y. not (a =ℤ y)) ys ≡ not (is_among a ys)
+none_among a [] = refl
+none_among a (y ∷ ys) =
+    ap (λ b. not b && list_all (λ z. not (a =ℤ z)) ys) (turned a y)
+    ∙ elim (y =ℤ a) as (λ b. (not b && list_all (λ z. not (a =ℤ z)) ys) ≡ not (b || is_among a ys)) [ true ↦ refl | false ↦ none_among a ys ]
 
--- two neighbours that are equal
-pub neighbours_equal : (xs : List ℤ) (k j : ℕ) (d : ℤ) → j ≡ k + 1 → j < length xs
-    → get_or xs k d ≡ get_or xs j d → all_different xs ≡ false
-neighbours_equal xs k j d is h e = two_equal xs k d (omega arith) (e ∙ ap (λ n. get_or xs n d) (is ∙ add-one k))
-
--- ---- pair by pair
-
--- the element at an index comes again later
-pub found_again : (xs : List ℤ) (i : ℕ) (x : ℤ) → all_different xs ≡ all_different (drop i xs)
-    → slice_get xs i ≡ Some x → is_among x (drop (i + 1) xs) ≡ true → false ≡ all_different xs
-found_again xs i x so_far at again = sym (so_far ∙ ap all_different (next xs i x at) ∙ ap (λ s. not s && all_different (drop (i + 1) xs)) again)
-
--- or it doesn't
-pub not_again : (xs : List ℤ) (i : ℕ) (x : ℤ) → all_different xs ≡ all_different (drop i xs)
-    → slice_get xs i ≡ Some x → is_among x (drop (i + 1) xs) ≡ false
-    → all_different xs ≡ all_different (drop (i + 1) xs)
-not_again xs i x so_far at once = so_far ∙ ap all_different (next xs i x at) ∙ ap (λ s. not s && all_different (drop (i + 1) xs)) once
-
-pub stands_here : (xs : List ℤ) (i : ℕ) (x n : ℤ) (r : Bool) → r ≡ is_among n (drop i xs)
-    → slice_get xs i ≡ Some x → x ≡ n → true ≡ r
-stands_here xs i x n r so_far at same = sym (so_far ∙ ap (is_among n) (next xs i x at) ∙ ap (λ s. s || is_among n (drop (i + 1) xs)) ((Decides-int_eq x n).1 same))
-
-pub stands_elsewhere : (xs : List ℤ) (i : ℕ) (x n : ℤ) (r : Bool) → r ≡ is_among n (drop i xs)
-    → slice_get xs i ≡ Some x → ¬ (x ≡ n) → r ≡ is_among n (drop (i + 1) xs)
-stands_elsewhere xs i x n r so_far at other = so_far ∙ ap (is_among n) (next xs i x at) ∙ ap (λ s. s || is_among n (drop (i + 1) xs)) (elim (x =ℤ n) as (λ s. (x =ℤ n) ≡ s → s ≡ false) [ true ↦ λ e. absurd (other ((Decides-int_eq x n).0 e)) | false ↦ λ _. refl ] refl)
+pub pairs_are : (xs : List ℤ) → all_pairs (λ x y. not (x =ℤ y)) xs ≡ all_different xs
+pairs_are [] = refl
+pairs_are (x ∷ xs) = λ k. none_among x xs k && pairs_are xs k

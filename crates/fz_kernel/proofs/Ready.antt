@@ -10,11 +10,11 @@ use Rattle.fz_base.specs.declared.value.Value.TheVariants.{Int, Bool as Truth, S
 use Rattle.fz_data.specs.of_meaning.declared.kind.Kind.{Kind}
 use Rattle.fz_data.specs.of_meaning.declared.kind.Kind.TheVariants.{Int as IntKind, Bool as BoolKind, Set as SetKind}
 use Rattle.fz_data.specs.of_meaning.declared.term.Term.{Term}
-use Rattle.fz_data.specs.of_meaning.Relations.{kind_of, same_kind}
-use Rattle.fz_data.specs.of_meaning.Builtins.{Shape, ArgValue, Test, Of, Plain, plain, plain_and, plain_list, read, passes}
+use Rattle.fz_data.specs.of_meaning.Relations.{kind_of, same_kind, option_cons}
+use Rattle.fz_data.specs.of_meaning.Builtins.{Shape, ArgValue, Test, Of, Plain, plain, plain_list, read, passes}
 use Rattle.fz_data.specs.of_meaning.Builtins.Shape.{ScalarOf, ArrayOf}
 use Rattle.fz_data.specs.of_meaning.Builtins.ArgValue.{OneValue, ManyValues}
-use Rattle.fz_data.specs.of_meaning.Meaning.{Argument, Place, Partial, value, values, option_cons, terms_at, terms_in, argument_value, argument_values, has_shape, have_shapes, is_term_of}
+use Rattle.fz_data.specs.of_meaning.Meaning.{Argument, Place, Partial, value, values, terms_at, terms_in, argument_value, argument_values, has_shape, have_shapes, is_term_of}
 use Rattle.fz_data.specs.of_meaning.Meaning.Place.{Scalar, Array}
 use Rattle.fz_data.specs.of_meaning.Meaning.Argument.{One, ListOf}
 use Rattle.fz_data.proofs.of_meaning.Values.{no, no', and_first, and_second}
@@ -162,7 +162,7 @@ kind_not : (k : Kind) (o : Option Value) (v : Value) → o ≡ Some v
 kind_not k None v e h = cc
 kind_not k (Some w) v e h = let same : w ≡ v = cc in plain_not k v (ap (λ z. same_kind (kind_of z) k) (sym same) ∙ h)
 
-plain_none : (k : Kind) (o : Option (Plain k)) → plain_and k o None ≡ None
+plain_none : (k : Kind) (o : Option (Plain k)) → option_cons o None ≡ None
 plain_none k None = refl
 plain_none k (Some x) = refl
 
@@ -172,9 +172,9 @@ elements_not K k [] vs e h = no' h
 elements_not K k (t ∷ ts) vs e h =
     let (v, ws, is, are, cons) = option_cons_parts (value K t) (values K ts) vs e in
     ap (plain_list k) cons
-    ∙ (elim (is_read K k (Some t)) as (λ b. is_read K k (Some t) ≡ b → (b && list_all (is_read K k) (map Some ts)) ≡ false → plain_and k (plain k v) (plain_list k ws) ≡ None) [
-      | true ↦ λ _ more. ap (plain_and k (plain k v)) (elements_not K k ts ws are more) ∙ plain_none k (plain k v)
-      | false ↦ λ one _. ap (λ o. plain_and k o (plain_list k ws)) (kind_not k (value K t) v is one)
+    ∙ (elim (is_read K k (Some t)) as (λ b. is_read K k (Some t) ≡ b → (b && list_all (is_read K k) (map Some ts)) ≡ false → option_cons (plain k v) (plain_list k ws) ≡ None) [
+      | true ↦ λ _ more. ap (option_cons (plain k v)) (elements_not K k ts ws are more) ∙ plain_none k (plain k v)
+      | false ↦ λ one _. ap (λ o. option_cons o (plain_list k ws)) (kind_not k (value K t) v is one)
     ] refl h)
 
 argument_not : (K : Partial) (s : Shape) (x : Argument) (v : ArgValue) → has_shape s x ≡ true

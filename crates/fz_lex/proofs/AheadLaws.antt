@@ -7,8 +7,8 @@ use Rattle.std.proofs.lemmas.List.{length-drop, append-nil, get_or_past}
 use Rattle.std.proofs.lemmas.Bool.{eqb-true, eqb-false, cases_Bool, cases_lt, ltb-true, ltb-false}
 use Rattle.std.proofs.lemmas.Int.{ints}
 use Rattle.fz_lex.specs.Token.{is_blank, is_line_feed, TokenValue, Whole}
-use Rattle.fz_lex.specs.Lexing.{SpannedToken, CutBetween, nothing, blank, comment, spelling, IsWholeComment, IsLongestSpelling, LexesToSpanned, IsWithinLimit, IsTokenWithinLimit, AreWithinLimit, LexesWithin, standard_limits}
-use Rattle.fz_lex.specs.View.{NothingBegins, spanned, IsSpelledAtSpan, IsLexicalFaultWithin, IsPlacedWithin}
+use Rattle.fz_lex.specs.Lexing.{SpannedToken, CutBetween, nothing, blank, comment, spelling, IsWholeComment, IsLongestSpelling, LexesToSpanned, IsWithinLimit, IsTokenWithinLimit, LexesWithin, standard_limits}
+use Rattle.fz_lex.specs.View.{NothingBegins, spanned, IsSpelledAtSpan, IsLexicalFaultWithin, IsPlacedWithin, AreWithinLimit}
 use Rattle.fz_lex.specs.Found.{AreInOrder, NextFrom, FaultFrom, IsScanned, IsScanFault}
 use Rattle.fz_lex.specs.Scan.{FrontToken, found, none, front_of}
 use Rattle.fz_lex.specs.Ahead.{comma_at, gap_from, is_whole_within, is_within, tokens_at, tokens_from, tokens_ahead, stop_at, stop_from, stop_ahead}
@@ -44,42 +44,24 @@ stop_within (at_end e) = omega arith
 stop_within (at_fault h n) = omega arith
 stop_within (at_large n z h l o) = omega arith
 
-no_more : {source : List ℕ} {p q : ℕ} {R : List SpannedToken} → IsStop source p → q ≤ length source
-    → CutBetween source p q R → AreWithinLimit R → R ≡ []
-no_more (at_end e) h c w = cut_stays c (omega arith)
-no_more {source} {p} {q} (at_fault k n) h c w = ⊎_elim (λ l. absurd (no_cut_from c l n)) (λ l. cut_stays c l) (cases_lt p q)
-no_more {source} {p} {q} (at_large m z k l o) h c w = ⊎_elim (λ less. absurd (no_limit_from m z c less l o w)) (λ less. cut_stays c less) (cases_lt p q)
+-- nothing is read past a stop
+no_more : {source : List ℕ} {p q : ℕ} {R : List SpannedToken} → IsStop source p → p ≤ q
+    → q ≤ length source → CutBetween source p q R → AreWithinLimit R → (p ≡ q) × (R ≡ [])
+no_more (at_end e) l h c w = (omega arith, cut_stays c (omega arith))
+no_more {source} {p} {q} (at_fault k n) l h c w = ⊎_elim (λ less. absurd (no_cut_from c less n)) (λ less. (omega arith, cut_stays c less)) (cases_lt p q)
+no_more {source} {p} {q} (at_large m z k l o) u h c w = ⊎_elim (λ less. absurd (no_limit_from m z c less l o w)) (λ less. (omega arith, cut_stays c less)) (cases_lt p q)
 
 ahead_before : (source : List ℕ) (p s t : ℕ) (S T : List SpannedToken)
-    → (a : AreAhead source p s S) (b : AreAhead source p t T) → s ≤ t → S ≡ T
+    → (a : AreAhead source p s S) (b : AreAhead source p t T) → s ≤ t → (s ≡ t) × (S ≡ T)
 ahead_before source p s t S T a b h =
     let d = cut_continues a.cut b.cut h in
     let all : AreWithinLimit (S ++ d.rest) = subst AreWithinLimit d.is b.numbers in
-    let none_left = no_more a.stopped (stop_within b.stopped) d.cut (all_right (λ t. IsTokenWithinLimit t.token) S d.rest all) in
-    sym (d.is ∙ (ap (λ R. S ++ R) none_left ∙ append-nil S))
+    let none_left = no_more a.stopped h (stop_within b.stopped) d.cut (all_right (λ t. IsTokenWithinLimit t.token) S d.rest all) in
+    (none_left.0, sym (d.is ∙ (ap (λ R. S ++ R) none_left.1 ∙ append-nil S)))
 
-pub ahead_once : (source : List ℕ) (p s t : ℕ) (S T : List SpannedToken) → AreAhead source p s S
-    → AreAhead source p t T → S ≡ T
-ahead_once source p s t S T a b = ⊎_elim (λ h. ahead_before source p s t S T a b (omega arith)) (λ h. sym (ahead_before source p t s T S b a h)) (cases_lt s t)
-
-no_way : {source : List ℕ} {p q : ℕ} {R : List SpannedToken} → IsStop source p → p < q
-    → q ≤ length source → CutBetween source p q R → AreWithinLimit R → ⊥
-no_way (at_end e) h k c w = omega arith
-no_way (at_fault l n) h k c w = no_cut_from c h n
-no_way (at_large m z l o f) h k c w = no_limit_from m z c h o f w
-
--- nothing is read past a stop
-stop_before : (source : List ℕ) (p s t : ℕ) (S T : List SpannedToken) → AreAhead source p s S
-    → AreAhead source p t T → s < t → ⊥
-stop_before source p s t S T a b h =
-    let d = cut_continues a.cut b.cut (omega arith) in
-    let all : AreWithinLimit (S ++ d.rest) = subst AreWithinLimit d.is b.numbers in
-    no_way a.stopped h (stop_within b.stopped) d.cut (all_right (λ t. IsTokenWithinLimit t.token) S d.rest all)
-
-pub stop_once : (source : List ℕ) (p s t : ℕ) (S T : List SpannedToken) → AreAhead source p s S
-    → AreAhead source p t T → s ≡ t
-stop_once source p s t S T a b =
-    ⊎_elim (λ h. absurd (stop_before source p s t S T a b h)) (λ h. ⊎_elim (λ k. absurd (stop_before source p t s T S b a k)) (λ k. omega arith) (cases_lt t s)) (cases_lt s t)
+ahead_once : (source : List ℕ) (p s t : ℕ) (S T : List SpannedToken) → AreAhead source p s S
+    → AreAhead source p t T → (s ≡ t) × (S ≡ T)
+ahead_once source p s t S T a b = ⊎_elim (λ h. ahead_before source p s t S T a b (omega arith)) (λ h. let other = ahead_before source p t s T S b a h in (sym other.0, sym other.1)) (cases_lt s t)
 
 -- ---- `tokens_ahead` gives it.
 
@@ -199,13 +181,10 @@ pub ahead_is : (source : List ℕ) (place : ℕ) → place ≤ length source
 ahead_is source place h = ahead_from (length source) source place h (omega arith)
 
 -- what is known from elsewhere to be ahead of an offset
-pub ahead_same : (source : List ℕ) (place stop : ℕ) (tokens : List SpannedToken)
-    → place ≤ length source → AreAhead source place stop tokens → tokens_ahead source place ≡ tokens
+ahead_same : (source : List ℕ) (place stop : ℕ) (tokens : List SpannedToken)
+    → place ≤ length source → AreAhead source place stop tokens
+    → (stop_ahead source place ≡ stop) × (tokens_ahead source place ≡ tokens)
 ahead_same source place stop tokens h a = ahead_once source place _ _ _ _ (ahead_is source place h) a
-
-pub stop_same : (source : List ℕ) (place stop : ℕ) (tokens : List SpannedToken)
-    → place ≤ length source → AreAhead source place stop tokens → stop_ahead source place ≡ stop
-stop_same source place stop tokens h a = stop_once source place _ _ _ _ (ahead_is source place h) a
 
 -- ---- The lexer's steps.
 
@@ -217,17 +196,17 @@ step_ahead source place end t k c w = let a = ahead_is source end k in record { 
 pub ahead_token : (source : List ℕ) (place end : ℕ) (t : Token) → place ≤ length source
     → end ≤ length source → NextFrom source place end (Some t)
     → tokens_ahead source place ≡ spanned t ∷ tokens_ahead source end
-ahead_token source place end t h k n = ahead_same source place _ _ h (step_ahead source place end (spanned t) k n.0 n.1)
+ahead_token source place end t h k n = (ahead_same source place _ _ h (step_ahead source place end (spanned t) k n.0 n.1)).1
 
 -- behind a token reading stops where it stops from that token on
 pub stop_stays : (source : List ℕ) (place end : ℕ) (t : SpannedToken) → place ≤ length source
     → end ≤ length source → CutBetween source place end (t ∷ []) → IsTokenWithinLimit t.token
     → stop_ahead source end ≡ stop_ahead source place
-stop_stays source place end t h k c w = sym (stop_same source place _ _ h (step_ahead source place end t k c w))
+stop_stays source place end t h k c w = sym (ahead_same source place _ _ h (step_ahead source place end t k c w)).0
 
 pub ahead_comma : (source : List ℕ) (place : ℕ) → place < length source → get_or source place 0 ≡ 44
     → tokens_ahead source place ≡ comma_at place ∷ tokens_ahead source (place + 1)
-ahead_comma source place h b = ahead_same source place _ _ (omega arith) (step_ahead source place (place + 1) (comma_at place) (omega arith) (comma_cut source place h b) tt)
+ahead_comma source place h b = (ahead_same source place _ _ (omega arith) (step_ahead source place (place + 1) (comma_at place) (omega arith) (comma_cut source place h b) tt)).1
 
 none_ahead : (source : List ℕ) (place end : ℕ) → NextFrom source place end None
     → AreAhead source place (length source) []
@@ -235,7 +214,7 @@ none_ahead source place end n = record { cut = n; numbers = tt; stopped = at_end
 
 pub ahead_none : (source : List ℕ) (place end : ℕ) → place ≤ length source
     → NextFrom source place end None → tokens_ahead source place ≡ []
-ahead_none source place end h n = ahead_same source place _ _ h (none_ahead source place end n)
+ahead_none source place end h n = (ahead_same source place _ _ h (none_ahead source place end n)).1
 
 bad_ahead : (source : List ℕ) (place : ℕ) (span : Span) → FaultFrom source place (BadByte span)
     → AreAhead source place span.start []
@@ -252,8 +231,8 @@ large_ahead source place span f =
 
 pub ahead_fault : (source : List ℕ) (place : ℕ) (e : SyntaxError) → place ≤ length source
     → FaultFrom source place e → tokens_ahead source place ≡ []
-ahead_fault source place (BadByte span) h f = ahead_same source place _ _ h (bad_ahead source place span f)
-ahead_fault source place (TooLarge span) h f = ahead_same source place _ _ h (large_ahead source place span f)
+ahead_fault source place (BadByte span) h f = (ahead_same source place _ _ h (bad_ahead source place span f)).1
+ahead_fault source place (TooLarge span) h f = (ahead_same source place _ _ h (large_ahead source place span f)).1
 ahead_fault source place _ h f = absurd f
 
 -- what a reader has left after a step of the lexer: the tokens ahead of where the lexer was
@@ -282,15 +261,15 @@ pub end_scanned : (source : List ℕ) (place end : ℕ) → place ≤ length sou
     → stop_ahead source place ≡ stop_ahead source 0 → NextFrom source place end None
     → IsScanned source
 end_scanned source place end h same n =
-    (tokens_ahead source 0, cut_to source (length source) (sym same ∙ stop_same source place _ _ h (none_ahead source place end n)), numbers_to source)
+    (tokens_ahead source 0, cut_to source (length source) (sym same ∙ (ahead_same source place _ _ h (none_ahead source place end n)).0), numbers_to source)
 
 pub fault_scanned : (source : List ℕ) (place : ℕ) (e : SyntaxError) → place ≤ length source
     → stop_ahead source place ≡ stop_ahead source 0 → FaultFrom source place e → (limits : Limits)
     → IsLexicalFaultWithin limits source e
 fault_scanned source place (BadByte span) h same f limits =
-    (tokens_ahead source 0, cut_to source span.start (sym same ∙ stop_same source place _ _ h (bad_ahead source place span f)), numbers_to source, f.1, f.2)
+    (tokens_ahead source 0, cut_to source span.start (sym same ∙ (ahead_same source place _ _ h (bad_ahead source place span f)).0), numbers_to source, f.1, f.2)
 fault_scanned source place (TooLarge span) h same f limits =
-    (tokens_ahead source 0, f.0, f.1, cut_to source span.start (sym same ∙ stop_same source place _ _ h (large_ahead source place span f)), numbers_to source, f.3, f.4, f.5)
+    (tokens_ahead source 0, f.0, f.1, cut_to source span.start (sym same ∙ (ahead_same source place _ _ h (large_ahead source place span f)).0), numbers_to source, f.3, f.4, f.5)
 fault_scanned source place _ h same f limits = absurd f
 
 -- the tokens of a source, up to its first fault, follow one another
@@ -308,7 +287,7 @@ ahead_spelled source = let a = ahead_is source 0 (omega arith) in cut_spelled a.
 pub lexed_ahead : (source : List ℕ) (tokens : List SpannedToken) → LexesToSpanned source tokens
     → AreWithinLimit tokens → tokens ≡ tokens_ahead source 0
 lexed_ahead source tokens l w =
-    ahead_once source 0 _ _ _ _ (record { cut = l; numbers = w; stopped = at_end refl }) (ahead_is source 0 (omega arith))
+    sym (ahead_same source 0 _ _ (omega arith) (record { cut = l; numbers = w; stopped = at_end refl })).1
 
 pub only_scanned : (limits : Limits) (source : List ℕ) (T : List SpannedToken)
     (r : Result (Unit {0}) SyntaxError) → LexesWithin limits source T

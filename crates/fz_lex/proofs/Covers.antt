@@ -1,11 +1,10 @@
 -- What the scanner counts is at least as long as any token's text at the front, and is that text
 -- where it is no longer.
-use Rattle.std.proofs.Common.{◌≡◌, ◌≢◌, ℕ, suc, ◌+◌, ◌<◌, ◌≤◌, List, [], ◌∷◌, ◌++◌, length, drop, get_or, true, false, eqb, ◌&&◌, ◌||◌, Option, Some, None, option_map, ◌⊎◌, ⊎_elim, inl, inr, refl, sym, ap, ◌∙◌, subst, arith}
+use Rattle.std.proofs.Common.{◌≡◌, ◌≢◌, ℕ, ◌+◌, ◌<◌, ◌≤◌, List, [], ◌∷◌, ◌++◌, length, drop, get_or, true, false, eqb, ◌&&◌, ◌||◌, Option, Some, None, option_map, ◌⊎◌, ⊎_elim, inl, inr, refl, sym, ap, ◌∙◌, subst, arith}
 use Rattle.std.specs.Prelude.{codes}
-use Rattle.std.specs.List.{list_all}
 use Rattle.std.specs.Char.{is_digit}
 use Rattle.std.proofs.lemmas.List.{length-append, append_assoc, get_or_append_left, take_at, drop_at}
-use Rattle.std.proofs.lemmas.Bool.{and_parts, and_left, and_right, ne_eqb, eqb-true, eqb-false, cases_Bool}
+use Rattle.std.proofs.lemmas.Bool.{and_parts, ne_eqb, eqb-true, eqb-false, cases_Bool}
 use Rattle.std.proofs.lemmas.Bool.Decides.{nat_tests}
 use Rattle.std.proofs.Math.Seq.{drop-append-add}
 use Rattle.fz_lex.specs.Token.{is_word_byte, AreDigits, number_of, WritesNatural, decimal, hexadecimal, octal, IsExponent, IsUnsignedFloat, pointed, scaled, IsStringRest, closed, plain, escaped}
@@ -28,76 +27,33 @@ digit_not_sign : (c : ℕ) → is_digit c 10 ≡ true → (eqb c 43 || eqb c 45)
 digit_not_sign c h = grind (arith, nat_tests)
 
 -- an exponent at the front
-signed_plain : (digits after : List ℕ) → AreDigits 10 digits
-    → signed_digits_len (digits ++ after) ≡ length digits + digits_len 10 after
-unfolding signed_digits_len
-signed_plain digits after d =
-    let digit = starts_with_digit 10 digits after d in
-    let count = digits_cover 10 digits after d in
-    rw (digit_not_sign (get_or (digits ++ after) 0 0) digit, digit) (omega arith)
-
-signed_plus : (digits after : List ℕ) → AreDigits 10 digits
-    → signed_digits_len (43 ∷ (digits ++ after)) ≡ 1 + (length digits + digits_len 10 after)
-unfolding signed_digits_len
-signed_plus digits after d =
-    let digit = starts_with_digit 10 digits after d in
-    let count = digits_cover 10 digits after d in
-    rw digit (omega arith)
-
-signed_minus : (digits after : List ℕ) → AreDigits 10 digits
-    → signed_digits_len (45 ∷ (digits ++ after)) ≡ 1 + (length digits + digits_len 10 after)
-unfolding signed_digits_len
-signed_minus digits after d =
-    let digit = starts_with_digit 10 digits after d in
-    let count = digits_cover 10 digits after d in
-    rw digit (omega arith)
-
 signed_covers : (sign digits after : List ℕ) → (sign ≡ [])
     ⊎ ((sign ≡ codes "+") ⊎ (sign ≡ codes "-")) → AreDigits 10 digits
     → signed_digits_len (sign ++ (digits ++ after))
     ≡ length sign + (length digits + digits_len 10 after)
+unfolding signed_digits_len
 signed_covers sign digits after s d =
-    let P : List ℕ → Type 0 = λ x. signed_digits_len (x ++ (digits ++ after)) ≡ length x + (length digits + digits_len 10 after) in
-    let plain = signed_plain digits after d in
-    let plus = signed_plus digits after d in
-    let minus = signed_minus digits after d in
+    let digit = starts_with_digit 10 digits after d in
+    let count = digits_cover 10 digits after d in
     ⊎_elim
-    (λ e. subst P (sym e) (omega arith))
-    (λ s. ⊎_elim (λ e. subst P (sym e) (omega arith)) (λ e. subst P (sym e) (omega arith)) s)
+    (λ e. rw e (rw (digit_not_sign (get_or (digits ++ after) 0 0) digit, digit) (omega arith)))
+    (⊎_elim (λ e. rw e (rw digit (omega arith))) (λ e. rw e (rw digit (omega arith))))
     s
-
-exponent_behind : (n : ℕ) (rest : List ℕ) → 0 < n → signed_digits_len rest ≡ n
-    → (exponent_len (101 ∷ rest) ≡ 1 + n) × (exponent_len (69 ∷ rest) ≡ 1 + n)
-unfolding exponent_len
-exponent_behind n rest h k =
-    let some = ne_eqb (signed_digits_len rest) 0 (λ z. absurd (omega arith)) in
-    (rw some (omega arith), rw some (omega arith))
-
-exponent_covers_at : (letter sign digits after : List ℕ) → (letter ≡ codes "e")
-    ⊎ (letter ≡ codes "E") → (sign ≡ []) ⊎ ((sign ≡ codes "+") ⊎ (sign ≡ codes "-"))
-    → AreDigits 10 digits → exponent_len (letter ++ (sign ++ (digits ++ after)))
-    ≡ length letter + (length sign + (length digits + digits_len 10 after))
-exponent_covers_at letter sign digits after l s d =
-    let P : List ℕ → Type 0 = λ x. exponent_len (x ++ (sign ++ (digits ++ after))) ≡ length x + (length sign + (length digits + digits_len 10 after)) in
-    let some = d.0 in
-    let behind = exponent_behind (length sign + (length digits + digits_len 10 after)) (sign ++ (digits ++ after)) (omega arith) (signed_covers sign digits after s d) in
-    ⊎_elim (λ e. subst P (sym e) behind.0) (λ e. subst P (sym e) behind.1) l
 
 pub exponent_covers : (exponent after : List ℕ) → IsExponent exponent
     → exponent_len (exponent ++ after) ≡ length exponent + digits_len 10 after
+unfolding exponent_len
 exponent_covers exponent after e =
-    let covers = exponent_covers_at e.letter e.sign e.digits after e.is_letter e.is_sign e.are_digits in
-    let split : exponent ++ after ≡ e.letter ++ (e.sign ++ (e.digits ++ after)) = ap (λ x. x ++ after) e.is_whole ∙ (append_assoc e.letter (e.sign ++ e.digits) after ∙ ap (λ x. e.letter ++ x) (append_assoc e.sign e.digits after)) in
-    let len : length exponent ≡ length e.letter + (length e.sign + length e.digits) = ap length e.is_whole ∙ (length-append e.letter (e.sign ++ e.digits) ∙ ap (λ n. length e.letter + n) (length-append e.sign e.digits)) in
-    rw split (omega arith)
+    let behind = signed_covers e.sign e.digits after e.is_sign e.are_digits in
+    let digits = e.are_digits.0 in
+    let some = ne_eqb (signed_digits_len (e.sign ++ (e.digits ++ after))) 0 (λ z. absurd (omega arith)) in
+    rw e.is_whole (simp (append_assoc, length-append) (⊎_elim (λ l. rw l (rw some (omega arith))) (λ l. rw l (rw some (omega arith))) e.is_letter))
 
 -- what an exponent begins with
 exponent_first : (exponent after : List ℕ) → IsExponent exponent
     → (get_or (exponent ++ after) 0 0 ≡ 101) ⊎ (get_or (exponent ++ after) 0 0 ≡ 69)
 exponent_first exponent after e =
-    let split = ap (λ x. get_or (x ++ after) 0 0) e.is_whole in
-    let first : (c : ℕ) → e.letter ≡ c ∷ [] → get_or (exponent ++ after) 0 0 ≡ c = λ c l. split ∙ ap (λ x. get_or ((x ++ (e.sign ++ e.digits)) ++ after) 0 0) l in
-    ⊎_elim (λ l. inl (first 101 l)) (λ l. inr (first 69 l)) e.is_letter
+    rw e.is_whole (⊎_elim (λ l. inl (rw l refl)) (λ l. inr (rw l refl)) e.is_letter)
 
 exponent_positive : (exponent : List ℕ) → IsExponent exponent → 0 < length exponent
 exponent_positive exponent e = rw e.is_whole (⊎_elim (λ l. rw l (omega arith)) (λ l. rw l (omega arith)) e.is_letter)
@@ -134,22 +90,13 @@ pub record NumberCovers (b after : List ℕ) (natural : Option ℕ) (front : Num
 not_based : (b : List ℕ) (c letter base : ℕ) (tail : List ℕ) → AreDigits 10 b
     → is_digit letter 10 ≡ false → c ≢ letter → is_based letter base (b ++ (c ∷ tail)) ≡ false
 not_based [] c letter base tail d l n = absurd (omega (arith, d.0))
-not_based (x ∷ []) c letter base tail d l n = and_right (eqb x 48) _ (and_left (eqb c letter) _ (ne_eqb c letter n))
-not_based (x ∷ (y ∷ rest)) c letter base tail d l n =
-    let parts = and_parts (is_digit x 10) (is_digit y 10 && list_all (λ b. is_digit b 10) rest) d.1 in
-    let second = (and_parts (is_digit y 10) (list_all (λ b. is_digit b 10) rest) parts.1).0 in
-    and_right (eqb x 48) _ (and_left (eqb y letter) _ (ne_eqb y letter (λ e. let f = rw e at second in cc)))
+not_based (x ∷ []) c letter base tail d l n = grind (arith, nat_tests)
+not_based (x ∷ (y ∷ rest)) c letter base tail d l n = grind (arith, nat_tests)
 
 -- where a number in another base begins, there is only one decimal digit
 based_short : (b after : List ℕ) (letter base : ℕ) → AreDigits 10 b → is_digit letter 10 ≡ false
     → is_based letter base (b ++ after) ≡ true → length b ≤ 1
-based_short (x ∷ (y ∷ rest)) after letter base d l h =
-    let parts = and_parts (is_digit x 10) (is_digit y 10 && list_all (λ b. is_digit b 10) rest) d.1 in
-    let second = (and_parts (is_digit y 10) (list_all (λ b. is_digit b 10) rest) parts.1).0 in
-    let tests = and_parts (eqb x 48) (eqb y letter && is_digit (get_or (rest ++ after) 0 0) base) h in
-    let e = eqb-true y letter (and_parts (eqb y letter) (is_digit (get_or (rest ++ after) 0 0) base) tests.1).0 in
-    let f = rw e at second in
-    absurd (cc f)
+based_short (x ∷ (y ∷ rest)) after letter base d l h = grind (arith, nat_tests)
 based_short _ after letter base d l h = omega arith
 
 based_ends : (b after : List ℕ) (letter base : ℕ) → AreDigits 10 b → is_digit letter 10 ≡ false
@@ -288,38 +235,35 @@ pointed_covers : (before digits exponent after : List ℕ) → AreDigits 10 befo
     (number_front (before ++ (46 ∷ (digits ++ (exponent ++ after)))))
 pointed_covers before digits exponent after d f e =
     let tail = digits ++ (exponent ++ after) in
+    let front = number_front (before ++ (46 ∷ tail)) in
     let value = fraction_value digits (exponent ++ after) f in
     let behind = behind_digits before 46 tail d refl (λ e. absurd (omega arith)) (λ e. absurd (omega arith)) (omega arith) in
-    let len : length (before ++ (codes "." ++ (digits ++ exponent))) ≡ length before + (1 + (length digits + length exponent)) = length-append before (codes "." ++ (digits ++ exponent)) ∙ (ap (λ n. length before + suc n) (length-append digits exponent) ∙ omega arith) in
-    let least = behind.0 in
-    record {
-      long = ⊎_elim
-          (λ z. let none_there : length exponent ≡ 0 = ap length z in omega arith)
-          (λ x.
-          let none_more = no_digits (exponent ++ after) (exponent_no_digit exponent after x) in
-          let rest : drop (fraction_len (46 ∷ tail)) (46 ∷ tail) ≡ exponent ++ after = drop_at (46 ∷ digits) (exponent ++ after) _ (omega arith) in
-          let scale = exponent_covers exponent after x in
-          let least_there : length before + fraction_len (46 ∷ tail) + exponent_len (exponent ++ after) ≡ (number_front (before ++ (46 ∷ tail))).len = rw rest at least in
-          omega arith)
-          e;
-      same = λ _. behind.1;
-      ends = λ n.
+    let len : length (before ++ (codes "." ++ (digits ++ exponent))) ≡ length before + (1 + (length digits + length exponent)) = simp length-append (omega arith) in
+    let long_and_ends : (length before + (1 + (length digits + length exponent)) ≤ front.len) × (EndsNumber after → front.len ≡ length before + (1 + (length digits + length exponent))) =
+    ⊎_elim
+    (λ z. (
+      (let none_there : length exponent ≡ 0 = ap length z in let least = behind.0 in omega arith),
+      (λ n.
           let more = no_more_digits 10 after (omega arith) n in
-          ⊎_elim
-          (λ z.
           let none_there : length exponent ≡ 0 = ap length z in
           let behind_exponent : exponent ++ after ≡ after = ap (λ x. x ++ after) z in
           let no_more : digits_len 10 (exponent ++ after) ≡ 0 = ap (digits_len 10) behind_exponent ∙ more in
           let rest : drop (fraction_len (46 ∷ tail)) (46 ∷ tail) ≡ exponent ++ after = drop_at (46 ∷ digits) (exponent ++ after) _ (omega arith) in
           let scale : exponent_len (drop (fraction_len (46 ∷ tail)) (46 ∷ tail)) ≡ 0 = ap exponent_len (rest ∙ behind_exponent) ∙ no_exponent after n in
-          omega arith)
-          (λ x.
-          let none_more = no_digits (exponent ++ after) (exponent_no_digit exponent after x) in
-          let rest : drop (fraction_len (46 ∷ tail)) (46 ∷ tail) ≡ exponent ++ after = drop_at (46 ∷ digits) (exponent ++ after) _ (omega arith) in
-          let scale = exponent_covers exponent after x in
-          let least_there : length before + fraction_len (46 ∷ tail) + exponent_len (exponent ++ after) ≡ (number_front (before ++ (46 ∷ tail))).len = rw rest at least in
-          omega arith)
-          e;
+          let least = behind.0 in
+          omega arith),
+    ))
+    (λ x.
+    let none_more = no_digits (exponent ++ after) (exponent_no_digit exponent after x) in
+    let rest : drop (fraction_len (46 ∷ tail)) (46 ∷ tail) ≡ exponent ++ after = drop_at (46 ∷ digits) (exponent ++ after) _ (omega arith) in
+    let scale = exponent_covers exponent after x in
+    let least = rw rest at behind.0 in
+    (omega arith, λ n. let more = no_more_digits 10 after (omega arith) n in omega arith))
+    e in
+    record {
+      long = omega (arith, len, long_and_ends.0);
+      same = λ _. behind.1;
+      ends = λ n. long_and_ends.1 n ∙ sym len;
     }
 
 scaled_covers : (before exponent after : List ℕ) → AreDigits 10 before → IsExponent exponent

@@ -2,8 +2,8 @@
 use Rattle.std.proofs.Common.{◌≡◌, ℕ, ◌+◌, ◌<◌, ◌≤◌, List, [], ◌∷◌, ◌++◌, length, drop, get_or, ℤ, true, refl, sym, ap, ◌∙◌, subst, arith}
 use Rattle.std.specs.List.{position_or_len}
 use Rattle.fz_lex.specs.Token.{is_blank, is_line_feed, TokenValue, Whole}
-use Rattle.fz_lex.specs.Lexing.{SpannedToken, CutBetween, nothing, blank, comment, spelling, IsWholeComment, IsLongestSpelling, IsWithinLimit, IsTokenWithinLimit, AreWithinLimit}
-use Rattle.fz_lex.specs.View.{NothingBegins}
+use Rattle.fz_lex.specs.Lexing.{SpannedToken, CutBetween, nothing, blank, comment, spelling, IsWholeComment, IsLongestSpelling, IsWithinLimit, IsTokenWithinLimit}
+use Rattle.fz_lex.specs.View.{NothingBegins, AreWithinLimit}
 use Rattle.fz_lex.specs.Found.{AreInOrder}
 use Rattle.std.proofs.lemmas.List.{get_or-drop, append-nil}
 use Rattle.fz_lex.proofs.Fronts.{blank_none, comment_none}
@@ -107,11 +107,7 @@ after_spelling {source} m u (spelling p n r t T s e l c) h k =
     record { token = t; rest = T; is = refl; start = s; end = rw same_len at e; same_value = same; cut = rw same_len at c }
 
 same_spanned : (a b : SpannedToken) → a.token ≡ b.token → a.start ≡ b.start → a.end ≡ b.end → a ≡ b
-same_spanned a b t s e =
-    let f : SpannedToken → SpannedToken = λ x. x in
-    ap (λ x. let r : SpannedToken = record { token = x; start = a.start; end = a.end } in r) t
-    ∙ (ap (λ x. let r : SpannedToken = record { token = b.token; start = x; end = a.end } in r) s
-    ∙ ap (λ x. let r : SpannedToken = record { token = b.token; start = b.start; end = x } in r) e)
+same_spanned a b t s e = λ i. record { token = t i; start = s i; end = e i }
 
 -- one cut is the beginning of another that goes at least as far
 pub record Continues (source : List ℕ) (q r : ℕ) (S T : List SpannedToken) : Type 0 where

@@ -1,7 +1,6 @@
 -- What `front_of` gives, by the first byte.
-use Rattle.std.proofs.Common.{◌≡◌, ℕ, ◌+◌, ◌<◌, ◌≤◌, List, take, drop, get_or, true, false, ◌⊎◌, ⊎_elim, refl, ap, ◌∙◌, inl, inr, arith}
+use Rattle.std.proofs.Common.{◌≡◌, ℕ, ◌+◌, ◌<◌, ◌≤◌, List, take, drop, get_or, true, false, ◌⊎◌, ⊎_elim, refl, ap, ◌∙◌, inr, arith}
 use Rattle.std.proofs.lemmas.Bool.Decides.{nat_tests}
-use Rattle.std.proofs.lemmas.Bool.{or_cases, eqb-true}
 use Rattle.std.specs.Char.{is_digit}
 use Rattle.std.specs.List.{prefix_len}
 use Rattle.fz_lex.specs.Token.{is_blank, is_word_start, is_word_byte, Word, Marked}
@@ -39,8 +38,7 @@ byte_none bytes b e h =
 
 blank_cases : (b : ℕ) → is_blank b ≡ true
     → (b ≡ 32) ⊎ ((b ≡ 9) ⊎ ((b ≡ 13) ⊎ ((b ≡ 10) ⊎ (b ≡ 37))))
-blank_cases b h =
-    ⊎_elim (λ h. ⊎_elim (λ h. ⊎_elim (λ h. inl (eqb-true b 32 h)) (λ h. inr (inl (eqb-true b 9 h))) (or_cases _ _ h)) (λ h. inr (inr (inl (eqb-true b 13 h)))) (or_cases _ _ h)) (λ h. inr (inr (inr (inl (eqb-true b 10 h))))) (or_cases _ _ h)
+blank_cases b h = grind (arith, nat_tests)
 
 -- where a blank or a comment begins, no token is found
 pub blank_none : (bytes : List ℕ) → is_blank (get_or bytes 0 0) ≡ true → front_of bytes ≡ none

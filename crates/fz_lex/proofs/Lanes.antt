@@ -1,6 +1,6 @@
 -- From the mask of one load of bytes to the bytes that pass a test, and from a load to the whole.
-use Rattle.std.proofs.Common.{◌≡◌, ℕ, ◌+◌, ◌%◌, ◌^◌, ◌<◌, ◌≤◌, cond, eqb, Bool, true, false, not, List, [], ◌∷◌, map, length, take, drop, get_or, replicate, Fits, w8, zero, suc, ⊎_elim, refl, sym, ap, ap₂, ◌∙◌, arith}
-use Rattle.std.proofs.lemmas.Bool.{agree_below, agree_below_at, cases_Bool}
+use Rattle.std.proofs.Common.{◌≡◌, ℕ, ◌+◌, ◌%◌, ◌^◌, ◌<◌, ◌≤◌, cond, eqb, Bool, true, not, List, [], ◌∷◌, map, length, take, drop, get_or, replicate, Fits, w8, zero, suc, refl, sym, ap, ap₂, ◌∙◌, arith}
+use Rattle.std.proofs.lemmas.Bool.{agree_below, agree_below_at}
 use Rattle.std.proofs.lemmas.Simd.{map-map, mask_l-mod, length-chunk, chunk-fits, zip2-map, first_set_mask_l}
 use Rattle.std.proofs.lemmas.List.{length-map, length-take, drop-drop}
 use Rattle.std.proofs.lemmas.List.Sums.{prefix_len-le-length}
@@ -36,34 +36,19 @@ run_in test bytes at n f lanes room few fits are all =
     let mask = ap (λ l. mask_l l % 2 ^ 64) (ap (map (top 7)) are ∙ map-map (top 7) f v) ∙ mask_l-mod (map stops v) 64 (omega (arith, length-map v stops, long)) in
     ap (λ m. cond (eqb m 0) n (trailing_zeros w64 m)) mask ∙ first_set_mask_l stops v n long few ∙ same_run (λ x. not (stops x)) test all v (chunk-fits w8 at n bytes fits)
 
-run_of_none : (p : ℕ → Bool) (x : ℕ) (xs : List ℕ) → p x ≡ false → prefix_len p (x ∷ xs) ≡ 0
-run_of_none p x xs e = rw e refl
-
-run_of_one : (p : ℕ → Bool) (x : ℕ) (xs : List ℕ) → p x ≡ true
-    → prefix_len p (x ∷ xs) ≡ 1 + prefix_len p xs
-run_of_one p x xs e = rw e refl
-
 -- where all of the first n pass, the run goes on behind them
 pub whole_load : (p : ℕ → Bool) (n : ℕ) (xs : List ℕ) → prefix_len p (take n xs) ≡ n
     → prefix_len p xs ≡ n + prefix_len p (drop n xs)
 whole_load p zero xs e = omega arith
 whole_load p (suc n) [] e = absurd (omega arith)
-whole_load p (suc n) (x ∷ xs) e =
-    ⊎_elim
-    (λ h. let front = run_of_one p x (take n xs) h in let rest = whole_load p n xs (omega arith) in omega (arith, run_of_one p x xs h))
-    (λ h. let front = run_of_none p x (take n xs) h in absurd (omega arith))
-    (cases_Bool (p x))
+whole_load p (suc n) (x ∷ xs) e = grind (arith, whole_load p n xs)
 
 -- where one of the first n fails, the run ends before it
 pub part_load : (p : ℕ → Bool) (n : ℕ) (xs : List ℕ) → prefix_len p (take n xs) < n
     → prefix_len p xs ≡ prefix_len p (take n xs)
 part_load p zero xs h = absurd (omega arith)
 part_load p (suc n) [] h = refl
-part_load p (suc n) (x ∷ xs) h =
-    ⊎_elim
-    (λ e. let front = run_of_one p x (take n xs) e in let rest = part_load p n xs (omega arith) in omega (arith, run_of_one p x xs e))
-    (λ e. omega (arith, run_of_none p x (take n xs) e, run_of_none p x xs e))
-    (cases_Bool (p x))
+part_load p (suc n) (x ∷ xs) h = grind (arith, part_load p n xs)
 
 pub load_within : (p : ℕ → Bool) (n : ℕ) (xs : List ℕ) → n ≤ length xs
     → prefix_len p (take n xs) ≤ n

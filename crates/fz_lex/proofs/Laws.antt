@@ -2,15 +2,16 @@
 use Rattle.std.proofs.Common.{◌≡◌, ◌≢◌, ℕ, ◌+◌, ◌<◌, ◌≤◌, List, [], ◌∷◌, ◌++◌, length, take, drop, get_or, ℤ, Bool, true, false, eqb, ◌&&◌, Option, Some, None, ⊎_elim, refl, sym, ap, ◌∙◌, subst, arith}
 use Rattle.std.proofs.lemmas.List.{take-append-drop, length-take-le, take_at}
 use Rattle.std.proofs.lemmas.List.Sums.{prefix_len-le-length}
-use Rattle.std.proofs.lemmas.Bool.{and_parts, and_from, eqb-true, cases_Bool}
+use Rattle.std.proofs.lemmas.Bool.{and_parts, and_from, eqb-true, cases_Bool, cond_both}
 use Rattle.std.proofs.lemmas.Bool.Decides.{nat_tests}
+use Rattle.std.proofs.Math.Nat.{zero-add}
 use Rattle.std.specs.Prelude.{codes}
 use Rattle.std.specs.List.{prefix_len, list_all}
 use Rattle.std.specs.Char.{is_digit}
 use Rattle.fz_lex.specs.Token.{is_word_start, is_word_byte, TokenValue, Word, Whole, FloatText, StringText, Marked, Spells, IsWordText, IsStringText, WritesWhole, unsigned, negative, IsFloatText, unsigned_float, negative_float, mark_text}
 use Rattle.fz_lex.specs.declared.token.Mark.{Mark}
-use Rattle.fz_lex.specs.declared.token.Mark.TheVariants.{Colon, ColonColon, DotDot}
-use Rattle.fz_lex.proofs.Runs.{chosen, prefix_all, prefix_covers}
+use Rattle.fz_lex.specs.declared.token.Mark.TheVariants.{Colon, ColonColon}
+use Rattle.fz_lex.proofs.Runs.{prefix_all, prefix_covers}
 use Rattle.fz_lex.proofs.Fronts.{front_natural, front_negative}
 use Rattle.fz_lex.specs.Lexing.{IsLongestSpelling}
 use Rattle.fz_lex.specs.Scan.{FrontToken, found, none, front_of, signed, number_token, number_found, string_found, mark_found, number_front, string_rest_len, mark_front}
@@ -52,12 +53,10 @@ digit_no_start b h = grind (arith, nat_tests)
 
 -- ---- What is found is spelled.
 
-found_same : (bytes : List ℕ) (t u : TokenValue) (m n : ℕ) → IsSpelled t m bytes
-    → found t m ≡ found u n → IsSpelled u n bytes
-found_same bytes t u m n s e =
-    let same : t ≡ u = cc e in
-    let same_len : m ≡ n = cc e in
-    subst (λ v. IsSpelled v n bytes) same (subst (λ k. IsSpelled t k bytes) same_len s)
+-- what is found, if anything is, is at the front
+abbrev IsFound : List ℕ → FrontToken → Type 0
+IsFound bytes none = Unit {0}
+IsFound bytes (found t n) = IsSpelled t n bytes
 
 word_at : (bytes : List ℕ) → is_word_start (get_or bytes 0 0) ≡ true
     → IsSpelled (Word (take (prefix_len is_word_byte bytes) bytes))
@@ -86,64 +85,56 @@ negative_text : (natural : Option ℕ) (rest bytes : List ℕ) → bytes ≡ cod
 negative_text None rest bytes e h = negative_float rest e h
 negative_text (Some n) rest bytes e h = negative rest n e h refl
 
-number_spelled : (bytes : List ℕ) (sign : Bool) (len : ℕ) (natural : Option ℕ) (t : TokenValue)
-    (n : ℕ) → 0 < len → len ≤ length bytes → SignedText sign natural (take len bytes)
-    → number_token sign len bytes natural ≡ found t n → IsSpelled t n bytes
-number_spelled bytes sign len None t n p w s e = found_same bytes (FloatText (take len bytes)) t len n (record { positive = p; within = w; spelled = (refl, s) }) e
-number_spelled bytes sign len (Some m) t n p w s e = found_same bytes (Whole (signed sign m)) t len n (record { positive = p; within = w; spelled = s }) e
+number_spelled : (bytes : List ℕ) (sign : Bool) (len : ℕ) (natural : Option ℕ) → 0 < len
+    → len ≤ length bytes → SignedText sign natural (take len bytes)
+    → IsFound bytes (number_token sign len bytes natural)
+number_spelled bytes sign len None p w s = record { positive = p; within = w; spelled = (refl, s) }
+number_spelled bytes sign len (Some m) p w s = record { positive = p; within = w; spelled = s }
 
-natural_spelled : (bytes : List ℕ) (t : TokenValue) (n : ℕ) → is_digit (get_or bytes 0 0) 10 ≡ true
-    → number_found false 0 bytes (number_front bytes) ≡ found t n → IsSpelled t n bytes
-natural_spelled bytes t n d e =
+natural_spelled : (bytes : List ℕ) → is_digit (get_or bytes 0 0) 10 ≡ true
+    → IsFound bytes (number_found false 0 bytes (number_front bytes))
+natural_spelled bytes d =
     let at = number_at bytes d in
     let front = number_front bytes in
-    let len : 0 + front.len ≡ front.len = omega arith in
-    let positive = at.positive in
-    let within = at.within in
-    number_spelled bytes false front.len front.natural t n positive within (unsigned_text front.natural (take front.len bytes) at.text) (sym (ap (λ k. number_token false k bytes front.natural) len) ∙ e)
+    subst (λ k. IsFound bytes (number_token false k bytes front.natural)) (sym (zero-add front.len)) (number_spelled bytes false front.len front.natural at.positive at.within (unsigned_text front.natural (take front.len bytes) at.text))
 
-negative_spelled : (bytes : List ℕ) (t : TokenValue) (n : ℕ) → get_or bytes 0 0 ≡ 45
-    → is_digit (get_or bytes 1 0) 10 ≡ true
-    → number_found true 1 bytes (number_front (drop 1 bytes)) ≡ found t n → IsSpelled t n bytes
-negative_spelled [] t n m d e = absurd (omega arith)
-negative_spelled (b ∷ rest) t n m d e =
+negative_spelled : (bytes : List ℕ) → get_or bytes 0 0 ≡ 45 → is_digit (get_or bytes 1 0) 10 ≡ true
+    → IsFound bytes (number_found true 1 bytes (number_front (drop 1 bytes)))
+negative_spelled [] m d = absurd (omega arith)
+negative_spelled (b ∷ rest) m d =
     let at = number_at rest d in
     let front = number_front rest in
     let within = at.within in
-    number_spelled (b ∷ rest) true (1 + front.len) front.natural t n (omega arith) (omega arith) (negative_text front.natural (take front.len rest) _ (take_one_more front.len b rest ∙ ap (λ x. x ∷ take front.len rest) m) at.text) e
+    number_spelled (b ∷ rest) true (1 + front.len) front.natural (omega arith) (omega arith) (negative_text front.natural (take front.len rest) _ (take_one_more front.len b rest ∙ ap (λ x. x ∷ take front.len rest) m) at.text)
 
-string_spelled : (bytes : List ℕ) (t : TokenValue) (n : ℕ) (len : Option ℕ) → get_or bytes 0 0 ≡ 34
-    → string_rest_len (drop 1 bytes) ≡ len → string_found bytes len ≡ found t n
-    → IsSpelled t n bytes
-string_spelled bytes t n None q l e = absurd (cc e)
-string_spelled [] t n (Some m) q l e = absurd (omega arith)
-string_spelled (b ∷ rest) t n (Some m) q l e =
+string_spelled : (bytes : List ℕ) (len : Option ℕ) → get_or bytes 0 0 ≡ 34
+    → string_rest_len (drop 1 bytes) ≡ len → IsFound bytes (string_found bytes len)
+string_spelled bytes None q l = tt
+string_spelled [] (Some m) q l = absurd (omega arith)
+string_spelled (b ∷ rest) (Some m) q l =
     let at = string_at rest m l in
     let within = at.within in
     let is_text : IsStringText (b ∷ take m rest) = (q, at.text) in
-    found_same (b ∷ rest) (StringText (take (1 + m) (b ∷ rest))) t (1 + m) n (record { positive = omega arith; within = omega arith; spelled = (refl, subst IsStringText (sym (take_one_more m b rest)) is_text) }) e
+    record { positive = omega arith; within = omega arith; spelled = (refl, subst IsStringText (sym (take_one_more m b rest)) is_text) }
 
-mark_spelled : (bytes : List ℕ) (t : TokenValue) (n : ℕ) (m : Option (Mark × ℕ))
-    → mark_front bytes ≡ m → mark_found m ≡ found t n → IsSpelled t n bytes
-mark_spelled bytes t n None l e = absurd (cc e)
-mark_spelled bytes t n (Some m) l e =
-    let at = mark_at bytes m l in
-    found_same bytes (Marked m.0) t m.1 n (record { positive = at.positive; within = at.within; spelled = at.text }) e
+mark_spelled : (bytes : List ℕ) (m : Option (Mark × ℕ)) → mark_front bytes ≡ m
+    → IsFound bytes (mark_found m)
+mark_spelled bytes None l = tt
+mark_spelled bytes (Some m) l = let at = mark_at bytes m l in record { positive = at.positive; within = at.within; spelled = at.text }
+
+front_found : (bytes : List ℕ) → IsFound bytes (front_of bytes)
+unfolding front_of
+front_found bytes =
+    let first = get_or bytes 0 0 in
+    let second = get_or bytes 1 0 in
+    cond_both (is_word_start first) _ _ (IsFound bytes) (word_at bytes) (λ _.
+    cond_both (is_digit first 10) _ _ (IsFound bytes) (natural_spelled bytes) (λ _.
+    cond_both (eqb first 45 && is_digit second 10) _ _ (IsFound bytes) (λ h. let both = and_parts (eqb first 45) (is_digit second 10) h in negative_spelled bytes (eqb-true first 45 both.0) both.1) (λ _.
+    cond_both (eqb first 34) _ _ (IsFound bytes) (λ h. string_spelled bytes (string_rest_len (drop 1 bytes)) (eqb-true first 34 h) refl) (λ _. mark_spelled bytes (mark_front bytes) refl))))
 
 pub front_spelled : (bytes : List ℕ) (t : TokenValue) (n : ℕ) → front_of bytes ≡ found t n
     → IsSpelled t n bytes
-unfolding front_of
-front_spelled bytes t n e =
-    let first = get_or bytes 0 0 in
-    let second = get_or bytes 1 0 in
-    ⊎_elim (λ h. found_same bytes _ t _ n (word_at bytes h.0) h.1) (λ h0.
-    ⊎_elim (λ h. natural_spelled bytes t n h.0 h.1) (λ h1.
-    ⊎_elim (λ h. let both = and_parts (eqb first 45) (is_digit second 10) h.0 in negative_spelled bytes t n (eqb-true first 45 both.0) both.1 h.1) (λ h2.
-    ⊎_elim (λ h. string_spelled bytes t n (string_rest_len (drop 1 bytes)) (eqb-true first 34 h.0) refl h.1) (λ h. mark_spelled bytes t n (mark_front bytes) refl h.1)
-    (chosen (eqb first 34) _ _ (found t n) h2.1))
-    (chosen (eqb first 45 && is_digit second 10) _ _ (found t n) h1.1))
-    (chosen (is_digit first 10) _ _ (found t n) h0.1))
-    (chosen (is_word_start first) _ _ (found t n) e)
+front_spelled bytes t n e = subst (IsFound bytes) e (front_found bytes)
 
 -- ---- What is spelled is covered.
 
@@ -257,9 +248,7 @@ mark_covers : (m : Mark) (after : List ℕ)
     → Covers (Marked m) (mark_text m) after (front_of (mark_text m ++ after))
 unfolding front_of mark_front
 mark_covers Colon after = colon_covers after
-mark_covers ColonColon after = record { token = Marked ColonColon; len = 2; is = refl; long = omega arith; same = λ e. refl; ends = λ e. refl }
-mark_covers DotDot after = record { token = Marked DotDot; len = 2; is = refl; long = omega arith; same = λ e. refl; ends = λ e. refl }
-mark_covers m after = record { token = Marked m; len = 1; is = refl; long = omega arith; same = λ e. refl; ends = λ e. refl }
+mark_covers m after = record { token = Marked m; len = length (mark_text m); is = refl; long = omega arith; same = λ e. refl; ends = λ e. refl }
 
 pub front_covers : (t : TokenValue) (b after : List ℕ) → Spells t b
     → Covers t b after (front_of (b ++ after))

@@ -2,8 +2,8 @@
 use Rattle.std.proofs.Common.{◌≡◌, ℕ, ◌<◌, List, [], ◌∷◌, ◌++◌, length, refl, subst, arith}
 use Rattle.std.specs.List.{AllByRecursion}
 use Rattle.std.proofs.lemmas.List.{length-drop}
-use Rattle.fz_lex.specs.Lexing.{SpannedToken, IsTokenWithinLimit, AreWithinLimit, LexesWithin, LexesWithinLimits}
-use Rattle.fz_lex.specs.View.{IsLexicalFaultWithin, IsPlacedWithin, all_spanned}
+use Rattle.fz_lex.specs.Lexing.{SpannedToken, IsTokenWithinLimit, LexesWithin}
+use Rattle.fz_lex.specs.View.{IsLexicalFaultWithin, IsPlacedWithin, all_spanned, LexesWithinLimits, AreWithinLimit}
 use Rattle.fz_lex.specs.Found.{IsLexed}
 use Rattle.fz_lex.specs.declared.limits.Limits.{Limits}
 use Rattle.fz_lex.specs.declared.token.Token.{Token}

@@ -4,8 +4,8 @@ use Rattle.std.proofs.lemmas.List.{length-drop, append-nil}
 use Rattle.std.specs.List.{AllByRecursion}
 use Rattle.fz_lex.specs.Token.{is_blank}
 use Rattle.fz_lex.specs.Ahead.{comma_at}
-use Rattle.fz_lex.specs.Lexing.{SpannedToken, nothing, CutBetween, CutUpTo, IsLongestSpelling, IsTokenWithinLimit, AreWithinLimit}
-use Rattle.fz_lex.specs.View.{NothingBegins, token_value, IsLexicalFault}
+use Rattle.fz_lex.specs.Lexing.{SpannedToken, nothing, CutBetween, IsLongestSpelling, IsTokenWithinLimit}
+use Rattle.fz_lex.specs.View.{NothingBegins, token_value, IsLexicalFault, CutUpTo, AreWithinLimit}
 use Rattle.fz_lex.specs.Found.{IsFrontOf, FaultFrom}
 use Rattle.fz_lex.specs.declared.token.Mark.TheVariants.{Comma}
 use Rattle.fz_lex.specs.declared.token.TokenKind.{TokenKind}
@@ -89,25 +89,17 @@ fault_after source place before c w (BadByte span) f = (before ++ [], cut_then c
 fault_after source place before c w (TooLarge span) f = (before ++ [], f.0, f.1, cut_then c f.2, rw append-nil w, f.3, f.4, f.5)
 fault_after source place before c w _ f = absurd f
 
-pub fault_is_no_memory : (source : List ℕ) (place : ℕ) (e : SyntaxError) → FaultFrom source place e
-    → e ≢ Memory
-fault_is_no_memory source place (BadByte span) f m = cc m
-fault_is_no_memory source place (TooLarge span) f m = cc m
-fault_is_no_memory source place _ f m = absurd f
-
-pub fault_is_no_length : (source : List ℕ) (place : ℕ) (e : SyntaxError) → FaultFrom source place e
-    → e ≢ TooLong
-fault_is_no_length source place (BadByte span) f m = cc m
-fault_is_no_length source place (TooLarge span) f m = cc m
-fault_is_no_length source place _ f m = absurd f
+-- what a fault is not
+pub fault_is_not : (source : List ℕ) (place : ℕ) (e : SyntaxError) → FaultFrom source place e
+    → (e ≢ Memory) × (e ≢ TooLong)
+fault_is_not source place (BadByte span) f = (λ m. cc m, λ m. cc m)
+fault_is_not source place (TooLarge span) f = (λ m. cc m, λ m. cc m)
+fault_is_not source place _ f = absurd f
 
 pub all_push : {X : Type 0} (P : X → Type 0) (xs : List X) (x : X) → AllByRecursion P xs → P x
     → AllByRecursion P (xs ++ x ∷ [])
 all_push P [] x h p = (p, tt)
 all_push P (y ∷ ys) x h p = (h.0, all_push P ys x h.1 p)
-
--- what a fault is not
-pub ruleset of_fault = (fault_is_no_memory, fault_is_no_length)
 
 -- what follows from the front that was found
 pub ruleset of_found = (found_within, found_cut, found_limit, found_moves)

@@ -1,5 +1,5 @@
 -- Runs of bytes that pass a test, and of digits.
-use Rattle.std.proofs.Common.{◌≡◌, ℕ, ◌+◌, ◌<◌, ◌≤◌, List, [], ◌∷◌, ◌++◌, length, take, get_or, Bool, true, false, cond, ◌⊎◌, inl, inr, refl, arith}
+use Rattle.std.proofs.Common.{◌≡◌, ℕ, ◌+◌, ◌<◌, ◌≤◌, List, [], ◌∷◌, ◌++◌, length, take, get_or, Bool, true, arith}
 use Rattle.std.specs.List.{list_all, prefix_len}
 use Rattle.std.specs.Char.{is_digit}
 use Rattle.std.proofs.lemmas.List.{get_or-take}
@@ -8,12 +8,6 @@ use Rattle.std.proofs.lemmas.List.Sums.{prefix_len_passes, list_all-from_AllPass
 use Rattle.std.proofs.lemmas.Bool.{and_parts, ltb-true}
 use Rattle.fz_lex.specs.Token.{AreDigits}
 use Rattle.fz_lex.specs.Scan.{digits_len}
-
--- which way a test went
-pub chosen : {X : Type 0} (b : Bool) (x y z : X) → cond b x y ≡ z
-    → ((b ≡ true) × (x ≡ z)) ⊎ ((b ≡ false) × (y ≡ z))
-chosen true x y z e = inl (refl, e)
-chosen false x y z e = inr (refl, e)
 
 pub prefix_all : (p : ℕ → Bool) (xs : List ℕ) → list_all p (take (prefix_len p xs) xs) ≡ true
 prefix_all p xs = list_all-from_AllPass p (take (prefix_len p xs) xs) (λ k d h.

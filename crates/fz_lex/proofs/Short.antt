@@ -1,7 +1,8 @@
 -- A number that shows as whole and decimal from its digits and the byte behind them.
-use Rattle.std.proofs.Common.{◌≡◌, ◌≢◌, ℕ, ◌+◌, ◌^◌, ◌<◌, ◌≤◌, ℤ, pos, neg_ℤ, List, [], ◌∷◌, drop, get_or, true, false, eqb, Some, ⊎_elim, refl, ap, ◌∙◌, arith}
+use Rattle.std.proofs.Common.{◌≡◌, ◌≢◌, ℕ, ◌+◌, ◌^◌, ◌<◌, ◌≤◌, ℤ, pos, neg_ℤ, List, [], ◌∷◌, drop, get_or, true, false, Some, refl, ap, ◌∙◌, arith}
 use Rattle.std.specs.Char.{is_digit}
-use Rattle.std.proofs.lemmas.Bool.{and_left, and_right, ne_eqb, eqb-true, cases_Bool}
+use Rattle.std.proofs.lemmas.Bool.{ne_eqb}
+use Rattle.std.proofs.lemmas.Bool.Decides.{nat_tests}
 use Rattle.std.proofs.lemmas.Int.{ints}
 use Rattle.fz_lex.specs.Token.{Whole}
 use Rattle.fz_lex.specs.Lexing.{IsWithinLimit}
@@ -9,28 +10,15 @@ use Rattle.fz_lex.specs.Scan.{found, front_of, digits_len, leading_number, fract
 use Rattle.fz_lex.proofs.Cuts.{at_place}
 use Rattle.fz_lex.proofs.Fronts.{decimal_digit, digit_no_word_start, front_natural, front_negative}
 
--- behind `0` and a letter the digits end
-one_digit : (x y letter : ℕ) (rest : List ℕ) → x ≡ 48 → y ≡ letter → is_digit letter 10 ≡ false
-    → digits_len 10 (x ∷ (y ∷ rest)) ≡ 1
-one_digit x y letter rest e f l =
-    let no : is_digit y 10 ≡ false = rw f l in
-    rw (e, no) (omega arith)
-
 -- no number in another base begins where no letter of a base comes after the digits
 no_base : (bytes : List ℕ) (letter base : ℕ) → is_digit letter 10 ≡ false → 0 < letter
     → get_or bytes (digits_len 10 bytes) 0 ≢ letter → is_based letter base bytes ≡ false
 no_base [] letter base l p n = refl
-no_base (x ∷ []) letter base l p n = and_right (eqb x 48) _ (and_left (eqb 0 letter) _ (ne_eqb 0 letter (λ e. absurd (omega arith))))
+no_base (x ∷ []) letter base l p n = grind (arith, nat_tests)
 no_base (x ∷ (y ∷ rest)) letter base l p n =
-    ⊎_elim
-    (λ x_is. ⊎_elim
-    (λ y_is.
-    let one = one_digit x y letter rest (eqb-true x 48 x_is) (eqb-true y letter y_is) l in
-    absurd (n (ap (λ k. get_or (x ∷ (y ∷ rest)) k 0) one ∙ eqb-true y letter y_is)))
-    (λ y_not. and_right (eqb x 48) _ (and_left (eqb y letter) _ y_not))
-    (cases_Bool (eqb y letter)))
-    (λ x_not. and_left (eqb x 48) _ x_not)
-    (cases_Bool (eqb x 48))
+    let one : x ≡ 48 → y ≡ letter → digits_len 10 (x ∷ (y ∷ rest)) ≡ 1 = λ e f. let no : is_digit y 10 ≡ false = rw f l in rw (e, no) (omega arith) in
+    let behind : x ≡ 48 → y ≡ letter → ⊥ = λ e f. n (ap (λ k. get_or (x ∷ (y ∷ rest)) k 0) (one e f) ∙ f) in
+    grind (arith, nat_tests)
 
 no_fraction : (bytes : List ℕ) (place : ℕ) → get_or bytes place 0 ≢ 46
     → fraction_len (drop place bytes) ≡ 0

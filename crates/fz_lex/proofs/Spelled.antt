@@ -1,24 +1,23 @@
 -- What the scanner counts is a text of what it finds.
 use Rattle.std.proofs.Common.{◌≡◌, ◌≢◌, ℕ, suc, ◌+◌, ◌<◌, ◌≤◌, List, [], ◌∷◌, ◌++◌, length, take, drop, get_or, true, cond, eqb, ◌&&◌, ◌||◌, Option, Some, None, option_map, ◌⊎◌, ⊎_elim, inl, inr, refl, sym, ap, ◌∙◌, subst, arith, one-add}
-use Rattle.std.specs.Prelude.{codes}
+use Rattle.std.specs.Prelude.{codes, IfSome}
 use Rattle.std.specs.Char.{is_digit}
-use Rattle.std.proofs.lemmas.List.{length-drop, append_assoc}
+use Rattle.std.proofs.lemmas.List.{length-drop, length-append, append_assoc}
 use Rattle.std.proofs.lemmas.List.Sums.{prefix_len-le-length}
-use Rattle.std.proofs.lemmas.Bool.{and_parts, or_cases, eqb-true, eqb-false, cases_Bool, cases_eq}
-use Rattle.std.proofs.Math.Seq.{take-add}
+use Rattle.std.proofs.lemmas.Bool.{and_parts, or_cases, eqb-true, eqb-false, cases_Bool, cases_eq, cond_both}
+use Rattle.std.proofs.Math.Seq.{take-add, take-append-add}
+use Rattle.std.proofs.Math.Nat.{zero-add}
 use Rattle.fz_lex.specs.Token.{AreDigits, WritesNatural, decimal, hexadecimal, octal, IsExponent, IsUnsignedFloat, pointed, scaled, IsStringRest, closed, plain, escaped, mark_text}
 use Rattle.fz_lex.specs.Scan.{digits_len, fraction_len, signed_digits_len, exponent_len, NumberFront, is_based, decimal_number, number_front, string_rest_len, mark_front}
 use Rattle.fz_lex.specs.declared.token.Mark.{Mark}
 use Rattle.fz_lex.specs.declared.token.Mark.TheVariants.{OpenParen, CloseParen, OpenBracket, CloseBracket, OpenBrace, CloseBrace, Comma, Semicolon, Colon, ColonColon, Equals, DotDot}
-use Rattle.fz_lex.proofs.Runs.{chosen, digits_front, digits_positive}
+use Rattle.fz_lex.proofs.Runs.{digits_front, digits_positive}
 
 pub take_one_more : (n x : ℕ) (xs : List ℕ) → take (1 + n) (x ∷ xs) ≡ x ∷ take n xs
 take_one_more n x xs = rw one-add refl
 
 pub take_two_more : (n x y : ℕ) (xs : List ℕ) → take (2 + n) (x ∷ (y ∷ xs)) ≡ x ∷ (y ∷ take n xs)
-take_two_more n x y xs =
-    let e : 2 + n ≡ suc (suc n) = omega arith in
-    rw e refl
+take_two_more n x y xs = rw (let e : 2 + n ≡ suc (suc n) = omega arith in e) refl
 
 -- the first n bytes are a point and digits, unless n is 0
 pub record FractionAt (xs : List ℕ) (n : ℕ) : Type 0 where
@@ -59,11 +58,12 @@ pub signed_at : (xs : List ℕ) → SignedAt xs (signed_digits_len xs)
 unfolding signed_digits_len
 signed_at [] = none_signed []
 signed_at (c ∷ cs) =
+    let rest_within = prefix_len-le-length (λ b. is_digit b 10) cs in
+    let within = prefix_len-le-length (λ b. is_digit b 10) (c ∷ cs) in
     ⊎_elim
     (λ t. rw t (
     ⊎_elim
     (λ d.
-    let l = prefix_len-le-length (λ b. is_digit b 10) cs in
     let positive = digits_positive 10 cs (omega arith) d in
     rw d (record {
       within = omega arith;
@@ -74,15 +74,12 @@ signed_at (c ∷ cs) =
     (λ t. rw t (
     ⊎_elim
     (λ d.
-    let l = prefix_len-le-length (λ b. is_digit b 10) (c ∷ cs) in
     let positive = digits_positive 10 (c ∷ cs) (omega arith) d in
-    let whole : digits_len 10 (c ∷ cs) ≡ 0 + digits_len 10 (c ∷ cs) = omega arith in
     let at : SignedAt (c ∷ cs) (digits_len 10 (c ∷ cs)) = record {
-      within = l;
+      within = within;
       text = λ h. ([], take (digits_len 10 (c ∷ cs)) (c ∷ cs), refl, inl refl, digits_front 10 (c ∷ cs) positive);
     } in
-    let at_zero : SignedAt (c ∷ cs) (0 + digits_len 10 (c ∷ cs)) = subst (λ n. SignedAt (c ∷ cs) n) whole at in
-    rw d (rw d at at_zero))
+    rw (d, zero-add) (rw d at at))
     (λ d. rw d (none_signed (c ∷ cs)))
     (cases_Bool (is_digit c 10))))
     (cases_Bool (eqb c 43 || eqb c 45))
@@ -222,59 +219,37 @@ pub record StringAt (rest : List ℕ) (n : ℕ) : Type 0 where
   pub within : n ≤ length rest
   pub text : IsStringRest (take n rest)
 
-map_some : (f : ℕ → ℕ) (o : Option ℕ) (n : ℕ) → option_map f o ≡ Some n
-    → (m : ℕ) × (o ≡ Some m) × (f m ≡ n)
-map_some f None n e = absurd (cc e)
-map_some f (Some m) n e = (m, refl, cc e)
+closed_at : (b : ℕ) (rest : List ℕ) → b ≡ 34 → StringAt (b ∷ rest) 1
+closed_at b rest q = record { positive = omega arith; within = omega arith; text = closed b q }
 
-closed_at : (b : ℕ) (rest : List ℕ) (n : ℕ) → b ≡ 34 → Some 1 ≡ Some n → StringAt (b ∷ rest) n
-closed_at b rest n q e =
-    let one : 1 ≡ n = cc e in
-    let at : StringAt (b ∷ rest) 1 = record { positive = omega arith; within = omega arith; text = closed b q } in
-    subst (λ k. StringAt (b ∷ rest) k) one at
-
-plain_at : (b : ℕ) (rest : List ℕ) (m n : ℕ) → b ≢ 34 → b ≢ 92 → b ≢ 10 → StringAt rest m
-    → 1 + m ≡ n → StringAt (b ∷ rest) n
-plain_at b rest m n q s l at e =
+-- one or two bytes more are before the rest of a string
+string_more : (before rest : List ℕ) (o : Option ℕ)
+    → ((m : ℕ) → IsStringRest (take m rest) → IsStringRest (before ++ take m rest))
+    → IfSome o (StringAt rest) → IfSome (option_map (λ n. length before + n) o) (StringAt (before ++ rest))
+string_more before rest None more at = tt
+string_more before rest (Some m) more at =
+    let positive = at.positive in
     let within = at.within in
-    let more : StringAt (b ∷ rest) (1 + m) = record { positive = omega arith; within = omega arith; text = rw take_one_more (plain b (take m rest) q s l at.text) } in
-    subst (λ k. StringAt (b ∷ rest) k) e more
+    record {
+      positive = omega arith;
+      within = omega (arith, length-append before rest);
+      text = rw take-append-add (more m at.text);
+    }
 
-escaped_at : (b c : ℕ) (rest : List ℕ) (m n : ℕ) → b ≡ 92 → c ≢ 10 → StringAt rest m → 2 + m ≡ n
-    → StringAt (b ∷ (c ∷ rest)) n
-escaped_at b c rest m n q l at e =
-    let within = at.within in
-    let more : StringAt (b ∷ (c ∷ rest)) (2 + m) = record { positive = omega arith; within = omega arith; text = rw take_two_more (escaped b c (take m rest) q l at.text) } in
-    subst (λ k. StringAt (b ∷ (c ∷ rest)) k) e more
+string_found : (rest : List ℕ) → IfSome (string_rest_len rest) (StringAt rest)
+unfolding string_rest_len
+string_found [] = tt
+string_found (b ∷ []) = cond_both (eqb b 34) (Some 1) None (λ o. IfSome o (StringAt (b ∷ []))) (λ q. closed_at b [] (eqb-true b 34 q)) (λ q. tt)
+string_found (b ∷ (c ∷ rest)) =
+    let P : Option ℕ → Type 0 = λ o. IfSome o (StringAt (b ∷ (c ∷ rest))) in
+    cond_both (eqb b 34) _ _ P (λ q. closed_at b (c ∷ rest) (eqb-true b 34 q)) (λ q.
+    cond_both (eqb b 10) _ _ P (λ l. tt) (λ l.
+    cond_both (eqb b 92) _ _ P
+    (λ e. cond_both (eqb c 10) _ _ P (λ k. tt) (λ k. string_more (b ∷ (c ∷ [])) rest (string_rest_len rest) (λ m. escaped b c (take m rest) (eqb-true b 92 e) (eqb-false c 10 k)) (string_found rest)))
+    (λ s. string_more (b ∷ []) (c ∷ rest) (string_rest_len (c ∷ rest)) (λ m. plain b (take m (c ∷ rest)) (eqb-false b 34 q) (eqb-false b 92 s) (eqb-false b 10 l)) (string_found (c ∷ rest)))))
 
 pub string_at : (rest : List ℕ) (n : ℕ) → string_rest_len rest ≡ Some n → StringAt rest n
-unfolding string_rest_len
-string_at [] n e = absurd (cc e)
-string_at (b ∷ []) n e =
-    ⊎_elim (λ h. closed_at b [] n (eqb-true b 34 h.0) h.1) (λ h. let f = h.1 in absurd (cc f)) (chosen (eqb b 34) (Some 1) None (Some n) e)
-string_at (b ∷ (c ∷ rest)) n e =
-    let escape = cond (eqb c 10) None (option_map (λ n. 2 + n) (string_rest_len rest)) in
-    let other = option_map (λ n. 1 + n) (string_rest_len (c ∷ rest)) in
-    ⊎_elim
-    (λ h. closed_at b (c ∷ rest) n (eqb-true b 34 h.0) h.1)
-    (λ h.
-    ⊎_elim
-    (λ k. let f = k.1 in absurd (cc f))
-    (λ k.
-    ⊎_elim
-    (λ m.
-    ⊎_elim
-    (λ j. let f = j.1 in absurd (cc f))
-    (λ j.
-    let some = map_some (λ n. 2 + n) (string_rest_len rest) n j.1 in
-    escaped_at b c rest some.0 n (eqb-true b 92 m.0) (eqb-false c 10 j.0) (string_at rest some.0 some.1) some.2)
-    (chosen (eqb c 10) None (option_map (λ n. 2 + n) (string_rest_len rest)) (Some n) m.1))
-    (λ m.
-    let some = map_some (λ n. 1 + n) (string_rest_len (c ∷ rest)) n m.1 in
-    plain_at b (c ∷ rest) some.0 n (eqb-false b 34 h.0) (eqb-false b 92 m.0) (eqb-false b 10 k.0) (string_at (c ∷ rest) some.0 some.1) some.2)
-    (chosen (eqb b 92) escape other (Some n) k.1))
-    (chosen (eqb b 10) None (cond (eqb b 92) escape other) (Some n) h.1))
-    (chosen (eqb b 34) (Some 1) (cond (eqb b 10) None (cond (eqb b 92) escape other)) (Some n) e)
+string_at rest n e = subst (λ o. IfSome o (StringAt rest)) e (string_found rest)
 
 -- the first bytes are the text of the mark
 pub record MarkAt (bytes : List ℕ) (mark : Mark) (n : ℕ) : Type 0 where
@@ -292,36 +267,36 @@ two_bytes : (bytes : List ℕ) (b c : ℕ) (m : Mark) → get_or bytes 0 0 ≡ b
 two_bytes (x ∷ (y ∷ rest)) b c m e f h k t = record { positive = omega arith; within = omega arith; text = ap (λ z. z ∷ (y ∷ [])) e ∙ (ap (λ z. b ∷ (z ∷ [])) f ∙ sym t) }
 two_bytes _ b c m e f h k t = absurd (omega arith)
 
-same_mark : (bytes : List ℕ) (m : Mark) (n : ℕ) (p : Mark × ℕ) → MarkAt bytes m n
-    → Some (m, n) ≡ Some p → MarkAt bytes p.0 p.1
-same_mark bytes m n p at e =
-    let is : (m, n) ≡ p = cc e in
-    subst (λ q. MarkAt bytes q.0 q.1) is at
+-- the mark that is read, if one is, is at the front
+IsRead : List ℕ → Option (Mark × ℕ) → Type 0
+IsRead bytes o = IfSome o (λ p. MarkAt bytes p.0 p.1)
+
+read_one : (bytes : List ℕ) (b : ℕ) (m : Mark) (other : Option (Mark × ℕ)) → 0 < b
+    → mark_text m ≡ b ∷ [] → IsRead bytes other
+    → IsRead bytes (cond (eqb (get_or bytes 0 0) b) (Some (m, 1)) other)
+unfolding IsRead
+read_one bytes b m other h t at =
+    cond_both (eqb (get_or bytes 0 0) b) _ other (IsRead bytes) (λ e. one_byte bytes b m (eqb-true (get_or bytes 0 0) b e) h t) (λ _. at)
 
 pub mark_at : (bytes : List ℕ) (p : Mark × ℕ) → mark_front bytes ≡ Some p → MarkAt bytes p.0 p.1
-unfolding mark_front
+unfolding mark_front IsRead
 mark_at bytes p e =
     let first = get_or bytes 0 0 in
     let second = get_or bytes 1 0 in
-    ⊎_elim (λ h. same_mark bytes OpenParen 1 p (one_byte bytes 40 OpenParen (eqb-true first 40 h.0) (omega arith) refl) h.1) (λ h0.
-    ⊎_elim (λ h. same_mark bytes CloseParen 1 p (one_byte bytes 41 CloseParen (eqb-true first 41 h.0) (omega arith) refl) h.1) (λ h1.
-    ⊎_elim (λ h. same_mark bytes OpenBracket 1 p (one_byte bytes 91 OpenBracket (eqb-true first 91 h.0) (omega arith) refl) h.1) (λ h2.
-    ⊎_elim (λ h. same_mark bytes CloseBracket 1 p (one_byte bytes 93 CloseBracket (eqb-true first 93 h.0) (omega arith) refl) h.1) (λ h3.
-    ⊎_elim (λ h. same_mark bytes OpenBrace 1 p (one_byte bytes 123 OpenBrace (eqb-true first 123 h.0) (omega arith) refl) h.1) (λ h4.
-    ⊎_elim (λ h. same_mark bytes CloseBrace 1 p (one_byte bytes 125 CloseBrace (eqb-true first 125 h.0) (omega arith) refl) h.1) (λ h5.
-    ⊎_elim (λ h. same_mark bytes Comma 1 p (one_byte bytes 44 Comma (eqb-true first 44 h.0) (omega arith) refl) h.1) (λ h6.
-    ⊎_elim (λ h. same_mark bytes Semicolon 1 p (one_byte bytes 59 Semicolon (eqb-true first 59 h.0) (omega arith) refl) h.1) (λ h7.
-    ⊎_elim
-    (λ h. ⊎_elim
-    (λ k. same_mark bytes ColonColon 2 p (two_bytes bytes 58 58 ColonColon (eqb-true first 58 h.0) (eqb-true second 58 k.0) (omega arith) (omega arith) refl) k.1)
-    (λ k. same_mark bytes Colon 1 p (one_byte bytes 58 Colon (eqb-true first 58 h.0) (omega arith) refl) k.1)
-    (chosen (eqb second 58) _ _ (Some p) h.1))
-    (λ h8.
-    ⊎_elim (λ h. same_mark bytes Equals 1 p (one_byte bytes 61 Equals (eqb-true first 61 h.0) (omega arith) refl) h.1) (λ h9.
-    ⊎_elim
-    (λ h. let both = and_parts (eqb first 46) (eqb second 46) h.0 in same_mark bytes DotDot 2 p (two_bytes bytes 46 46 DotDot (eqb-true first 46 both.0) (eqb-true second 46 both.1) (omega arith) (omega arith) refl) h.1)
-    (λ h. let f = h.1 in absurd (cc f))
-    (chosen (eqb first 46 && eqb second 46) _ _ (Some p) h9.1)
-    ) (chosen (eqb first 61) _ _ (Some p) h8.1)
-    ) (chosen (eqb first 58) _ _ (Some p) h7.1)
-    ) (chosen (eqb first 59) _ _ (Some p) h6.1)) (chosen (eqb first 44) _ _ (Some p) h5.1)) (chosen (eqb first 125) _ _ (Some p) h4.1)) (chosen (eqb first 123) _ _ (Some p) h3.1)) (chosen (eqb first 93) _ _ (Some p) h2.1)) (chosen (eqb first 91) _ _ (Some p) h1.1)) (chosen (eqb first 41) _ _ (Some p) h0.1)) (chosen (eqb first 40) _ _ (Some p) e)
+    subst (IsRead bytes) e (
+    read_one bytes 40 OpenParen _ (omega arith) refl (
+    read_one bytes 41 CloseParen _ (omega arith) refl (
+    read_one bytes 91 OpenBracket _ (omega arith) refl (
+    read_one bytes 93 CloseBracket _ (omega arith) refl (
+    read_one bytes 123 OpenBrace _ (omega arith) refl (
+    read_one bytes 125 CloseBrace _ (omega arith) refl (
+    read_one bytes 44 Comma _ (omega arith) refl (
+    read_one bytes 59 Semicolon _ (omega arith) refl (
+    cond_both (eqb first 58) _ _ (IsRead bytes)
+    (λ h. cond_both (eqb second 58) _ _ (IsRead bytes)
+    (λ k. two_bytes bytes 58 58 ColonColon (eqb-true first 58 h) (eqb-true second 58 k) (omega arith) (omega arith) refl)
+    (λ k. one_byte bytes 58 Colon (eqb-true first 58 h) (omega arith) refl)) (λ _.
+    read_one bytes 61 Equals _ (omega arith) refl (
+    cond_both (eqb first 46 && eqb second 46) _ _ (IsRead bytes)
+    (λ h. let both = and_parts (eqb first 46) (eqb second 46) h in two_bytes bytes 46 46 DotDot (eqb-true first 46 both.0) (eqb-true second 46 both.1) (omega arith) (omega arith) refl)
+    (λ _. tt))))))))))))

@@ -25,18 +25,6 @@ pub escape_first : (b c : ℕ) (rest : List ℕ) → b ≡ 92 → c ≢ 10
 unfolding string_rest_len
 escape_first b c rest e h = rw (e, ne_eqb c 10 h) refl
 
-broken_first : (b c : ℕ) (rest : List ℕ) → b ≡ 92 → c ≡ 10 → string_rest_len (b ∷ (c ∷ rest)) ≡ None
-unfolding string_rest_len
-broken_first b c rest e h = rw (e, h) refl
-
-lone_escape : (b : ℕ) → b ≡ 92 → string_rest_len (b ∷ []) ≡ None
-unfolding string_rest_len
-lone_escape b e = rw e refl
-
-no_bytes : string_rest_len [] ≡ None
-unfolding string_rest_len
-no_bytes = refl
-
 -- the length of the rest from an index on, counted from the front
 abbrev pub counted : ℕ → List ℕ → Option ℕ
 counted i xs = option_map (λ n. i + n) (string_rest_len (drop i xs))
@@ -58,7 +46,8 @@ pub at_plain : (xs : List ℕ) (i : ℕ) → i < length xs → get_or xs i 0 ≢
 at_plain xs i h q l s = rw (drop_more xs i 0 h, plain_first (get_or xs i 0) (drop (i + 1) xs) q l s) (counted_again i 1 (string_rest_len (drop (i + 1) xs)))
 
 pub at_end : (xs : List ℕ) (i : ℕ) → length xs ≤ i → counted i xs ≡ None
-at_end xs i h = rw (drop_all i xs h, no_bytes) refl
+unfolding string_rest_len
+at_end xs i h = rw (drop_all i xs h) refl
 
 -- what is at an index, as a byte and another after it
 two_more : (xs : List ℕ) (i : ℕ) → i + 1 < length xs
@@ -67,15 +56,15 @@ two_more xs i h = drop_more xs i 0 (omega arith) ∙ ap (λ rest. get_or xs i 0 
 
 pub at_broken : (xs : List ℕ) (i : ℕ) → get_or xs i 0 ≡ 92 → get_or xs (i + 1) 0 ≡ 10
     → counted i xs ≡ None
+unfolding string_rest_len
 at_broken xs i e f =
-    ⊎_elim (λ h. rw (two_more xs i h, broken_first (get_or xs i 0) (get_or xs (i + 1) 0) (drop (i + 2) xs) e f) refl) (λ h. absurd (omega (arith, get_or_past xs (i + 1) 0 h))) (cases_lt (i + 1) (length xs))
+    ⊎_elim (λ h. rw (two_more xs i h, e, f) refl) (λ h. absurd (omega (arith, get_or_past xs (i + 1) 0 h))) (cases_lt (i + 1) (length xs))
 
 pub at_escape : (xs : List ℕ) (i : ℕ) → i < length xs → get_or xs i 0 ≡ 92
     → get_or xs (i + 1) 0 ≢ 10 → counted i xs ≡ counted (i + 2) xs
+unfolding string_rest_len
 at_escape xs i h e f =
     ⊎_elim
     (λ k. rw (two_more xs i k, escape_first (get_or xs i 0) (get_or xs (i + 1) 0) (drop (i + 2) xs) e f) (counted_again i 2 (string_rest_len (drop (i + 2) xs))))
-    (λ k. rw (drop_more xs i 0 h, drop_all (i + 1) xs k, lone_escape (get_or xs i 0) e) (sym (at_end xs (i + 2) (omega arith))))
+    (λ k. rw (drop_more xs i 0 h, drop_all (i + 1) xs k, e) (sym (at_end xs (i + 2) (omega arith))))
     (cases_lt (i + 1) (length xs))
-
-pub ruleset string_steps = (at_quote, at_line_feed, at_plain, at_end, at_broken, at_escape)

@@ -2,7 +2,7 @@
 -- is a byte offset, counted from 0, and `drop place source` is the source from there on.
 use Rattle.std.specs.Prelude.{◌≡◌, ℕ, ◌+◌, ◌<◌, ◌≤◌, List, [], ◌∷◌, length, take, drop, slice_index, IsTrue, map, ◌-◌, ◌^◌, ℤ, pos, neg_ℤ, ◌≤ℤ◌}
 use Rattle.std.specs.List.{position_or_len, AllByRecursion}
-use Rattle.fz_lex.specs.Token.{is_blank, is_line_feed, TokenValue, Spells, Word, Whole, FloatText, StringText, Marked}
+use Rattle.fz_lex.specs.Token.{is_blank, is_line_feed, TokenValue, Spells, Whole}
 use Rattle.fz_lex.specs.declared.limits.Limits.{Limits}
 
 -- A token and the byte range of its text: from start up to end, exclusive.
@@ -39,20 +39,9 @@ pub data CutBetween (source : List ℕ) : ℕ → ℕ → List SpannedToken → 
       (drop place source) n token.token → CutBetween source (place + n) end tokens
       → CutBetween source place end (token ∷ tokens)
 
--- The part of the source before the offset is cut into the tokens.
-abbrev pub CutUpTo : List ℕ → ℕ → List SpannedToken → Type 0
-CutUpTo source place tokens = CutBetween source 0 place tokens
-
 -- The source lexes to the tokens, each with the byte range of its text: it is cut up to its end.
 abbrev pub LexesToSpanned : List ℕ → List SpannedToken → Type 0
-LexesToSpanned source tokens = CutUpTo source (length source) tokens
-
--- The least and the greatest integer that is accepted.
-abbrev pub least_whole : ℤ
-least_whole = neg_ℤ (pos (2 ^ 63))
-
-abbrev pub greatest_whole : ℤ
-greatest_whole = pos (2 ^ 63 - 1)
+LexesToSpanned source tokens = CutBetween source 0 (length source) tokens
 
 -- The limits where no others are given: the most bytes of a text, elements of a list in brackets or
 -- braces and levels of annotations in one another, and the greatest length of an array (this
@@ -60,33 +49,21 @@ greatest_whole = pos (2 ^ 63 - 1)
 abbrev pub standard_limits : Limits
 standard_limits = record { bytes = 2 ^ 24; elements = 2 ^ 20; size = 2 ^ 20; depth = 32 }
 
--- The most bytes that a text may have then.
-abbrev pub most_bytes : ℕ
-most_bytes = standard_limits.bytes
-
+-- The integers that are accepted are those of 64 bits.
 abbrev pub IsWithinLimit : ℤ → Type 0
-IsWithinLimit z = (least_whole ≤ℤ z) × (z ≤ℤ greatest_whole)
+IsWithinLimit z = (neg_ℤ (pos (2 ^ 63)) ≤ℤ z) × (z ≤ℤ pos (2 ^ 63 - 1))
 
 -- An integer is within the limit; nothing is asked of the other tokens.
 abbrev pub IsTokenWithinLimit : TokenValue → Type 0
-IsTokenWithinLimit (Word text) = Unit {0}
 IsTokenWithinLimit (Whole z) = IsWithinLimit z
-IsTokenWithinLimit (FloatText text) = Unit {0}
-IsTokenWithinLimit (StringText text) = Unit {0}
-IsTokenWithinLimit (Marked m) = Unit {0}
-
-abbrev pub AreWithinLimit : List SpannedToken → Type 0
-AreWithinLimit tokens = AllByRecursion (λ t. IsTokenWithinLimit t.token) tokens
+IsTokenWithinLimit _ = Unit {0}
 
 -- The source lexes to the tokens, and both are within the limits.
 pub record LexesWithin (limits : Limits) (source : List ℕ)
     (tokens : List SpannedToken) : Type 0 where
   pub short : length source ≤ limits.bytes
   pub lexes : LexesToSpanned source tokens
-  pub numbers : AreWithinLimit tokens
-
-abbrev pub LexesWithinLimits : List ℕ → List SpannedToken → Type 0
-LexesWithinLimits = LexesWithin standard_limits
+  pub numbers : AllByRecursion (λ t. IsTokenWithinLimit t.token) tokens
 
 -- The source is a text of the tokens: it lexes to them, and both are within the limits.
 abbrev pub IsTextOfTokensWithin : Limits → List ℕ → List TokenValue → Type 0

@@ -127,11 +127,9 @@ Spells (StringText text) bytes = (bytes ≡ text) × IsStringText bytes
 Spells (Marked m) bytes = bytes ≡ mark_text m
 
 -- The text that is in the token is one that the language has for it: a word's text is that of a
--- word, a float's that of a float, a string's that of a string. Numbers and marks have none in
--- them.
+-- word, a float's that of a float, a string's that of a string. Numbers and marks have none.
 abbrev pub IsTokenText : TokenValue → Type 0
 IsTokenText (Word text) = IsWordText text
-IsTokenText (Whole z) = Unit {0}
 IsTokenText (FloatText text) = IsFloatText text
 IsTokenText (StringText text) = IsStringText text
-IsTokenText (Marked m) = Unit {0}
+IsTokenText _ = Unit {0}

@@ -4,7 +4,7 @@ use Rattle.std.specs.Prelude.{◌≡◌, ℕ, ◌+◌, ◌<◌, ◌≤◌, List,
 use Rattle.std.specs.List.{AllByRecursion}
 use Rattle.fz_base.specs.declared.span.Span.{Span}
 use Rattle.fz_lex.specs.Token.{TokenValue, Word, Whole, FloatText, StringText, Marked, Spells, is_blank}
-use Rattle.fz_lex.specs.Lexing.{SpannedToken, CutUpTo, IsLongestSpelling, standard_limits, IsWithinLimit, AreWithinLimit}
+use Rattle.fz_lex.specs.Lexing.{SpannedToken, CutBetween, IsLongestSpelling, IsTokenWithinLimit, LexesWithin, standard_limits, IsWithinLimit}
 use Rattle.fz_lex.specs.declared.limits.Limits.{Limits}
 use Rattle.fz_lex.specs.declared.token.TokenKind.{TokenKind}
 use Rattle.fz_lex.specs.declared.token.TokenKind.TheVariants as kinds
@@ -33,6 +33,14 @@ spanned t = record { token = token_value t.kind t.text.now; start = t.span.start
 
 abbrev pub all_spanned : List Token → List SpannedToken
 all_spanned tokens = map spanned tokens
+
+-- The part of the source before the offset is cut into the tokens.
+abbrev pub CutUpTo : List ℕ → ℕ → List SpannedToken → Type 0
+CutUpTo source place tokens = CutBetween source 0 place tokens
+
+-- Their integers are within the limit.
+abbrev pub AreWithinLimit : List SpannedToken → Type 0
+AreWithinLimit tokens = AllByRecursion (λ t. IsTokenWithinLimit t.token) tokens
 
 -- The text of each token is the slice of the source at its span.
 abbrev pub TextsAreSlices : List ℕ → List Token → Type 0
@@ -79,3 +87,10 @@ IsLexicalFaultWithin limits source Memory = Unit {0}
 
 abbrev pub IsLexicalFault : List ℕ → SyntaxError → Type 0
 IsLexicalFault = IsLexicalFaultWithin standard_limits
+
+-- The most bytes that a text may have at the standard limits, and its tokens within these.
+abbrev pub most_bytes : ℕ
+most_bytes = standard_limits.bytes
+
+abbrev pub LexesWithinLimits : List ℕ → List SpannedToken → Type 0
+LexesWithinLimits = LexesWithin standard_limits

@@ -2,9 +2,9 @@
 
 ghost use Rattle.std.specs.Prelude.{◌≡◌, ◌≢◌, ◌∷◌, [], List, length, drop, IsOk, IfErr, IfSome, IfNone, OnOk};
 ghost use Rattle.std.specs.List.{AllByRecursion};
-ghost use Rattle.fz_lex.specs.Lexing.{AreWithinLimit, LexesWithin, SpannedToken, LexesToSpanned};
+ghost use Rattle.fz_lex.specs.Lexing.{LexesWithin, SpannedToken, LexesToSpanned};
 ghost use Rattle.fz_lex.specs.Found.{AreInOrder, IsScanned, IsScanFault};
-ghost use Rattle.fz_lex.specs.View.{spanned, IsSpelledAtSpan, IsLexicalFaultWithin, IsPlacedWithin};
+ghost use Rattle.fz_lex.specs.View.{spanned, IsSpelledAtSpan, IsLexicalFaultWithin, IsPlacedWithin, AreWithinLimit};
 ghost use Rattle.fz_lex.specs.Ahead.{tokens_ahead};
 ghost use Rattle.fz_lex.specs.declared.limits.Limits.{Limits};
 ghost use Rattle.fz_lex.specs.Left.{left, listed_comma, source_of};
@@ -15,7 +15,7 @@ use crate::token::Token;
 use fz_base::Span;
 
 /// Goes over the rest of a text.
-#[tactic(auto, using(crate::proofs::AheadLaws::fault_scanned, crate::proofs::Next::of_fault))]
+#[tactic(auto, using(crate::proofs::AheadLaws::fault_scanned, crate::proofs::Next::fault_is_not))]
 fn scan(mut lexer: Lexer<'_>) -> Result<(), SyntaxError>
     ensures found { OnOk result (IsScanned lexer.entry.source.now) }
     ensures refused { IfErr result (IsScanFault lexer.entry.source.now) }

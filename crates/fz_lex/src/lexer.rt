@@ -2,10 +2,10 @@
 
 ghost use Rattle.std.specs.Prelude.{◌≡◌, ◌≢◌, ◌+◌, ◌<◌, ◌≤◌, ◌∷◌, [], Some, None, IfSome, IfNone, List, length, drop, false, slice_index, IsFalse, IfOk, IfErr, OnErr, MatchResult};
 ghost use Rattle.fz_lex.specs.Token as bytes_spec;
-ghost use Rattle.fz_lex.specs.Lexing.{most_bytes, LexesWithinLimits, SpannedToken, CutBetween};
+ghost use Rattle.fz_lex.specs.Lexing.{SpannedToken, CutBetween};
 ghost use Rattle.fz_lex.specs.Found.{AreInOrder, NextFrom, FaultFrom, IsFrontOf, IsLexed};
 ghost use Rattle.fz_lex.specs.declared.scanner.Front.TheVariants.{Found};
-ghost use Rattle.fz_lex.specs.View.{all_spanned, TextsAreSlices, IsLexicalFault, IsPlacedWithin};
+ghost use Rattle.fz_lex.specs.View.{all_spanned, TextsAreSlices, IsLexicalFault, IsPlacedWithin, most_bytes, LexesWithinLimits};
 ghost use Rattle.fz_lex.specs.Ahead.{comma_at, tokens_ahead, stop_ahead};
 
 use crate::error::SyntaxError;

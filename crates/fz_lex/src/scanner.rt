@@ -263,7 +263,6 @@ fn short_number(bytes: &[u8]) -> Option<DigitRun>
 }
 
 /// The length of the rest of a string after its opening quote, where it is closed on its line.
-#[tactic(auto, using(crate::proofs::StringRest::string_steps))]
 fn string_rest_len(bytes: &[u8]) -> Option<usize>
     ensures value { result ≡ scan.string_rest_len bytes.now }
     ensures within { IfSome result (λ n. n ≤ length bytes.now) }

@@ -14,8 +14,9 @@ use Rattle.fz_meaning.specs.Relations.{same_kind}
 use Rattle.fz_meaning.specs.Meaning.Place.{Array}
 use Rattle.fz_meaning.specs.Located.{Name, Decl}
 use Rattle.fz_meaning.specs.Located.Basic.{Named}
-use Rattle.fz_meaning.specs.Names.{declaration, named_as, parts, kind_of_base, is_scalar, is_scalar_variable, scalar_variables, scalar_kind, kinds, number_of, scalar_term, scalar_place, scalars, declared_elements, place_of_declared, places, term_at, term_of, Fault, kind_fault, named_fault, name_fault, parts_fault, decl_fault}
-use Rattle.fz_meaning.specs.Names.FaultKind.{WrongKind}
+use Rattle.fz_meaning.specs.Names.{declaration, named_as, parts, kind_of_base, is_scalar, is_scalar_variable, scalar_kind, kinds, number_of, scalar_term, scalar_place, scalars, declared_elements, place_of_declared, places, term_at, term_of, Fault, kind_fault, name_fault, parts_fault, decl_fault}
+use Rattle.fz_meaning.specs.Laws.{scalar_variables}
+use Rattle.fz_meaning.specs.Names.FaultKind.{UnknownName, WrongKind}
 use Rattle.fz_meaning.proofs.Values.{no'}
 use Rattle.fz_meaning.proofs.ScanSteps.{first_none, second_none}
 
@@ -107,7 +108,7 @@ passed false f e = cc
 
 -- what a name without a fault was declared as
 pub clean_name : (wanted : Kind) (o : Option Decl) (at : Span)
-    → named_fault (Some wanted) (option_map scalar_kind o) at ≡ None
+    → option_map_or (λ k. kind_fault (Some wanted) k at) (option_map scalar_kind o) (Some (UnknownName, at)) ≡ None
     → (d : Decl) × (o ≡ Some d) × (is_scalar d ≡ true) × (same_kind (kind_of_base d.base) wanted ≡ true)
 clean_name wanted None at e = cc
 clean_name wanted (Some d) at e =

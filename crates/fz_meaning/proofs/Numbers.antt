@@ -1,6 +1,7 @@
 -- In a tree without faults the scalar variable with number i has the name that is numbered i.
 use Rattle.std.proofs.Common.{◌≡◌, ℕ, suc, zero, ◌+◌, true, false, cond, List, [], ◌∷◌, ◌++◌, Some, refl, sym, ap, ◌∙◌, slice_get, append_assoc, arith}
-use Rattle.fz_meaning.specs.Names.{HasNoFault, is_scalar_variable, scalar_variables, number_of}
+use Rattle.fz_meaning.specs.Names.{HasNoFault, is_scalar_variable, number_of}
+use Rattle.fz_meaning.specs.Laws.{scalar_variables}
 use Rattle.fz_meaning.specs.Located.{Decl, LocatedTree}
 use Rattle.fz_meaning.proofs.KnownNames.{next_number, next_number_more, number_here}
 use Rattle.fz_meaning.proofs.Names.{AreNew, sound_names}

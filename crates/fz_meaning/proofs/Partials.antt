@@ -2,8 +2,8 @@
 use Rattle.std.proofs.Common.{◌≡◌, ℕ, zero, suc, ◌<◌, List, [], ◌∷◌, length, map, None, Some, option_map, slice_get, slice_set, refl, ap, arith}
 use Rattle.fz_base.specs.declared.value.Value.{Value}
 use Rattle.fz_meaning.specs.declared.kind.Kind.{Kind}
-use Rattle.fz_meaning.specs.Meaning.{FitVariables, IsPartial, Model, Partial, Variable, give, variables_of}
-use Rattle.fz_meaning.specs.Steps.{kind_at}
+use Rattle.fz_meaning.specs.Meaning.{FitVariables, IsPartial, Model, Partial, Variable, variables_of}
+use Rattle.fz_meaning.specs.Steps.{kind_at, give}
 use Rattle.fz_meaning.specs.Relations.{kind_of}
 
 pub fits_length : (xs : List Variable) (K : Partial) → FitVariables xs K → length K ≡ length xs

@@ -6,7 +6,7 @@ use Rattle.std.proofs.lemmas.List.{take-append-drop, map-append, append-nil}
 use Rattle.std.proofs.Math.Seq.{take-suc}
 use Rattle.fz_meaning.specs.Located.{Decl, LocatedTree}
 use Rattle.fz_meaning.specs.Meaning.{first_some}
-use Rattle.fz_meaning.specs.Names.{kinds, Fault, decl_fault, decls_fault, constraints_fault, goal_fault, first_fault}
+use Rattle.fz_meaning.specs.Names.{kinds, Fault, decl_fault, decls_fault, constraint_fault, goal_fault, first_fault}
 
 -- ---- a list of which a part was read
 
@@ -99,21 +99,21 @@ decls_stops g xs i x f h e none here = ap (decls_fault []) (whole_at g xs i x h 
 -- ---- constraints and the objective
 
 pub in_constraints : (t : LocatedTree) (f : Fault) → decls_fault [] t.decls ≡ None
-    → constraints_fault (kinds t.decls) t.constraints ≡ Some f → first_fault t ≡ Some f
+    → first_some (constraint_fault (kinds t.decls)) t.constraints ≡ Some f → first_fault t ≡ Some f
 in_constraints t f none e = search rules
 
 pub in_goal : (t : LocatedTree) (f : Fault) → decls_fault [] t.decls ≡ None
-    → constraints_fault (kinds t.decls) t.constraints ≡ None → goal_fault (kinds t.decls) t.solve.goal ≡ Some f
+    → first_some (constraint_fault (kinds t.decls)) t.constraints ≡ None → goal_fault (kinds t.decls) t.solve.goal ≡ Some f
     → first_fault t ≡ Some f
 in_goal t f none here e = search rules
 
 pub nowhere : (t : LocatedTree) → decls_fault [] t.decls ≡ None
-    → constraints_fault (kinds t.decls) t.constraints ≡ None → goal_fault (kinds t.decls) t.solve.goal ≡ None
+    → first_some (constraint_fault (kinds t.decls)) t.constraints ≡ None → goal_fault (kinds t.decls) t.solve.goal ≡ None
     → first_fault t ≡ None
-nowhere t a b c = both_none (decls_fault [] t.decls) (option_or (constraints_fault (kinds t.decls) t.constraints) (goal_fault (kinds t.decls) t.solve.goal)) a (both_none (constraints_fault (kinds t.decls) t.constraints) (goal_fault (kinds t.decls) t.solve.goal) b c)
+nowhere t a b c = both_none (decls_fault [] t.decls) (option_or (first_some (constraint_fault (kinds t.decls)) t.constraints) (goal_fault (kinds t.decls) t.solve.goal)) a (both_none (first_some (constraint_fault (kinds t.decls)) t.constraints) (goal_fault (kinds t.decls) t.solve.goal) b c)
 
 pub declarations_clean : (t : LocatedTree) → first_fault t ≡ None → decls_fault [] t.decls ≡ None
-declarations_clean t e = first_none (decls_fault [] t.decls) (option_or (constraints_fault (kinds t.decls) t.constraints) (goal_fault (kinds t.decls) t.solve.goal)) e
+declarations_clean t e = first_none (decls_fault [] t.decls) (option_or (first_some (constraint_fault (kinds t.decls)) t.constraints) (goal_fault (kinds t.decls) t.solve.goal)) e
 
 pub goal_clean : (t : LocatedTree) → first_fault t ≡ None → goal_fault (kinds t.decls) t.solve.goal ≡ None
 goal_clean t e = search (rules, second_none)

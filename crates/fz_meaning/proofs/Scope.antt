@@ -6,7 +6,8 @@ use Rattle.fz_meaning.specs.Relations.{kind_of, same_kind}
 use Rattle.fz_meaning.specs.Located.{Basic, Decl, Expr, Goal, Literal, LocatedTree}
 use Rattle.fz_meaning.specs.Located.Basic.{Lit, Named}
 use Rattle.fz_meaning.specs.Names.FaultKind.{WrongKind}
-use Rattle.fz_meaning.specs.Names.{HasNoFault, kind_fault, part_fault, parts_fault, decl_fault, decls_fault, goal_fault, declaration, kinds, named_as, is_scalar, is_scalar_variable, scalar_variables, number_of, scalar_term, scalars, declared_elements, places, term_of, literal_value, literal_of, kind_of_base, parts, declared_of, variable_declared, model_of, aim_of, definition_of, domain_of, place_of_declared}
+use Rattle.fz_meaning.specs.Names.{HasNoFault, kind_fault, part_fault, parts_fault, decl_fault, decls_fault, goal_fault, declaration, kinds, named_as, is_scalar, is_scalar_variable, number_of, scalar_term, scalars, declared_elements, places, term_of, literal_value, literal_of, kind_of_base, parts, declared_of, variable_declared, model_of, aim_of, definition_of, domain_of, place_of_declared}
+use Rattle.fz_meaning.specs.Laws.{scalar_variables}
 use Rattle.std.proofs.lemmas.List.Folds.{find_at}
 use Rattle.std.proofs.lemmas.Option.{slice_get-map}
 use Rattle.std.proofs.lemmas.Grind.{common_steps}

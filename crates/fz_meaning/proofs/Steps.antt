@@ -5,19 +5,19 @@ use Rattle.std.specs.List.{AllByRecursion}
 use Rattle.std.specs.Option.{option_map_or}
 pub use Rattle.std.proofs.lemmas.List.Elements.{filter-append}
 use Rattle.std.proofs.lemmas.Grind.{common_steps}
-use Rattle.fz_meaning.specs.Relations.{kind_of}
-use Rattle.fz_meaning.specs.Builtins.{Shape, Of, Plain, Test, Row, is_named, rows, passes, read, plain, plain_list, plain_and, ArgValue}
+use Rattle.fz_meaning.specs.Relations.{kind_of, option_cons}
+use Rattle.fz_meaning.specs.Builtins.{Shape, Of, Plain, Test, Row, is_named, rows, passes, read, plain, plain_list, ArgValue}
 use Rattle.fz_meaning.specs.Builtins.Shape.{ScalarOf, ArrayOf}
 use Rattle.fz_meaning.specs.Builtins.ArgValue.{OneValue}
 use Rattle.fz_meaning.specs.Results.{Result, result_of}
 use Rattle.fz_meaning.specs.Results.Result.{NoResult, Places, UnitTerm}
-use Rattle.fz_meaning.specs.Meaning.{Argument, Variable, Model, Point, Partial, value, values, value_at, give, option_cons, terms_in, argument_value, argument_values, row_of, row_holds, HoldsUnder, fits as fits_row}
+use Rattle.fz_meaning.specs.Meaning.{Argument, Variable, Model, Point, Partial, value, values, value_at, terms_in, argument_value, argument_values, row_of, row_holds, HoldsUnder, fits as fits_row}
 use Rattle.fz_meaning.specs.declared.term.Term.{Term}
 use Rattle.fz_meaning.specs.declared.term.Term.TheVariants.{Var, Fixed}
 use Rattle.fz_meaning.specs.Meaning.Place.{Scalar}
 use Rattle.fz_meaning.specs.Meaning.Argument.{One}
 use Rattle.fz_meaning.specs.Meaning.Point.{DomainPoint, DefinitionPoint, ArrayPoint, ConstraintPoint}
-use Rattle.fz_meaning.specs.Steps.{Gives, IsResult, HasUnitCoefficient, HasOneNumber, kind_at}
+use Rattle.fz_meaning.specs.Steps.{Gives, IsResult, HasUnitCoefficient, HasOneNumber, kind_at, give}
 use Rattle.fz_meaning.proofs.Values.{no, no'}
 use Rattle.fz_meaning.proofs.Determined.{Both, Determines, DeterminesHere, DeterminesTerm, DeterminesResult, RowDetermines, rows_determine, at_found, IsUnit}
 use Rattle.fz_base.specs.declared.value.Value.{Value}
@@ -237,14 +237,9 @@ record FirstInt (K : Partial) (t : Term) (ts : List Term) (ns : List ℤ) : Type
   splits : ns ≡ first ∷ others
   are : AreInts K ts others
 
-plain_and_parts : (o : Option ℤ) (os : Option (List ℤ)) (ns : List ℤ)
-    → plain_and IntKind o os ≡ Some ns
-    → (n : ℤ) × (ms : List ℤ) × (o ≡ Some n) × (os ≡ Some ms) × (ns ≡ n ∷ ms)
-plain_and_parts o os ns e = grind (arith, common_steps)
-
 first_int : (K : Partial) (t : Term) (ts : List Term) (ns : List ℤ) → AreInts K (t ∷ ts) ns
     → FirstInt K t ts ns
-first_int K t ts ns h = search (rules, option_cons_parts, plain_and_parts, plain_back)
+first_int K t ts ns h = search (rules, option_cons_parts, plain_back)
 
 pub map_some : {A B : Type 0} (f : A → B) (o : Option A) (y : B) → option_map f o ≡ Some y
     → (x : A) × (o ≡ Some x) × (f x ≡ y)

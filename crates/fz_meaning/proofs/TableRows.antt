@@ -6,8 +6,8 @@ use Rattle.fz_base.specs.Sets.{NumberSet}
 use Rattle.fz_base.specs.declared.value.Value.{Value}
 use Rattle.fz_base.specs.declared.value.Value.TheVariants.{Int, Bool as Truth, Set}
 use Rattle.fz_meaning.specs.declared.kind.Kind.TheVariants.{Int as IntKind, Bool as BoolKind, Set as SetKind}
-use Rattle.fz_meaning.specs.Relations.{◌=ℤ◌, ◌=ᴮ◌, total, products}
-use Rattle.fz_meaning.specs.Builtins.{ArgValue, Shape, Row, Test, implied, reified, row_at, read, plain_list, plain_and, passes, with_bool, with_truth}
+use Rattle.fz_meaning.specs.Relations.{◌=ℤ◌, ◌=ᴮ◌, option_cons, total, products}
+use Rattle.fz_meaning.specs.Builtins.{ArgValue, Shape, Row, Test, implied, reified, row_at, read, plain_list, passes, with_bool, with_truth}
 use Rattle.fz_meaning.specs.Builtins.ArgValue.{OneValue, ManyValues}
 use Rattle.fz_meaning.specs.Meaning.{row_holds}
 use Rattle.fz_meaning.specs.declared.builtin.Builtin.TheVariants.{IntLinEq}
@@ -16,15 +16,15 @@ use Rattle.fz_meaning.specs.declared.builtin.Builtin.TheVariants.{IntLinEq}
 
 pub plain_ints : (ns : List ℤ) → plain_list IntKind (map Int ns) ≡ Some ns
 plain_ints [] = refl
-plain_ints (n ∷ ns) = ap (plain_and IntKind (Some n)) (plain_ints ns)
+plain_ints (n ∷ ns) = ap (option_cons (Some n)) (plain_ints ns)
 
 pub plain_bools : (ts : List Bool) → plain_list BoolKind (map Truth ts) ≡ Some ts
 plain_bools [] = refl
-plain_bools (t ∷ ts) = ap (plain_and BoolKind (Some t)) (plain_bools ts)
+plain_bools (t ∷ ts) = ap (option_cons (Some t)) (plain_bools ts)
 
 pub plain_sets : (ss : List NumberSet) → plain_list SetKind (map Set ss) ≡ Some ss
 plain_sets [] = refl
-plain_sets (s ∷ ss) = ap (plain_and SetKind (Some s)) (plain_sets ss)
+plain_sets (s ∷ ss) = ap (option_cons (Some s)) (plain_sets ss)
 
 -- ---- a sum, whose arrays are given as lists of values with what they are read as
 

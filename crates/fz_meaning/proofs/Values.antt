@@ -3,7 +3,8 @@ use Rattle.std.proofs.Common.{◌≡◌, ℤ, Bool, true, false, ◌&&◌, List,
 use Rattle.std.specs.FinSet.{contains, is_subset, is_subset-contains, contains-is_subset, same_set, int_cmp-IsAntisymmetric}
 use Rattle.std.specs.Cmp.{int_cmp_total, Equal-is, tied_itself}
 use Rattle.std.proofs.lemmas.Grind.{common_steps}
-use Rattle.fz_meaning.specs.Relations.{◌=ℤ◌, ◌=ᴮ◌, ◌=ˢ◌, same_value, same_values}
+use Rattle.fz_meaning.specs.Relations.{◌=ℤ◌, ◌=ᴮ◌, ◌=ˢ◌}
+use Rattle.fz_meaning.specs.States.{same_value, same_values}
 use Rattle.fz_base.specs.declared.value.Value.{Value}
 use Rattle.fz_base.specs.Sets.{NumberSet}
 

@@ -1,7 +1,7 @@
 -- What holds of points, steps and models by their definitions (this project's profile). Each law is
 -- the contract of a public function of this crate.
 use Rattle.std.specs.Prelude.{◌≡◌, ◌↔◌, ◌⊎◌, ℕ, List, None, Some, IsSome, IsSomeAnd, IsTrue}
-use Rattle.std.specs.List.{list_any, slice_get}
+use Rattle.std.specs.List.{filter, list_any, slice_get}
 use Rattle.fz_base.specs.declared.value.Value.{Value}
 use Rattle.fz_meaning.specs.declared.state.State.TheVariants.{Unknown}
 use Rattle.fz_meaning.specs.Relations.{kind_of}
@@ -9,12 +9,12 @@ use Rattle.fz_syntax.specs.View.{bare}
 use Rattle.fz_syntax.specs.declared.Ast.{Ast}
 use Rattle.fz_meaning.specs.View.{located}
 use Rattle.fz_meaning.specs.Located.{LocatedTree, Decl, bare_of}
-use Rattle.fz_meaning.specs.Names.{HasNoFault, number_of, scalar_variables}
+use Rattle.fz_meaning.specs.Names.{HasNoFault, is_scalar_variable, number_of}
 use Rattle.fz_meaning.specs.Builtins.{Row}
-use Rattle.fz_meaning.specs.Meaning.{Argument, Model, Partial, Point, Posted, argument_values, points, give, row_of, HoldsUnder}
+use Rattle.fz_meaning.specs.Meaning.{Argument, Model, Partial, Point, Posted, argument_values, points, row_of, HoldsUnder}
 use Rattle.fz_meaning.specs.States.{is_unknown, state}
 use Rattle.fz_meaning.specs.Meaning.Point.{ConstraintPoint}
-use Rattle.fz_meaning.specs.Steps.{Gives}
+use Rattle.fz_meaning.specs.Steps.{Gives, give}
 
 -- A forced step's value is the only one of its kind with which the point holds.
 abbrev pub StepsAreForced : Type 0
@@ -27,6 +27,10 @@ StepsAreForced =
 abbrev pub IsUnknownFor : Partial → List Argument → Row → Type 0
 IsUnknownFor K xs r =
     IsSome (argument_values K xs) × IsTrue (list_any (is_unknown K xs) r.wide)
+
+-- the scalar variables among declarations, in source order
+abbrev pub scalar_variables : List Decl → List Decl
+scalar_variables ds = filter is_scalar_variable ds
 
 -- In a tree without faults the scalar variable at index i has the name that is numbered i.
 abbrev pub NumbersAgree : Type 0

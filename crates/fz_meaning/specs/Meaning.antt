@@ -1,7 +1,7 @@
 -- What a model means, once its names are numbered: assignments, the value of an expression, the
 -- domains, the points, solutions and the objective (MiniZinc Handbook, FlatZinc, "variable
 -- declarations" and "constraint items"; the points and their order are this project's profile).
-use Rattle.std.specs.Prelude.{◌≡◌, ℕ, zero, suc, ◌%◌, nat_eq, ℤ, pos, ◌*ℤ◌, Bool, true, false, cond, ◌&&◌, List, [], ◌∷◌, ◌++◌, length, map, ◌==◌, int_le, Option, Some, None, bytes_eq, option_map, option_and_then, slice_get, slice_set, IsTrue, IsSomeAnd, IfSome, ⊤, flat_map, find}
+use Rattle.std.specs.Prelude.{◌≡◌, ℕ, zero, suc, ◌%◌, nat_eq, ℤ, pos, ◌*ℤ◌, Bool, true, false, cond, ◌&&◌, List, [], ◌∷◌, ◌++◌, length, map, ◌==◌, int_le, Option, Some, None, bytes_eq, option_map, option_and_then, slice_get, IsTrue, IsSomeAnd, IfSome, ⊤, flat_map, find}
 use Rattle.std.specs.List.{list_all, AllByRecursion}
 use Rattle.std.specs.Option.{option_map_or, option_flatten, option_or}
 use Rattle.std.specs.FinSet as sets
@@ -14,10 +14,8 @@ use Rattle.fz_meaning.specs.declared.term.Domain.{Domain}
 use Rattle.fz_meaning.specs.declared.term.Domain.TheVariants.{All, Within, Among}
 use Rattle.fz_meaning.specs.declared.row.Matrix.{Matrix}
 use Rattle.fz_meaning.specs.declared.row.Matrix.TheVariants.{Absent, RowsLike, RowsBy}
-use Rattle.fz_meaning.specs.Relations.{◌=ℤ◌, kind_of, same_kind}
-use Rattle.fz_meaning.specs.Builtins.{Shape, Row, rows, is_named, ArgValue, passes}
-use Rattle.fz_meaning.specs.Builtins.Shape.{ScalarOf, ArrayOf}
-use Rattle.fz_meaning.specs.Builtins.ArgValue.{OneValue, ManyValues}
+use Rattle.fz_meaning.specs.Relations.{◌=ℤ◌, all_some, kind_of, same_kind}
+use Rattle.fz_meaning.specs.Builtins.{Shape, ScalarOf, ArrayOf, Row, rows, is_named, ArgValue, OneValue, ManyValues, passes}
 
 -- ---- a model with its names looked up
 
@@ -66,8 +64,7 @@ pub record Model : Type 0 where
 -- the scalar variables in source order, so that the one with number n is at index n
 abbrev pub variable_of : Declared → List Variable
 variable_of (ScalarVariable x e) = x ∷ []
-variable_of (Parameter name p) = []
-variable_of (ArrayOfVariables name k d ts) = []
+variable_of _ = []
 
 abbrev pub variables_of : Model → List Variable
 variables_of m = flat_map variable_of m.declared
@@ -123,10 +120,6 @@ whole A = map Some A
 abbrev pub value_at : Partial → ℕ → Option Value
 value_at K n = option_flatten (slice_get K n)
 
--- the same, with one more value
-abbrev pub give : Partial → ℕ → Value → Partial
-give K n v = slice_set K n (Some v)
-
 -- each value has its variable's kind
 abbrev pub FitVariables : List Variable → Partial → Type 0
 FitVariables [] [] = ⊤
@@ -146,15 +139,6 @@ abbrev pub value : Partial → Term → Option Value
 value K (Var n) = value_at K n
 value K (Fixed v) = Some v
 
-abbrev pub option_cons : {A : Type 0} → Option A → Option (List A) → Option (List A)
-option_cons (Some x) (Some xs) = Some (x ∷ xs)
-option_cons _ _ = None
-
--- all of them, where each is there
-abbrev pub all_some : {A : Type 0} → List (Option A) → Option (List A)
-all_some [] = Some []
-all_some (o ∷ os) = option_cons o (all_some os)
-
 -- the values of the terms, where each has one
 abbrev pub values : Partial → List Term → Option (List Value)
 values K ts = all_some (map (value K) ts)
@@ -169,8 +153,7 @@ admits (Among s) n = sets.contains s n
 
 abbrev pub admits_all : Domain → Bool
 admits_all All = true
-admits_all (Within lo hi) = false
-admits_all (Among s) = false
+admits_all _ = false
 
 -- The value lies in the domain: a number is one of its numbers, and a set is a subset of it. No
 -- Boolean lies in a domain with bounds.
@@ -255,8 +238,7 @@ has_whole_rows (RowsBy q s d) xs =
     are_rows_of (fixed_number_at xs q) (fixed_number_at xs s) (length_at xs d)
 
 abbrev pub fits : Row → List Argument → Bool
-fits r xs =
-    have_shapes r.shapes xs && (equally_long r.together xs && has_whole_rows r.matrix xs)
+fits r xs = have_shapes r.shapes xs && (equally_long r.together xs && has_whole_rows r.matrix xs)
 
 -- the row that a constraint fits; a constraint is known where there is one, but for a power whose
 -- exponent is negative
@@ -289,8 +271,7 @@ definition_points x n (Some e) = DefinitionPoint x n e ∷ []
 
 abbrev pub array_points : List ℕ → Domain → List Term → List Point
 array_points name All ts = []
-array_points name (Within lo hi) ts = ArrayPoint name (Within lo hi) ts ∷ []
-array_points name (Among s) ts = ArrayPoint name (Among s) ts ∷ []
+array_points name d ts = ArrayPoint name d ts ∷ []
 
 abbrev pub declared_points : (ℕ × Declared) → List Point
 declared_points (n, Parameter name p) = []

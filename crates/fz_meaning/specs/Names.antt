@@ -11,23 +11,13 @@ use Rattle.fz_meaning.specs.declared.kind.Kind.{Kind}
 use Rattle.fz_meaning.specs.declared.kind.Kind.TheVariants.{Int as IntKind, Bool as BoolKind, Set as SetKind}
 use Rattle.fz_meaning.specs.Relations.{kind_of, same_kind, set_of}
 use Rattle.fz_syntax.specs.Tree as tree
-use Rattle.fz_syntax.specs.Tree.Literal.{Number, Truth as TruthWord, Range, Braces}
-use Rattle.fz_syntax.specs.Tree.Note.{Called}
-use Rattle.fz_syntax.specs.Tree.NoteArgs.{NoMoreArgs, MoreArgs}
-use Rattle.fz_syntax.specs.Tree.NoteArg.{OneBasic}
-use Rattle.fz_syntax.specs.Tree.NoteBasic.{Inner}
-use Rattle.fz_syntax.specs.Tree.Base.{BoolBase, IntBase, SetBase}
-use Rattle.fz_meaning.specs.Located.{Basic, Expr, Decl, Constraint, Goal, LocatedTree}
-use Rattle.fz_meaning.specs.Located.Basic.{Lit, Named}
-use Rattle.fz_meaning.specs.Located.Expr.{One, Several}
-use Rattle.fz_meaning.specs.Located.Goal.{Satisfy, Minimize, Maximize}
-use Rattle.fz_meaning.specs.Meaning.{Place, Argument, Variable, Declared, Posted, Aim, Model, first_some}
+use Rattle.fz_syntax.specs.Tree.{Number, Truth as TruthWord, Range, Braces, Called, NoMoreArgs, MoreArgs, OneBasic, Inner, BoolBase, IntBase, SetBase}
+use Rattle.fz_meaning.specs.Located.{Basic, Lit, Named, Expr, One, Several, Decl, Constraint, Goal, Satisfy, Minimize, Maximize, LocatedTree}
+use Rattle.fz_meaning.specs.Meaning.{Place, Scalar, Array, Argument, Variable, Declared, Parameter, ScalarVariable, ArrayOfVariables, Posted, Aim, Model, first_some}
 use Rattle.fz_meaning.specs.declared.term.Term.{Term}
-use Rattle.fz_meaning.specs.declared.term.Domain.{Domain}
 use Rattle.fz_meaning.specs.declared.term.Term.TheVariants.{Var, Fixed}
-use Rattle.fz_meaning.specs.Meaning.Place.{Scalar, Array}
+use Rattle.fz_meaning.specs.declared.term.Domain.{Domain}
 use Rattle.fz_meaning.specs.declared.term.Domain.TheVariants.{All, Within, Among}
-use Rattle.fz_meaning.specs.Meaning.Declared.{Parameter, ScalarVariable, ArrayOfVariables}
 
 -- ---- the value of a literal
 
@@ -116,14 +106,10 @@ kind_fault (Some k) None at = Some (WrongKind, at)
 kind_fault (Some k) (Some j) at = cond (same_kind j k) None (Some (WrongKind, at))
 
 -- or no earlier item declares the name
-abbrev pub named_fault : Option Kind → Option (Option Kind) → Span → Option Fault
-named_fault wanted None at = Some (UnknownName, at)
-named_fault wanted (Some o) at = kind_fault wanted o at
-
 abbrev pub part_fault : Kinds → Option Kind → Basic → Option Fault
-part_fault known wanted (Lit l) =
-    kind_fault wanted (Some (kind_of (literal_value l.what))) l.span
-part_fault known wanted (Named x) = named_fault wanted (known x.text) x.span
+part_fault known wanted (Lit l) = kind_fault wanted (Some (kind_of (literal_value l.what))) l.span
+part_fault known wanted (Named x) =
+    option_map_or (λ o. kind_fault wanted o x.span) (known x.text) (Some (UnknownName, x.span))
 
 -- at the first of several
 abbrev pub parts_fault : Kinds → Option Kind → List Basic → Option Fault
@@ -159,9 +145,6 @@ argument_fault known e = parts_fault known None (parts (Some e))
 abbrev pub constraint_fault : Kinds → Constraint → Option Fault
 constraint_fault known c = first_some (argument_fault known) c.args
 
-abbrev pub constraints_fault : Kinds → List Constraint → Option Fault
-constraints_fault known cs = first_some (constraint_fault known) cs
-
 -- at the objective, which is to be an integer
 abbrev pub goal_fault : Kinds → Goal → Option Fault
 goal_fault known g = parts_fault known (Some IntKind) (goal_parts g)
@@ -171,7 +154,8 @@ goal_fault known g = parts_fault known (Some IntKind) (goal_parts g)
 -- the first fault, if there is one
 abbrev pub first_fault : LocatedTree → Option Fault
 first_fault t = option_or (decls_fault [] t.decls) (option_or
-    (constraints_fault (kinds t.decls) t.constraints) (goal_fault (kinds t.decls) t.solve.goal))
+    (first_some (constraint_fault (kinds t.decls)) t.constraints)
+    (goal_fault (kinds t.decls) t.solve.goal))
 
 abbrev pub HasNoFault : LocatedTree → Type 0
 HasNoFault t = first_fault t ≡ None
@@ -181,12 +165,9 @@ HasNoFault t = first_fault t ≡ None
 -- In a tree with the forms of the grammar and without faults each name is declared and each
 -- declaration has the parts that are read here; nothing depends on what stands for the others.
 
-abbrev pub scalar_variables : List Decl → List Decl
-scalar_variables ds = filter is_scalar_variable ds
-
 -- scalar variables are numbered from 0 in source order
 abbrev pub number_of : List Decl → List ℕ → ℕ
-number_of ds x = position_or_len (named_as x) (scalar_variables ds)
+number_of ds x = position_or_len (named_as x) (filter is_scalar_variable ds)
 
 abbrev pub literal_of : Option Expr → Value
 literal_of (Some (One (Lit l))) = literal_value l.what
@@ -228,14 +209,9 @@ places ds x = option_map (place_of_declared ds) (declaration ds x)
 -- ---- the model of a tree
 
 abbrev pub domain_of_literal : Option tree.Literal → Domain
-domain_of_literal None = All
-domain_of_literal (Some l) = elim l [
-  | Range lo hi ↦ Within lo hi
-  | Braces ns ↦ Among
-      (set_of ns)
-  | Number n ↦ All
-  | TruthWord b ↦ All
-]
+domain_of_literal (Some (Range lo hi)) = Within lo hi
+domain_of_literal (Some (Braces ns)) = Among (set_of ns)
+domain_of_literal _ = All
 
 abbrev pub domain_of : tree.Base → Domain
 domain_of BoolBase = All
@@ -243,20 +219,15 @@ domain_of (IntBase d) = domain_of_literal d
 domain_of (SetBase d) = domain_of_literal d
 
 abbrev pub variable_declared : Decl → Variable
-variable_declared d = record {
-  name = d.name.text;
-  kind = kind_of_base d.base;
-  domain = domain_of d.base;
-}
+variable_declared d =
+    record { name = d.name.text; kind = kind_of_base d.base; domain = domain_of d.base }
 
 abbrev pub definition_of : Places → Option Expr → Option Term
 definition_of names (Some (One b)) = Some (term_of names b)
 definition_of names _ = None
 
 abbrev pub declared_of : List Decl → Decl → Declared
-declared_of ds d =
-    cond d.is_var
-    (cond (is_scalar d)
+declared_of ds d = cond d.is_var (cond (is_scalar d)
     (ScalarVariable (variable_declared d) (definition_of (scalars ds) d.value))
     (ArrayOfVariables d.name.text (kind_of_base d.base) (domain_of d.base)
     (declared_elements ds d)))

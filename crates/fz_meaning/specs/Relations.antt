@@ -22,7 +22,7 @@ same_kind BoolKind BoolKind = true
 same_kind SetKind SetKind = true
 same_kind _ _ = false
 
--- ---- equality as a test, of each kind and of values
+-- ---- equality as a test, of each kind
 
 infix 50 ◌=ℤ◌ ◌=ᴮ◌ ◌=ˢ◌
 abbrev pub ◌=ℤ◌ : ℤ → ℤ → Bool
@@ -35,18 +35,6 @@ false =ᴮ b = not b
 -- each element of one set is in the other
 abbrev pub ◌=ˢ◌ : NumberSet → NumberSet → Bool
 a =ˢ b = sets.is_subset a b && sets.is_subset b a
-
--- values of different kinds are not equal
-abbrev pub same_value : Value → Value → Bool
-same_value (Int a) (Int b) = a =ℤ b
-same_value (Truth a) (Truth b) = a =ᴮ b
-same_value (Set a) (Set b) = a =ˢ b
-same_value _ _ = false
-
-abbrev pub same_values : List Value → List Value → Bool
-same_values [] [] = true
-same_values (v ∷ vs) (w ∷ ws) = same_value v w && same_values vs ws
-same_values _ _ = false
 
 -- the set of the listed numbers, in any order, with repeats
 abbrev pub set_of : List ℤ → NumberSet
@@ -99,6 +87,15 @@ all_different [] = true
 all_different (a ∷ as') = not (is_among a as') && all_different as'
 
 -- ---- lists
+
+abbrev pub option_cons : {A : Type 0} → Option A → Option (List A) → Option (List A)
+option_cons (Some x) (Some xs) = Some (x ∷ xs)
+option_cons _ _ = None
+
+-- all of them, where each is there
+abbrev pub all_some : {A : Type 0} → List (Option A) → Option (List A)
+all_some [] = Some []
+all_some (o ∷ os) = option_cons o (all_some os)
 
 -- each pair of elements at the same position passes
 abbrev pub all_both : {A B : Type 0} → (A → B → Bool) → List A → List B → Bool
@@ -211,8 +208,7 @@ used_at time tasks = total (map (λ k. k.1) (filter (λ k. runs_at time k.0) tas
 
 -- at no start of a task that lasts and uses something is more used than there is
 abbrev pub is_cumulative : List (Span × ℤ) → ℤ → Bool
-is_cumulative tasks most =
-    list_all (λ k. is_natural k.0.1 && is_natural k.1) tasks
+is_cumulative tasks most = list_all (λ k. is_natural k.0.1 && is_natural k.1) tasks
     && (nat_eq (length tasks) 0 || is_natural most)
     && list_all (λ k. (k.0.1 =ℤ pos 0) || (k.1 =ℤ pos 0) || int_le (used_at k.0.0 tasks) most) tasks
 
@@ -282,9 +278,7 @@ end_of_tour next (suc k) p = option_and_then (end_of_tour next k) (element_at ne
 
 -- from the first position the successors lead to all, to each once, and back to the first
 abbrev pub is_circuit : List ℤ → Bool
-is_circuit next =
-    are_places (length next) next
-    && all_different (tour next (length next) (pos 1))
+is_circuit next = are_places (length next) next && all_different (tour next (length next) (pos 1))
     && option_map_or (λ p. p =ℤ pos 1) (end_of_tour next (length next) (pos 1)) false
 
 -- the positions, from one on, that aren't their own successors
@@ -344,8 +338,7 @@ has_only s t x = sets.contains x s && not (sets.contains x t)
 -- a set with t and without s comes only after one with s and without t
 abbrev pub precedes_in_sets : ℤ → ℤ → List NumberSet → Bool
 precedes_in_sets s t [] = true
-precedes_in_sets s t (x ∷ xs) =
-    not (has_only t s x) && (has_only s t x || precedes_in_sets s t xs)
+precedes_in_sets s t (x ∷ xs) = not (has_only t s x) && (has_only s t x || precedes_in_sets s t xs)
 
 -- each is greater by at most one than the greatest so far
 abbrev pub rises_by_one : ℤ → List ℤ → Bool
@@ -364,8 +357,7 @@ index_from i (x ∷ xs) n = if x =ℤ n then Some i else index_from (i +ℤ pos 
 
 -- the index is that of the first element that no other exceeds in the order
 abbrev pub is_index_of_best : (ℤ → ℤ → Bool) → List ℤ → ℤ → ℤ → Bool
-is_index_of_best no_better xs o i =
-    list_any (λ m. list_all (λ x. no_better x m) xs
+is_index_of_best no_better xs o i = list_any (λ m. list_all (λ x. no_better x m) xs
     && option_map_or (λ j. j =ℤ i) (index_from o xs m) false) xs
 
 -- ---- sums
@@ -387,14 +379,12 @@ are_disjoint s t = sets.intersection s t =ˢ sets.empty
 
 -- all numbers between any two elements are elements
 abbrev pub is_convex : NumberSet → Bool
-is_convex s =
-    list_all (λ x. list_all (λ y. sets.is_subset (numbers_between x y) s) (sets.items s))
+is_convex s = list_all (λ x. list_all (λ y. sets.is_subset (numbers_between x y) s) (sets.items s))
     (sets.items s)
 
 -- The things differ, those in the set are some of them, and their weights sum to the number.
 abbrev pub is_weight_of : List ℤ → List ℤ → NumberSet → ℤ → Bool
-is_weight_of things weights s n =
-    all_different things && sets.is_subset s (set_of things)
+is_weight_of things weights s n = all_different things && sets.is_subset s (set_of things)
     && (n =ℤ total (map (λ p. p.1) (filter (λ p. sets.contains s p.0) (zip things weights))))
 
 abbrev pub union_of : List NumberSet → NumberSet
@@ -421,8 +411,7 @@ flags_are i (b ∷ bs) s = (b =ᴮ sets.contains s i) && flags_are (i +ℤ pos 1
 
 -- the set is that of the indices, from o on, whose Booleans are true
 abbrev pub is_flagged : NumberSet → List Bool → ℤ → Bool
-is_flagged s bs o =
-    sets.is_subset s (indices_from o (length bs)) && flags_are o bs s
+is_flagged s bs o = sets.is_subset s (indices_from o (length bs)) && flags_are o bs s
 
 -- the indices, from one on, of the elements that are the number
 abbrev pub indices_of : ℤ → List ℤ → ℤ → List ℤ
@@ -444,8 +433,7 @@ are_channelled xs xo ss so =
 -- with these indices have its own index
 abbrev pub refer_back : ℤ → List NumberSet → ℤ → List NumberSet → Bool
 refer_back i [] o ys = true
-refer_back i (s ∷ ss) o ys =
-    sets.is_subset s (indices_from o (length ys))
+refer_back i (s ∷ ss) o ys = sets.is_subset s (indices_from o (length ys))
     && list_all (λ t. sets.contains t i) (chosen o ys s)
     && refer_back (i +ℤ pos 1) ss o ys
 

@@ -4,13 +4,15 @@ use Rattle.std.specs.Prelude.{ℕ, ℤ, pos, negsuc, ◌+ℤ◌, ◌*ℤ◌, Boo
 use Rattle.std.specs.Int.{int_pow}
 use Rattle.std.specs.List.{list_all, list_any, AllByRecursion}
 use Rattle.std.specs.Option.{option_map_or}
+use Rattle.fz_base.specs.declared.value.Value.{Value}
+use Rattle.fz_base.specs.declared.value.Value.TheVariants.{Int, Bool as Truth, Set}
 use Rattle.fz_meaning.specs.declared.state.State.{State}
 use Rattle.fz_meaning.specs.declared.term.Term.{Term}
 use Rattle.fz_meaning.specs.declared.term.Domain.{Domain}
 use Rattle.fz_meaning.specs.declared.row.Wide.{Wide}
 use Rattle.fz_meaning.specs.declared.row.Wide.TheVariants.{Products, Power}
 use Rattle.fz_meaning.specs.declared.state.State.TheVariants.{Holds, Fails, NoValue, Unknown, TooLarge}
-use Rattle.fz_meaning.specs.Relations.{same_value}
+use Rattle.fz_meaning.specs.Relations.{◌=ℤ◌, ◌=ᴮ◌, ◌=ˢ◌}
 use Rattle.fz_meaning.specs.Builtins.{Row, ArgValue}
 use Rattle.fz_meaning.specs.Builtins.ArgValue.{OneValue, ManyValues}
 use Rattle.fz_meaning.specs.Meaning.{Argument, Model, Partial, Assignment, whole, value_at, IsAssignment, value, values, inside, terms_in, argument_value, argument_values, row_of, row_holds, as_int, number_at, Point, points, HoldsUnder}
@@ -96,6 +98,18 @@ both _ _ = None
 -- a scalar with a value that lies outside
 abbrev pub is_outside : Partial → Domain → Term → Bool
 is_outside K d t = option_map_or (λ v. not (inside d v)) (value K t) false
+
+-- values of different kinds are not equal
+abbrev pub same_value : Value → Value → Bool
+same_value (Int a) (Int b) = a =ℤ b
+same_value (Truth a) (Truth b) = a =ᴮ b
+same_value (Set a) (Set b) = a =ˢ b
+same_value _ _ = false
+
+abbrev pub same_values : List Value → List Value → Bool
+same_values [] [] = true
+same_values (v ∷ vs) (w ∷ ws) = same_value v w && same_values vs ws
+same_values _ _ = false
 
 -- Where an argument has no value, the constraint has none; then it is unknown or too large where a
 -- number of it can't be computed; else it holds or fails.

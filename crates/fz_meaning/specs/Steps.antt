@@ -1,6 +1,6 @@
 -- The forced step of a point: the one value that a check point leaves to a variable (this project's
 -- profile).
-use Rattle.std.specs.Prelude.{◌≡◌, ℕ, ℤ, pos, negsuc, List, [], ◌∷◌, Option, Some, option_map, IsTrue, IsFalse, IsSomeAnd, IfSome, ⊤, ◌⊎◌, ◌↔◌, flat_map, slice_get, Contains, is_none, FitsSigned}
+use Rattle.std.specs.Prelude.{◌≡◌, ℕ, ℤ, pos, negsuc, List, [], ◌∷◌, Option, Some, option_map, IsTrue, IsFalse, IsSomeAnd, IfSome, ⊤, ◌⊎◌, ◌↔◌, flat_map, slice_get, slice_set, Contains, is_none, FitsSigned}
 use Rattle.std.specs.Int.{w64}
 use Rattle.std.specs.List.{filter}
 use Rattle.fz_base.specs.declared.value.Value.{Value}
@@ -10,7 +10,7 @@ use Rattle.fz_meaning.specs.declared.kind.Kind.TheVariants.{Int as IntKind}
 use Rattle.fz_meaning.specs.Relations.{kind_of}
 use Rattle.fz_meaning.specs.Results.{Result, result_of}
 use Rattle.fz_meaning.specs.Results.Result.{NoResult, Places, UnitTerm}
-use Rattle.fz_meaning.specs.Meaning.{Argument, Model, Point, Partial, variables_of, value, give, admits, terms_in, row_of, HoldsUnder}
+use Rattle.fz_meaning.specs.Meaning.{Argument, Model, Point, Partial, variables_of, value, admits, terms_in, row_of, HoldsUnder}
 use Rattle.fz_meaning.specs.States.{is_beyond, terms_at_argument}
 use Rattle.fz_meaning.specs.declared.term.Term.{Term}
 use Rattle.fz_meaning.specs.declared.term.Domain.{Domain}
@@ -78,6 +78,10 @@ NumbersFit K (DomainPoint x n) = ⊤
 NumbersFit K (DefinitionPoint x n e) = ⊤
 NumbersFit K (ArrayPoint name d ts) = ⊤
 NumbersFit K (ConstraintPoint k p) = IfSome (row_of p) (λ r. IsFalse (is_beyond K p.arguments r))
+
+-- a partial assignment with one more value
+abbrev pub give : Partial → ℕ → Value → Partial
+give K n v = slice_set K n (Some v)
 
 -- The point gives the variable the value: the variable is its target, it is the point's only scalar
 -- without a value, each number that the step needs can be computed, and with the value, which is of

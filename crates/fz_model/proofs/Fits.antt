@@ -14,11 +14,11 @@ use Rattle.fz_builtins.specs.of_meaning.Relations.{kind_of, same_kind}
 use Rattle.fz_builtins.specs.of_meaning.Builtins.{Shape, ArgValue}
 use Rattle.fz_builtins.specs.of_meaning.Builtins.Shape.{ScalarOf, ArrayOf}
 use Rattle.fz_builtins.specs.of_meaning.Builtins.ArgValue.{OneValue, ManyValues}
-use Rattle.fz_builtins.specs.of_meaning.Meaning.{Argument, Partial, value, value_at, give, terms_in, has_shape, have_shapes}
+use Rattle.fz_builtins.specs.of_meaning.Meaning.{Argument, Partial, value, value_at, terms_in, has_shape, have_shapes}
 use Rattle.fz_builtins.specs.of_meaning.States.{terms_at_argument}
 use Rattle.fz_builtins.specs.of_meaning.Meaning.Place.{Scalar, Array}
 use Rattle.fz_builtins.specs.of_meaning.Meaning.Argument.{One, ListOf}
-use Rattle.fz_builtins.specs.of_meaning.Steps.{open_terms}
+use Rattle.fz_builtins.specs.of_meaning.Steps.{open_terms, give}
 use Rattle.fz_builtins.proofs.of_meaning.Values.{no, no', and_first, and_second, and_both}
 use Rattle.fz_builtins.proofs.of_meaning.Scope.{same_kind_is}
 use Rattle.fz_builtins.proofs.of_meaning.Steps.{is_open, term_keeps, filter-none, filter-append, append-nil, append_one, append_one_left, variable_open}

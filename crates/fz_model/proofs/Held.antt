@@ -10,11 +10,11 @@ use Rattle.fz_builtins.specs.of_meaning.Builtins.{Shape, Row}
 use Rattle.fz_builtins.specs.of_meaning.Results.{Result, result_of}
 use Rattle.fz_builtins.specs.of_meaning.Builtins.Shape.{ScalarOf, ArrayOf}
 use Rattle.fz_builtins.specs.of_meaning.Results.Result.{NoResult, Places, UnitTerm}
-use Rattle.fz_builtins.specs.of_meaning.Meaning.{Argument, Partial, value_at, give, argument_values, has_shape, have_shapes, row_holds, terms_in}
+use Rattle.fz_builtins.specs.of_meaning.Meaning.{Argument, Partial, value_at, argument_values, has_shape, have_shapes, row_holds, terms_in}
 use Rattle.fz_builtins.specs.of_meaning.States.{is_beyond, terms_at_argument}
 use Rattle.fz_builtins.specs.of_meaning.Meaning.Place.{Scalar, Array}
 use Rattle.fz_builtins.specs.of_meaning.Meaning.Argument.{One, ListOf}
-use Rattle.fz_builtins.specs.of_meaning.Steps.{IsResult, open_terms}
+use Rattle.fz_builtins.specs.of_meaning.Steps.{IsResult, open_terms, give}
 use Rattle.fz_builtins.proofs.of_meaning.Values.{no, no', and_first, and_second}
 use Rattle.fz_builtins.proofs.of_meaning.States.{intro}
 use Rattle.fz_builtins.proofs.of_meaning.Steps.{is_open, some_of, only_open_none, variable_open}

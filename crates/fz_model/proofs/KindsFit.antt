@@ -11,9 +11,9 @@ use Rattle.fz_builtins.specs.of_meaning.Relations.{kind_of, same_kind}
 use Rattle.fz_builtins.specs.of_meaning.Builtins.{Row, Shape}
 use Rattle.fz_builtins.specs.of_meaning.Results.{Result, result_of}
 use Rattle.fz_builtins.specs.of_meaning.Results.Result.{NoResult, Places, UnitTerm}
-use Rattle.fz_builtins.specs.of_meaning.Meaning.{Argument, FitVariables, IsPartial, Model, Partial, Posted, Variable, give, has_shape, have_shapes, row_of, terms_in, value_at, variables_of}
+use Rattle.fz_builtins.specs.of_meaning.Meaning.{Argument, FitVariables, IsPartial, Model, Partial, Posted, Variable, has_shape, have_shapes, row_of, terms_in, value_at, variables_of}
 use Rattle.fz_builtins.specs.of_meaning.States.{terms_at_argument}
-use Rattle.fz_builtins.specs.of_meaning.Steps.{IsResult, kind_at, open_terms}
+use Rattle.fz_builtins.specs.of_meaning.Steps.{IsResult, kind_at, open_terms, give}
 use Rattle.fz_builtins.proofs.of_meaning.Lists.{all_append, all_map, at_place}
 use Rattle.fz_builtins.proofs.of_meaning.Steps.{is_open, only_open_none}
 use Rattle.fz_builtins.proofs.of_meaning.Values.{no, and_first, and_second, and_both}

@@ -9,10 +9,10 @@ use Rattle.fz_builtins.specs.of_meaning.Builtins.{Shape, Row}
 use Rattle.fz_builtins.specs.of_meaning.Results.{result_of}
 use Rattle.fz_builtins.specs.of_meaning.Builtins.Shape.{ScalarOf, ArrayOf}
 use Rattle.fz_builtins.specs.of_meaning.Meaning as meaning
-use Rattle.fz_builtins.specs.of_meaning.Meaning.{Model, Partial, Posted, IsPartial, argument_values, give, value_at, has_shape, have_shapes, is_term_of, row_holds, row_of, terms_in}
+use Rattle.fz_builtins.specs.of_meaning.Meaning.{Model, Partial, Posted, IsPartial, argument_values, value_at, has_shape, have_shapes, is_term_of, row_holds, row_of, terms_in}
 use Rattle.fz_builtins.specs.of_meaning.States.{is_beyond}
 use Rattle.fz_builtins.specs.of_meaning.Meaning.Point.{ConstraintPoint}
-use Rattle.fz_builtins.specs.of_meaning.Steps.{Gives, IsResult, kind_at}
+use Rattle.fz_builtins.specs.of_meaning.Steps.{Gives, IsResult, kind_at, give}
 use Rattle.fz_builtins.proofs.of_meaning.Values.{no, and_first, and_second}
 use Rattle.fz_builtins.proofs.of_meaning.States.{intro}
 use Rattle.fz_builtins.specs.of_data.declared.parts.Array.{Array}

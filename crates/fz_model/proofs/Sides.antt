@@ -3,7 +3,8 @@ use Rattle.std.proofs.Common.{◌⊎◌, length, ◌<◌, ◌≡◌, ℕ, ℤ, p
 use Rattle.std.specs.Prelude.{int_le}
 use Rattle.std.proofs.lemmas.Int.{ints}
 use Rattle.std.proofs.lemmas.Option.{same_Some}
-use Rattle.fz_base.specs.Sets.{NumberSet, IsOnly}
+use Rattle.fz_base.specs.Sets.{NumberSet}
+use Rattle.fz_base.specs.Elements.{IsOnly}
 use Rattle.fz_base.specs.declared.value.Value.{Value}
 use Rattle.fz_base.specs.declared.value.Value.TheVariants.{Int}
 use Rattle.fz_builtins.specs.of_meaning.Relations.{kind_of}
@@ -11,9 +12,9 @@ use Rattle.fz_builtins.specs.of_meaning.declared.kind.Kind.TheVariants.{Int as I
 use Rattle.fz_builtins.specs.of_meaning.declared.term.Term.{Term}
 use Rattle.fz_builtins.specs.of_meaning.declared.term.Term.TheVariants.{Var}
 use Rattle.fz_builtins.specs.of_meaning.declared.term.Domain.TheVariants.{All, Within, Among}
-use Rattle.fz_builtins.specs.of_meaning.Meaning.{Variable, Model, Partial, IsPartial, HoldsUnder, inside, value, value_at, give}
+use Rattle.fz_builtins.specs.of_meaning.Meaning.{Variable, Model, Partial, IsPartial, HoldsUnder, inside, value, value_at}
 use Rattle.fz_builtins.specs.of_meaning.Meaning.Point.{DomainPoint, DefinitionPoint}
-use Rattle.fz_builtins.specs.of_meaning.Steps.{Gives, HasOneNumber, kind_at, open_terms}
+use Rattle.fz_builtins.specs.of_meaning.Steps.{Gives, HasOneNumber, kind_at, open_terms, give}
 use Rattle.fz_builtins.proofs.of_meaning.States.{intro}
 use Rattle.fz_builtins.proofs.of_meaning.Steps.{term_keeps, value_at_given, definition_sides}
 use Rattle.fz_model.specs.Forced.{IsForced, IsFitting, IsOnlyNumber}

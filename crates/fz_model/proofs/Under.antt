@@ -9,14 +9,14 @@ use Rattle.fz_builtins.specs.of_meaning.declared.term.Term.{Term}
 use Rattle.fz_builtins.specs.of_meaning.declared.term.Term.TheVariants.{Var, Fixed}
 use Rattle.fz_builtins.specs.of_meaning.declared.term.Domain.{Domain}
 use Rattle.fz_builtins.specs.of_meaning.declared.kind.Kind.{Kind}
-use Rattle.fz_builtins.specs.of_meaning.Relations.{kind_of, same_value}
+use Rattle.fz_builtins.specs.of_meaning.Relations.{kind_of, option_cons}
 use Rattle.fz_builtins.specs.of_meaning.Builtins.{ArgValue}
 use Rattle.fz_builtins.specs.of_meaning.Builtins.ArgValue.{OneValue, ManyValues}
-use Rattle.fz_builtins.specs.of_meaning.Meaning.{Argument, Assignment, FitVariables, Partial, Variable, Point, argument_value, argument_values, inside, option_cons, row_holds, row_of, terms_in, value, value_at, values, whole}
+use Rattle.fz_builtins.specs.of_meaning.Meaning.{Argument, Assignment, FitVariables, Partial, Variable, Point, argument_value, argument_values, inside, row_holds, row_of, terms_in, value, value_at, values, whole}
 use Rattle.fz_builtins.specs.of_meaning.Meaning.Place.{Scalar, Array}
 use Rattle.fz_builtins.specs.of_meaning.Meaning.Argument.{One, ListOf}
 use Rattle.fz_builtins.specs.of_meaning.Meaning.Point.{DomainPoint, DefinitionPoint, ArrayPoint, ConstraintPoint}
-use Rattle.fz_builtins.specs.of_meaning.States.{HoldsIfKnown, both, is_outside, judged_by, state, state_of_row}
+use Rattle.fz_builtins.specs.of_meaning.States.{HoldsIfKnown, both, is_outside, judged_by, state, state_of_row, same_value}
 use Rattle.fz_builtins.proofs.of_meaning.Powers.{fails_computed, none_unknown, same_unknown, unknown_by}
 use Rattle.fz_builtins.proofs.of_meaning.States.{both_some, judged_fails, row_state_fails}
 use Rattle.fz_builtins.proofs.of_meaning.Steps.{map_some, option_cons_parts, some_of}

@@ -13,9 +13,9 @@ use Rattle.fz_builtins.specs.of_meaning.Results.{result_of}
 use Rattle.fz_builtins.specs.of_meaning.Builtins.Shape.{ScalarOf, ArrayOf}
 use Rattle.fz_builtins.specs.of_meaning.Builtins.ArgValue.{ManyValues}
 use Rattle.fz_builtins.specs.of_meaning.Results.Result.{UnitTerm}
-use Rattle.fz_builtins.specs.of_meaning.Meaning.{Argument, Partial, value, value_at, give, row_holds, terms_in}
+use Rattle.fz_builtins.specs.of_meaning.Meaning.{Argument, Partial, value, value_at, row_holds, terms_in}
 use Rattle.fz_builtins.specs.of_meaning.States.{is_beyond, terms_at_argument}
-use Rattle.fz_builtins.specs.of_meaning.Steps.{IsResult, open_terms}
+use Rattle.fz_builtins.specs.of_meaning.Steps.{IsResult, open_terms, give}
 use Rattle.fz_builtins.proofs.of_meaning.States.{intro}
 use Rattle.fz_builtins.proofs.of_meaning.Steps.{is_open, term_keeps, some_of, as_number_of}
 use Rattle.fz_builtins.specs.of_meaning.declared.builtin.Builtin.TheVariants.{IntLinEq}

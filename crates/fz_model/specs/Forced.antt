@@ -7,9 +7,9 @@ use Rattle.fz_builtins.specs.of_meaning.declared.term.Domain.{Domain}
 use Rattle.fz_builtins.specs.of_meaning.Builtins.{Row}
 use Rattle.fz_builtins.specs.of_meaning.Results.{result_of}
 use Rattle.fz_builtins.specs.of_meaning.declared.term.Term.TheVariants.{Var}
-use Rattle.fz_builtins.specs.of_meaning.Meaning.{Argument, Model, Point, Partial, Posted, admits, argument_values, give, have_shapes, row_holds, row_of, terms_in}
+use Rattle.fz_builtins.specs.of_meaning.Meaning.{Argument, Model, Point, Partial, Posted, admits, argument_values, have_shapes, row_holds, row_of, terms_in}
 use Rattle.fz_builtins.specs.of_meaning.States.{is_beyond, terms_at_argument}
-use Rattle.fz_builtins.specs.of_meaning.Steps.{Gives, GivesNothing, HasOneNumber, IsResult, WithinLimits, kind_at, open_terms}
+use Rattle.fz_builtins.specs.of_meaning.Steps.{Gives, GivesNothing, HasOneNumber, IsResult, WithinLimits, kind_at, open_terms, give}
 use Rattle.fz_model.specs.Aimed.{GivesAny, GivesNone}
 use Rattle.fz_model.specs.declared.only.Spot.{Spot}
 use Rattle.fz_model.specs.KindsFit.{each_fits}

@@ -1,16 +1,17 @@
 -- The table of names: what is looked up there, and what one more name leaves as it is.
-use Rattle.std.proofs.Common.{◌≡◌, ℕ, suc, zero, ◌<◌, List, [], ◌∷◌, ◌++◌, map, length, Option, None, Some, IfSome, Bor, ltb, get_or, option_map, slice_get, cond, if◌then◌else◌, ◌||◌, Bool, true, false, refl, sym, ap, ◌∙◌, subst, is_some, is_none, arith, Result, Ok, Err}
+use Rattle.std.proofs.Common.{◌≡◌, ℕ, suc, zero, ◌<◌, List, [], ◌∷◌, ◌++◌, map, length, Option, None, Some, IfSome, Bor, ltb, get_or, option_map, slice_get, cond, if◌then◌else◌, true, false, refl, sym, ap, ◌∙◌, subst, is_some, is_none, arith, Result, Ok, Err}
 use Rattle.std.specs.Result.{OnOk, OnErr}
 use Rattle.std.specs.List.{AllByRecursion, IsDistinct, find, list_any}
 use Rattle.std.specs.Option.{option_map_or}
 use Rattle.std.specs.Map.{lookup}
 use Rattle.std.proofs.lemmas.List.{map-append, length-append}
 use Rattle.std.proofs.lemmas.Slice.Eq.{bytes_eq-Decides}
-use Rattle.std.proofs.lemmas.Bool.{ltb-false, ltb-true}
+use Rattle.std.proofs.lemmas.Bool.Decides.{nat_tests}
+use Rattle.std.proofs.lemmas.Cmp.{nat_list_eq_equiv}
 use Rattle.std.proofs.lemmas.Option.{slice_get_past, slice_get_read}
 use Rattle.indexmap.specs.IndexSet.{insert_key}
 use Rattle.fz_meaning.proofs.Points.{slice_get_at}
-use Rattle.fz_meaning.proofs.Lists.{all_append}
+use Rattle.fz_meaning.proofs.Lists.{all_append, all_map}
 use Rattle.fz_meaning.specs.declared.term.Term.{Term}
 use Rattle.fz_names.specs.declared.names.Entry.{Entry}
 use Rattle.fz_names.specs.declared.names.Kept.{Kept}
@@ -23,13 +24,7 @@ pub looked_up : (ts : List Term) (x : List ℕ) (ks : List Kept)
     → lookup (has_text x) (map (entry_stands ts) ks)
     ≡ option_map (λ k. stands_for ts k.entry) (find (is_key x) ks)
 looked_up ts x [] = refl
-looked_up ts x (k ∷ ks) = ap (λ o. cond (is_key x k) (Some (stands_for ts k.entry)) o) (looked_up ts x ks) ∙ at_first (is_key x k) (find (is_key x) ks)
-  where
-    at_first : (b : Bool) (o : Option Kept) → cond b (Some (stands_for ts k.entry))
-        (option_map (λ j. stands_for ts j.entry) o)
-        ≡ option_map (λ j. stands_for ts j.entry) (cond b (Some k) o)
-    at_first true o = refl
-    at_first false o = refl
+looked_up ts x (k ∷ ks) = grind (arith, looked_up ts x ks)
 
 -- an entry that is found is among the terms
 pub found_among : (ts : List Term) (x : List ℕ) (ks : List Kept) (k : Kept)
@@ -45,10 +40,9 @@ found_among ts x (y ∷ ks) k h is =
 pub key_passes : (x : List ℕ) (ks : List Kept) (k : Kept) → Some k ≡ find (is_key x) ks
     → k.bytes.now ≡ x
 key_passes x [] k e = cc
-key_passes x (y ∷ ks) k e = (elim (is_key x y) as (λ b. is_key x y ≡ b → Some k ≡ cond b (Some y) (find (is_key x) ks) → k.bytes.now ≡ x) [
-  | true ↦ λ passes e. let same : k ≡ y = cc in ap (λ (w : Kept). w.bytes.now) same ∙ sym ((bytes_eq-Decides x y.bytes.now).0 passes)
-  | false ↦ λ _ later. key_passes x ks k later
-]) refl e
+key_passes x (y ∷ ks) k e =
+    let text = (bytes_eq-Decides x y.bytes.now).0 in
+    grind (arith, key_passes x ks k)
 
 -- ---- one more
 
@@ -57,10 +51,7 @@ pub new_key : (ts : List Term) (x : List ℕ) (ks : List Kept)
     → is_none (lookup (has_text x) (map (entry_stands ts) ks)) ≡ true
     → list_any (is_key x) ks ≡ false
 new_key ts x [] e = refl
-new_key ts x (k ∷ ks) e = (elim (is_key x k) as (λ b. is_none (cond b (Some (stands_for ts k.entry)) (lookup (has_text x) (map (entry_stands ts) ks))) ≡ true → (b || list_any (is_key x) ks) ≡ false) [
-  | true ↦ λ no. cc
-  | false ↦ λ later. new_key ts x ks later
-]) e
+new_key ts x (k ∷ ks) e = grind (arith, new_key ts x ks)
 
 -- what was found among the terms is found there where one more comes
 pub get_front : {A : Type 0} (xs ys : List A) (i : ℕ) → i < length xs
@@ -71,57 +62,44 @@ get_front (x ∷ xs) ys (suc i) lt = get_front xs ys i (omega arith)
 
 pub among_more : (ts us : List Term) (es : List Kept) → AllByRecursion (is_among_terms ts) es
     → AllByRecursion (is_among_terms (ts ++ us)) es
-among_more ts us [] h = tt
-among_more ts us (e ∷ es) h = (one e.entry h.0, among_more ts us es h.1)
+among_more ts us es = all_map (is_among_terms ts) (is_among_terms (ts ++ us)) (λ k. one k.entry) es
   where
-    longer : (n i : ℕ) → i < length ts → i < length (ts ++ us)
-    longer n i lt = omega (arith, length-append ts us)
-
     one : (e : Entry) → IsAmongTerms ts e → IsAmongTerms (ts ++ us) e
-    one (entries.Variable n) h = tt
-    one (entries.Parameter i) h = longer i i h
-    one (entries.Array i) h = tt
-
-stands_same : (ts us : List Term) (e : Entry) → IsAmongTerms ts e
-    → stands_for (ts ++ us) e ≡ stands_for ts e
-stands_same ts us (entries.Parameter i) h = ap (λ o. Declared.Scalar (option_map_or (λ t. t) o no_term)) (get_front ts us i h)
-stands_same ts us _ h = refl
+    one (entries.Parameter i) h = omega (arith, length-append ts us)
+    one _ h = tt
 
 pub all_stand_same : (ts us : List Term) (es : List Kept) → AllByRecursion (is_among_terms ts) es
     → map (entry_stands (ts ++ us)) es ≡ map (entry_stands ts) es
 all_stand_same ts us [] h = refl
-all_stand_same ts us (e ∷ es) h = λ i. (e.bytes.now, stands_same ts us e.entry h.0 i) ∷ all_stand_same ts us es h.1 i
+all_stand_same ts us (e ∷ es) h = λ i. (e.bytes.now, one e.entry h.0 i) ∷ all_stand_same ts us es h.1 i
+  where
+    one : (e : Entry) → IsAmongTerms ts e → stands_for (ts ++ us) e ≡ stands_for ts e
+    one (entries.Parameter i) h = ap (λ o. Declared.Scalar (option_map_or (λ t. t) o no_term)) (get_front ts us i h)
+    one _ h = refl
 
 -- ---- one more name
 
 -- what is read at an index
 pub got : (ks : List Kept) (i : ℕ) (r : Option (Bor Kept)) → is_some r ≡ ltb i (length ks)
     → IfSome r (λ x. x.now ≡ get_or ks i x.now) → option_map (λ x. x.now) r ≡ slice_get ks i
-got ks i None there is = sym (slice_get_past ks i (ltb-false i (length ks) (sym there)))
-got ks i (Some x) there is = sym (slice_get_read ks (length ks) i x.now refl (ltb-true i (length ks) (sym there)) is)
+got ks i None there is = grind (arith, nat_tests, slice_get_past {X = Kept})
+got ks i (Some x) there is = grind (arith, nat_tests, slice_get_read {X = Kept})
 
 -- keys stay distinct where a new one is added
 pub distinct_pushed : (ks : List Kept) (k : Kept) → IsDistinct same_key ks
     → list_any (is_key k.bytes.now) ks ≡ false → IsDistinct same_key (ks ++ k ∷ [])
 unfolding IsDistinct
 distinct_pushed [] k h absent = (tt, tt)
-distinct_pushed (y ∷ ks) k h absent = (all_append (λ z. same_key y z ≡ false) ks (k ∷ []) h.0 (apart (is_key k.bytes.now y) refl absent, tt), distinct_pushed ks k h.1 (later (is_key k.bytes.now y) absent))
+distinct_pushed (y ∷ ks) k h absent = (all_append (λ z. same_key y z ≡ false) ks (k ∷ []) h.0 (apart, tt), distinct_pushed ks k h.1 later)
   where
-    later : (b : Bool) → (b || list_any (is_key k.bytes.now) ks) ≡ false
-        → list_any (is_key k.bytes.now) ks ≡ false
-    later true e = cc
-    later false e = e
+    later : list_any (is_key k.bytes.now) ks ≡ false
+    later = grind arith
 
-    turned : (b : Bool) → same_key y k ≡ b → is_key k.bytes.now y ≡ false → b ≡ false
-    turned false e other = refl
-    turned true e other =
-        let text = (bytes_eq-Decides y.bytes.now k.bytes.now).0 e in
-        sym ((bytes_eq-Decides k.bytes.now y.bytes.now).1 (sym text)) ∙ other
+    other : is_key k.bytes.now y ≡ false
+    other = grind arith
 
-    apart : (b : Bool) → is_key k.bytes.now y ≡ b → (b || list_any (is_key k.bytes.now) ks) ≡ false
-        → same_key y k ≡ false
-    apart true e absent = cc
-    apart false e absent = turned (same_key y k) refl e
+    apart : same_key y k ≡ false
+    apart = nat_list_eq_equiv.symm y.bytes.now k.bytes.now ∙ other
 
 -- a new key is appended
 pub goes_last : (ks : List Kept) (k : Kept) → list_any (same_key k) ks ≡ false

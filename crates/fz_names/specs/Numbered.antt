@@ -6,6 +6,7 @@ use Rattle.fz_names.specs.declared.names.Entry.{Entry}
 use Rattle.fz_names.specs.declared.names.Entry.TheVariants as entries
 use Rattle.fz_names.specs.declared.names.Kept.{Kept}
 use Rattle.fz_names.specs.Names.{is_key}
+use Rattle.fz_names.specs.declared.numbered.Numbered.{Numbered}
 use Rattle.fz_names.specs.declared.numbered.Shape.{Shape}
 use Rattle.fz_names.specs.declared.numbered.Sort.{Sort}
 use Rattle.fz_names.specs.declared.numbered.Sort.TheVariants as sorts
@@ -158,14 +159,14 @@ IsAmongOthers ks os x = find (is_key x) os ≡ find (is_key x) ks
 
 -- where a name is found, by the cell of its number: nowhere, where that is free; in the list, where
 -- the name has the shape in the cell; else among the others
-abbrev pub StandsAt : List Kept → List Kept → List Shape → List ℕ → List ℕ → Option Place → Type 0
-StandsAt ks os ss js x None = IsAmongOthers ks os x
-StandsAt ks os ss js x (Some Free) = (find (is_key x) ks ≡ None) × (find (is_key x) os ≡ None)
-StandsAt ks os ss js x (Some (Taken s k n)) =
-    (t : Shape) × (slice_get ss k ≡ Some t) × (is_of t x ≡ true → IsListed ks js x (entry_of s n))
+abbrev pub StandsAt : List Kept → List Kept → Numbered → List ℕ → Option Place → Type 0
+StandsAt ks os n x None = IsAmongOthers ks os x
+StandsAt ks os n x (Some Free) = IsAmongOthers ks os x × (find (is_key x) ks ≡ None)
+StandsAt ks os n x (Some (Taken s k i)) = (t : Shape) × (slice_get n.shapes.items k ≡ Some t)
+    × (is_of t x ≡ true → IsListed ks n.seats.items x (entry_of s i))
     × (is_of t x ≡ false → IsAmongOthers ks os x)
-StandsAt ks os ss js x (Some Crowded) = IsAmongOthers ks os x
+StandsAt ks os n x (Some Crowded) = IsAmongOthers ks os x
 
 -- each listed name is found by its shape, cell and index, or among the others
-abbrev pub IsNumbered : List Kept → List Kept → List Shape → List ℕ → List ℕ → Type 0
-IsNumbered ks os ss ps js = (x : List ℕ) → StandsAt ks os ss js x (place_at ps (number_of x))
+abbrev pub IsNumbered : List Kept → List Kept → Numbered → Type 0
+IsNumbered ks os n = (x : List ℕ) → StandsAt ks os n x (place_at n.places.items (number_of x))

@@ -150,8 +150,7 @@ impl<'a> std::marker::Model for Names<'a> {
     ghost view = { names_view };
 
     ghost invariant = { λ n. AreAmongTerms n × IsDistinct same_key n.listed.items
-        × IsNumbered n.listed.items n.others.keys n.numbered.shapes.items n.numbered.places.items
-        n.numbered.seats.items };
+        × IsNumbered n.listed.items n.others.keys n.numbered };
 }
 
 /// What an entry stands for. The parameters' values are these.
@@ -177,14 +176,12 @@ fn put<'a>(
 ) -> Result<(), AllocError>
     requires new { list_any (is_key name.now) listed.old.items ≡ false }
     requires distinct { IsDistinct same_key listed.old.items }
-    requires numbered { IsNumbered listed.old.items others.old.keys numbered.old.shapes.items
-        numbered.old.places.items numbered.old.seats.items }
+    requires numbered { IsNumbered listed.old.items others.old.keys numbered.old }
     ensures pushed { OnOk result (listed.new.items ≡ listed.old.items
         ++ record { bytes = name.entry; entry = entry } ∷ []) }
     ensures unchanged { OnErr result (listed.new.items ≡ listed.old.items) }
     ensures distinct { IsDistinct same_key listed.new.items }
-    ensures numbered { IsNumbered listed.new.items others.new.keys numbered.new.shapes.items
-        numbered.new.places.items numbered.new.seats.items }
+    ensures numbered { IsNumbered listed.new.items others.new.keys numbered.new }
 {
     listed.reserve(1)?;
     let kept = Kept { bytes: name, entry };
@@ -211,8 +208,7 @@ fn found<'t, 'a>(
     numbered: &Numbered<'a>,
     name: &[u8],
 ) -> Option<&'t Kept<'a>>
-    requires numbered { IsNumbered listed.now others.now.keys numbered.now.shapes.items
-        numbered.now.places.items numbered.now.seats.items }
+    requires numbered { IsNumbered listed.now others.now.keys numbered.now }
     ensures { option_map (λ k. k.now) result ≡ find (is_key name.now) listed.now }
 {
     match numbered.seat(name) {

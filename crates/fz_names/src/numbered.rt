@@ -301,36 +301,6 @@ impl<'a> Numbered<'a> {
         matches!(unpacked(*place), Place::Free)
     }
 
-    /// Gives a name the free cell of its number, and tells whether it fits in.
-    fn take(&mut self, name: &'a [u8], ending: &Ending, entry: Entry, seat: usize) -> bool
-        requires marks { ending.now.marks ≡ marks_of name.now }
-        requires free { place_at self.old.places.items ending.now.number ≡ Some Free }
-        ensures places { (i : ℕ) → i ≢ ending.now.number
-            → slice_get self.new.places.items i ≡ slice_get self.old.places.items i }
-        ensures seats { (i : ℕ) → i ≢ ending.now.number
-            → slice_get self.new.seats.items i ≡ slice_get self.old.seats.items i }
-        ensures kept { AreKept self.old.shapes.items self.new.shapes.items }
-        ensures taken { IsTrue result → IsTakenBy self.new.shapes.items name.now entry
-            (place_at self.new.places.items ending.now.number) }
-        ensures seat { IsTrue result → slice_get self.new.seats.items ending.now.number
-            ≡ Some seat }
-        ensures crowded { IsFalse result
-            → place_at self.new.places.items ending.now.number ≡ Some Crowded }
-        ensures no_seat { IsFalse result → self.new.seats.items ≡ self.old.seats.items }
-    {
-        let place = if ending.number < self.seats.len() {
-            place_of(&mut self.shapes, name, ending, entry)
-        } else {
-            CROWDED
-        };
-        self.places[ending.number] = place;
-        let Place::Taken(..) = unpacked(place) else {
-            return false;
-        };
-        self.seats[ending.number] = seat;
-        true
-    }
-
     /// Gives a name the cell of its number, where there is one and it is free, and tells whether it
     /// got it. The seat is the name's index in the list of all declared names.
     pub(crate) fn note(&mut self, name: &'a [u8], entry: Entry, seat: usize) -> bool
@@ -353,6 +323,16 @@ impl<'a> Numbered<'a> {
         if !self.is_free_at(ending.number) {
             return false;
         }
-        self.take(name, &ending, entry, seat)
+        let place = if ending.number < self.seats.len() {
+            place_of(&mut self.shapes, name, &ending, entry)
+        } else {
+            CROWDED
+        };
+        self.places[ending.number] = place;
+        let Place::Taken(..) = unpacked(place) else {
+            return false;
+        };
+        self.seats[ending.number] = seat;
+        true
     }
 }

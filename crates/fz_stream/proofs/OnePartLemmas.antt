@@ -11,7 +11,7 @@ use Rattle.fz_stream.specs.declared.line.LineKind.{LineKind}
 use Rattle.fz_stream.specs.declared.line.LineKind.TheVariants.{Blank, Comment, Marker, Claim}
 use Rattle.fz_stream.specs.declared.step.Step.{Step}
 use Rattle.fz_stream.specs.declared.step.Step.TheVariants.{GoesOn, EndsBlock, Claims, Breaks}
-use Rattle.fz_stream.specs.Parts.{Line, lines_of, joined, kind_of, IsFiller, IsFillerKind, IsInner, IsInnerKind, SolutionBlock, StreamPart, BlockPart, ClaimPart, Frame, BlockFrame, ClaimFrame, frame_of, IsBlockText, HasItems, AreBlockLines, Closes, AreLinesOfFrame, AreLinesOf, Covers, IsFramed, IsStreamTextWithin}
+use Rattle.fz_stream.specs.Parts.{Line, lines_of, joined, kind_of, IsFiller, IsFillerKind, IsInner, IsInnerKind, StreamPart, BlockPart, ClaimPart, Frame, BlockFrame, ClaimFrame, frame_of, IsBlockText, HasItems, AreBlockLines, Closes, AreLinesOfFrame, AreLinesOf, Covers, IsFramed, IsStreamTextWithin}
 use Rattle.fz_stream.specs.Broken.{CannotFollow, BreaksText, BreaksAfter}
 use Rattle.fz_stream.specs.Step.{step_of}
 use Rattle.fz_stream.proofs.PartLemmas.{two_parts}
@@ -78,11 +78,9 @@ over_closing : (at start : ℕ) (body : List Line) (line : Line) (rest : List Li
     ≡ Some frame ∷ cut (at + length line) None [] rest
 over_closing at start [] line rest (BlockFrame offset text) place c =
     let here : at ≡ offset = omega (arith, place, c.1) in
-    ap (λ k. after (step_of None at k) (λ b t. cut (at + length line) b t rest) [] line) c.0 ∙ ap (λ (n : ℕ). Some (BlockFrame n []) ∷ cut (at + length line) None [] rest) here
-    ∙ ap (λ (t : List ℕ). Some (BlockFrame offset t) ∷ cut (at + length line) None [] rest) (sym c.2)
+    ap (λ k. after (step_of None at k) (λ b t. cut (at + length line) b t rest) [] line) c.0 ∙ (λ i. Some (BlockFrame (here i) (sym c.2 i)) ∷ cut (at + length line) None [] rest)
 over_closing at start (x ∷ body) line rest (BlockFrame offset text) place c =
-    ap (λ k. after (step_of (Some start) at k) (λ b t. cut (at + length line) b t rest) (x ++ joined body) line) c.0 ∙ ap (λ (n : ℕ). Some (BlockFrame n (x ++ joined body)) ∷ cut (at + length line) None [] rest) (sym c.1)
-    ∙ ap (λ (t : List ℕ). Some (BlockFrame offset t) ∷ cut (at + length line) None [] rest) (sym c.2)
+    ap (λ k. after (step_of (Some start) at k) (λ b t. cut (at + length line) b t rest) (x ++ joined body) line) c.0 ∙ (λ i. Some (BlockFrame (sym c.1 i) (sym c.2 i)) ∷ cut (at + length line) None [] rest)
 over_closing at start [] line rest (ClaimFrame kind) place c = ap (λ k. after (step_of None at k) (λ b t. cut (at + length line) b t rest) [] line) c.0
 over_closing at start (x ∷ body) line rest (ClaimFrame kind) place c = absurd (let no : x ∷ body ≡ [] = c.1 in cc)
 
@@ -126,15 +124,11 @@ cut_whole bytes frames f =
 
 somes_once : (fs gs : List Frame) → somes fs ≡ somes gs → fs ≡ gs
 somes_once [] [] e = refl
-somes_once [] (g ∷ gs) e = absurd (let no : [] ≡ Some g ∷ somes gs = e in cc)
-somes_once (f ∷ fs) [] e = absurd (let no : Some f ∷ somes fs ≡ [] = e in cc)
 somes_once (f ∷ fs) (g ∷ gs) e =
     let here : f ≡ g = cc in
     let more : somes fs ≡ somes gs = cc in
-    ap (λ x. x ∷ fs) here ∙ ap (λ l. g ∷ l) (somes_once fs gs more)
-
-abbrev block_from : ℕ → List ℕ → List Printed → SolutionBlock
-block_from o t i = record { offset = o; text = t; items = i }
+    λ i. here i ∷ somes_once fs gs more i
+somes_once _ _ e = cc
 
 same_part : (a b : Limits) (part other : StreamPart) → HasItems a part → HasItems b other
     → frame_of other ≡ frame_of part → other ≡ part
@@ -142,20 +136,18 @@ same_part l m (BlockPart b) (BlockPart c) h g e =
     let offsets : c.offset ≡ b.offset = cc in
     let texts : c.text ≡ b.text = cc in
     let items : c.items ≡ b.items = one_list_of_items m l b.text c.items b.items (subst (λ t. IsTextOfItemsWithin m t c.items) texts g.0) h.0 in
-    ap BlockPart (ap (λ (o : ℕ). block_from o c.text c.items) offsets ∙ ap (λ (t : List ℕ). block_from b.offset t c.items) texts ∙ ap (λ (i : List Printed). block_from b.offset b.text i) items)
-same_part l m (BlockPart b) (ClaimPart d) h g e = absurd (let no : ClaimFrame d ≡ BlockFrame b.offset b.text = e in cc)
-same_part l m (ClaimPart c) (BlockPart b) h g e = absurd (let no : BlockFrame b.offset b.text ≡ ClaimFrame c = e in cc)
+    λ i. BlockPart (record { offset = offsets i; text = texts i; items = items i })
 same_part l m (ClaimPart c) (ClaimPart d) h g e = (let inside : d ≡ c = cc in ap ClaimPart inside)
+same_part l m _ _ h g e = cc
 
 same_parts : (a b : Limits) (parts others : List StreamPart)
     → AllByRecursion (HasItems a) parts → AllByRecursion (HasItems b) others → map frame_of others ≡ map frame_of parts → others ≡ parts
 same_parts l m [] [] h g e = refl
-same_parts l m [] (q ∷ others) h g e = absurd (let no : frame_of q ∷ map frame_of others ≡ [] = e in cc)
-same_parts l m (p ∷ parts) [] h g e = absurd (let no : [] ≡ frame_of p ∷ map frame_of parts = e in cc)
 same_parts l m (p ∷ parts) (q ∷ others) h g e =
     let here : frame_of q ≡ frame_of p = cc in
     let more : map frame_of others ≡ map frame_of parts = cc in
-    ap (λ x. x ∷ others) (same_part l m p q h.0 g.0 here) ∙ ap (λ l. p ∷ l) (same_parts l m parts others h.1 g.1 more)
+    λ i. same_part l m p q h.0 g.0 here i ∷ same_parts l m parts others h.1 g.1 more i
+same_parts l m _ _ h g e = cc
 
 -- a stream's bytes are a text of one list of parts
 pub parts_once : (a b : Limits) (bytes : List ℕ) (parts others : List StreamPart)
@@ -164,22 +156,21 @@ parts_once a b bytes parts others t u =
     same_parts a b parts others t.items u.items (somes_once (map frame_of others) (map frame_of parts) (sym (cut_whole bytes (map frame_of others) u.framed) ∙ cut_whole bytes (map frame_of parts) t.framed))
 
 no_none : (fs : List Frame) (xs more : List (Option Frame)) → somes fs ≡ xs ++ None ∷ more → ⊥
-no_none [] [] more e = (let no : [] ≡ None ∷ more = e in cc)
-no_none [] (x ∷ xs) more e = (let no : [] ≡ x ∷ (xs ++ None ∷ more) = e in cc)
-no_none (f ∷ fs) [] more e = (let no : Some f ≡ None = cc in cc)
 no_none (f ∷ fs) (x ∷ xs) more e = no_none fs xs more (let rest : somes fs ≡ xs ++ None ∷ more = cc in rest)
+no_none (f ∷ fs) [] more e = (let no : Some f ≡ None = cc in cc)
+no_none [] (x ∷ xs) more e = cc e
+no_none [] [] more e = cc e
 
 -- a block among the parts has items
 items_of : (limits : Limits) (parts : List StreamPart) (xs more : List (Option Frame)) (offset : ℕ) (text : List ℕ)
     → AllByRecursion (HasItems limits) parts
     → somes (map frame_of parts) ≡ xs ++ Some (BlockFrame offset text) ∷ more
     → (items : List Printed) × IsBlockText limits text items
-items_of limits [] [] more offset text h e = absurd (let no : [] ≡ Some (BlockFrame offset text) ∷ more = e in cc)
-items_of limits [] (x ∷ xs) more offset text h e = absurd (let no : [] ≡ x ∷ (xs ++ Some (BlockFrame offset text) ∷ more) = e in cc)
 items_of limits (BlockPart b ∷ parts) [] more offset text h e = (let texts : b.text ≡ text = cc in (b.items, subst (λ t. IsBlockText limits t b.items) texts h.0))
-items_of limits (ClaimPart c ∷ parts) [] more offset text h e = absurd (let no : ClaimFrame c ≡ BlockFrame offset text = cc in cc)
 items_of limits (p ∷ parts) (x ∷ xs) more offset text h e =
     items_of limits parts xs more offset text h.1 (let rest : somes (map frame_of parts) ≡ xs ++ Some (BlockFrame offset text) ∷ more = cc in rest)
+items_of limits [] (x ∷ xs) more offset text h e = absurd (cc e)
+items_of limits _ [] more offset text h e = absurd (cc e)
 
 -- what comes after an open block that is broken
 broken_rest : (limits : Limits) (parts : List StreamPart) (xs : List (Option Frame)) (at start : ℕ) (body : List Line)

@@ -12,8 +12,8 @@ use Rattle.fz_stream.specs.declared.reading.Claim.{Claim}
 use Rattle.fz_stream.specs.declared.line.ClaimKind.{ClaimKind}
 use Rattle.fz_stream.specs.declared.step.Step.{Step}
 use Rattle.fz_stream.specs.declared.step.Step.TheVariants.{GoesOn, EndsBlock, Claims, Breaks}
-use Rattle.fz_stream.specs.Parts.{Line, lines_of, joined, kind_of, SolutionBlock, StreamPart, BlockPart, ClaimPart, frame_of, IsBlockText, HasItems, Closes, Covers, IsStreamText, blocks_in, AreLinesOf}
-use Rattle.fz_stream.specs.Found.{claims_in, IsReadAs, AreInOrder, StandsBeforeMarker}
+use Rattle.fz_stream.specs.Parts.{Line, lines_of, joined, kind_of, SolutionBlock, StreamPart, BlockPart, ClaimPart, frame_of, IsBlockText, HasItems, Closes, Covers, blocks_in, AreLinesOfFrame, AreLinesOf}
+use Rattle.fz_stream.specs.Found.{claims_in, IsReadAs, AreInOrder, StandsBeforeMarker, IsStreamText}
 use Rattle.fz_stream.specs.Step.{step_of}
 use Rattle.fz_stream.specs.Broken.{BreaksText, StopsAfter}
 use Rattle.fz_stream.specs.Telling.{TellsOfText}
@@ -162,10 +162,7 @@ module _ (stream : List ℕ) (begun : Option ℕ) (at : ℕ) (blocks : List Solu
       let none : None ≡ begun = sym (s.begins ∙ ap (λ b. opened b (length (joined s.covers.covered) + length (joined s.gap))) d.1) in
       let place : length blocks ≡ 0 + length (blocks_in s.parts) = omega (arith, ap length s.blocks_are) in
       subst (λ b. ReadSoFar stream b (at + length line) blocks (claims ++ claim ∷ [])) none (subst (λ l. ReadSoFar stream None (at + length line) l (claims ++ claim ∷ [])) (append-nil blocks)
-      (so_far_part (ClaimPart c) tt d [] (claim ∷ []) refl (ap (λ x. x ∷ []) (is ∙ ap (λ (n : ℕ). claim_from n) place))))
-    where
-      claim_from : ℕ → Claim
-      claim_from n = record { after = n; kind = c }
+      (so_far_part (ClaimPart c) tt d [] (claim ∷ []) refl (ap (λ x. x ∷ []) (is ∙ (λ i. record { after = place i; kind = c })))))
 
   -- a claim is inside the open block
   pub so_far_stops_at_claim : (n : ℕ) → step_of begun at (kind_of line) ≡ Breaks n → (span : Span)
@@ -214,15 +211,17 @@ stand_before : (bytes : List ℕ) (before covered rest : List Line) (start : ℕ
     → start ≡ length (joined before)
     → AreLinesOf start covered (map frame_of parts) → AllByRecursion (StandsBeforeMarker bytes) (blocks_in parts)
 stand_before bytes before covered rest start [] e s h = tt
-stand_before bytes before covered rest start (ClaimPart kind ∷ parts) e s h =
-    stand_before bytes (before ++ h.0) h.1 rest (start + length (joined h.0)) parts
+stand_before bytes before covered rest start (part ∷ parts) e s h =
+    by_part part h.3 (stand_before bytes (before ++ h.0) h.1 rest (start + length (joined h.0)) parts
     (e ∙ ap (λ l. before ++ (l ++ rest)) h.2 ∙ simp append_assoc)
     (omega (arith, s, ap length (joined-append before h.0), length-append (joined before) (joined h.0)))
-    h.4
-stand_before bytes before covered rest start (BlockPart block ∷ parts) e s h =
-    let k = h.3 in
-    let body : joined (before ++ (k.gap ++ k.body)) ≡ (joined before ++ joined k.gap) ++ block.text =
-    joined-append before (k.gap ++ k.body) ∙ ap (λ l. joined before ++ l) (joined-append k.gap k.body ∙ ap (λ l. joined k.gap ++ l) (sym k.closes.2)) ∙ sym (append_assoc (joined before) (joined k.gap) block.text) in (
+    h.4)
+  where
+    by_part : (part : StreamPart) → AreLinesOfFrame start h.0 (frame_of part)
+        → AllByRecursion (StandsBeforeMarker bytes) (blocks_in parts)
+        → AllByRecursion (StandsBeforeMarker bytes) (blocks_in (part ∷ parts))
+    by_part (ClaimPart kind) k later = later
+    by_part (BlockPart block) k later = (
       record {
         before = before ++ (k.gap ++ k.body);
         marker = k.line;
@@ -230,13 +229,11 @@ stand_before bytes before covered rest start (BlockPart block ∷ parts) e s h =
         front = joined before ++ joined k.gap;
         lines = e ∙ ap (λ l. before ++ (l ++ rest)) (h.2 ∙ ap (λ l. l ++ h.1) k.whole) ∙ simp append_assoc;
         closes = k.closes.0;
-        text = body;
+        text = joined-append before (k.gap ++ k.body)
+            ∙ ap (λ l. joined before ++ l) (joined-append k.gap k.body ∙ ap (λ l. joined k.gap ++ l) (sym k.closes.2)) ∙ sym (append_assoc (joined before) (joined k.gap) block.text);
         offset = k.closes.1 ∙ ap (λ n. n + length (joined k.gap)) s ∙ sym (length-append (joined before) (joined k.gap));
       },
-      stand_before bytes (before ++ h.0) h.1 rest (start + length (joined h.0)) parts
-          (e ∙ ap (λ l. before ++ (l ++ rest)) h.2 ∙ simp append_assoc)
-          (omega (arith, s, ap length (joined-append before h.0), length-append (joined before) (joined h.0)))
-          h.4,
+      later,
     )
 
 -- each block of a stream that was read comes before a marker line

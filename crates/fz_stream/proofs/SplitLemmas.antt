@@ -2,8 +2,9 @@
 use Rattle.std.proofs.Common.{◌≡◌, ◌≢◌, ℕ, ◌+◌, List, [], ◌∷◌, ◌++◌, length, take, drop, refl, sym, ap, ◌∙◌, subst, inl, inr, ◌⊎◌, zero, suc, ◌<◌, ◌≤◌, ◌-◌, length-append, append_assoc, take-append-drop, arith, cond, eqb, get_or, true}
 use Rattle.std.proofs.lemmas.Bool.{ne_eqb, eq-eqb, cond_both}
 use Rattle.std.proofs.lemmas.List.{get_or_at, take-append-le}
-use Rattle.std.specs.List.{AllByRecursion}
-use Rattle.fz_stream.specs.Parts.{Line, lines_of, onto_first, joined, HasNoFeed, EndsWithFeed}
+use Rattle.std.specs.List.{AllByRecursion, onto_first}
+use Rattle.fz_stream.specs.Parts.{Line, lines_of, joined}
+use Rattle.fz_stream.specs.Splitting.{HasNoFeed, EndsWithFeed}
 use Rattle.fz_stream.proofs.PartLemmas.{every_append, every_left, every_right}
 
 -- the step of `lines_of` at a byte that is no LF

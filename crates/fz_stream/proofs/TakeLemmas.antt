@@ -8,9 +8,9 @@ use Rattle.fz_syntax.specs.Limits.{Limits}
 use Rattle.fz_stream.specs.declared.held.Ended.{Ended}
 use Rattle.fz_stream.specs.declared.held.Held.{Held}
 use Rattle.fz_stream.specs.declared.error.StreamError.{StreamError}
-use Rattle.fz_stream.specs.Parts.{Line, lines_of, joined, HasNoFeed, EndsWithFeed, Frame, Covers, BlockFrame, IsBlockText, Closes}
+use Rattle.fz_stream.specs.Parts.{Line, lines_of, joined, Frame, Covers, BlockFrame, IsBlockText, Closes}
 use Rattle.fz_stream.specs.Broken.{BreaksAfter, CannotGoOn, CannotEnd}
-use Rattle.fz_stream.specs.Splitting.{Holds, HasRoomAt, HasRoomFor, PassesLimit, SplitterState, WaitsForLast, Fits, frames_in, EndsWith}
+use Rattle.fz_stream.specs.Splitting.{Holds, HasRoomAt, HasRoomFor, PassesLimit, SplitterState, WaitsForLast, Fits, frames_in, EndsWith, HasNoFeed, EndsWithFeed}
 use Rattle.fz_stream.specs.Keeping.{HasLine, Stands, EndsLine, AfterBytes, BreaksBlock, frame_at, held_while, line_while}
 use Rattle.fz_stream.proofs.PartLemmas.{every_append, joined-push, size_of, into_frames, every_right, last_frame}
 use Rattle.fz_stream.proofs.SplitLemmas.{lines_of-lines, lines_after, whole_from_last, begun_from_last, whole_joined, no_feed_before, joined-lines_of}

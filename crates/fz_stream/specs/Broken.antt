@@ -8,7 +8,8 @@ use Rattle.fz_syntax.specs.Tree.{Printed}
 use Rattle.fz_stream.specs.declared.error.StreamError.{StreamError}
 use Rattle.fz_stream.specs.declared.line.LineKind.{LineKind}
 use Rattle.fz_stream.specs.declared.line.LineKind.TheVariants.{Marker, Claim}
-use Rattle.fz_stream.specs.Parts.{Line, lines_of, joined, kind_of, EndsWithFeed, StreamPart, Frame, frame_of, IsBlockText, HasItems, Covers}
+use Rattle.fz_stream.specs.Parts.{Line, lines_of, joined, kind_of, StreamPart, Frame, frame_of, IsBlockText, HasItems, Covers}
+use Rattle.fz_stream.specs.Splitting.{EndsWithFeed}
 use Rattle.fz_stream.specs.Telling.{TellsOf, first_kind}
 
 -- A line of this kind can't follow an open block of this text: a claim, or a marker where the text

@@ -1,12 +1,17 @@
 -- The blocks and claims of the code as the plain data that the definitions speak of, and what they
 -- say about the stream that was read.
 use Rattle.std.specs.Prelude.{◌≡◌, ◌≤◌, ℕ, ◌+◌, List, [], ◌∷◌, ◌++◌, length}
+use Rattle.fz_syntax.specs.Lexing.{standard_limits}
 use Rattle.fz_syntax.specs.Placed.{ArePlacedIn, placed_items}
 use Rattle.fz_syntax.specs.View.{bare_items}
 use Rattle.fz_stream.specs.declared.block.Block.{Block}
 use Rattle.fz_stream.specs.declared.line.LineKind.TheVariants.{Marker}
 use Rattle.fz_stream.specs.declared.reading.Claim.{Claim}
-use Rattle.fz_stream.specs.Parts.{Line, lines_of, joined, kind_of, SolutionBlock, StreamPart, BlockPart, ClaimPart, IsStreamText, blocks_in}
+use Rattle.fz_stream.specs.Parts.{Line, lines_of, joined, kind_of, SolutionBlock, StreamPart, BlockPart, ClaimPart, IsStreamTextWithin, blocks_in}
+
+-- a text of the parts, at the standard limits
+abbrev pub IsStreamText : List ℕ → List StreamPart → Type 0
+IsStreamText = IsStreamTextWithin standard_limits
 
 -- a block of the code without the byte ranges of its items
 abbrev pub block_of : Block → SolutionBlock

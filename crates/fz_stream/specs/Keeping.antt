@@ -7,7 +7,8 @@ use Rattle.fz_stream.specs.declared.error.StreamError.{StreamError}
 use Rattle.fz_stream.specs.declared.held.Ended.{Ended}
 use Rattle.fz_stream.specs.declared.held.Ended.TheVariants.{BlockEnded, ClaimEnded}
 use Rattle.fz_stream.specs.declared.held.Held.{Held}
-use Rattle.fz_stream.specs.Parts.{Line, lines_of, joined, kind_of, HasNoFeed, EndsWithFeed, Frame, BlockFrame, ClaimFrame, Covers, Closes}
+use Rattle.fz_stream.specs.Parts.{Line, lines_of, joined, kind_of, Frame, BlockFrame, ClaimFrame, Covers, Closes}
+use Rattle.fz_stream.specs.Splitting.{HasNoFeed, EndsWithFeed}
 use Rattle.fz_stream.specs.Broken.{CannotFollow}
 use Rattle.fz_stream.specs.Telling.{TellsOf}
 

@@ -1,14 +1,12 @@
 -- The parts of a stream of solver output: solution blocks and claims (MiniZinc Handbook, output of
 -- a FlatZinc solver; this project's profile).
-use Rattle.std.specs.Prelude.{◌≡◌, ◌≢◌, ℕ, ◌+◌, List, [], ◌∷◌, ◌++◌, length, map, reverse, if◌then◌else◌, ◌==◌, codes}
-use Rattle.std.specs.List.{AllByRecursion, AllPairs}
+use Rattle.std.specs.Prelude.{◌≡◌, ◌≢◌, ℕ, ◌+◌, List, [], ◌∷◌, ◌++◌, length, map, reverse, if◌then◌else◌, ◌==◌, bytes_eq, codes, AllPairs}
+use Rattle.std.specs.List.{AllByRecursion, onto_first}
 use Rattle.fz_syntax.specs.Limits.{Limits}
-use Rattle.fz_syntax.specs.Lexing.{standard_limits}
 use Rattle.fz_syntax.specs.Tree.{Printed}
 use Rattle.fz_syntax.specs.Text.{IsTextOfItemsWithin}
 use Rattle.fz_stream.specs.declared.line.ClaimKind.{ClaimKind}
 use Rattle.fz_stream.specs.declared.line.LineKind.TheVariants.{Marker, Claim, Item, Blank, Comment}
-use Rattle.std.specs.Str.{bytes_eq}
 use Rattle.fz_syntax.specs.Token.{is_blank}
 use Rattle.fz_stream.specs.declared.line.ClaimKind.TheVariants.{Complete, Unsatisfiable, Unknown, Unbounded, UnsatOrUnbounded, Error}
 use Rattle.fz_stream.specs.declared.line.LineKind.{LineKind}
@@ -16,11 +14,6 @@ use Rattle.fz_stream.specs.declared.line.LineKind.{LineKind}
 -- a line, with the LF that ends it
 abbrev pub Line : Type 0
 Line = List ℕ
-
--- the lines with a byte, which isn't LF, put in front of the first
-abbrev pub onto_first : ℕ → List Line → List Line
-onto_first b [] = (b ∷ []) ∷ []
-onto_first b (line ∷ lines) = (b ∷ line) ∷ lines
 
 -- The lines of a stream: it is cut after each LF, and what follows the last LF is a line where it
 -- isn't empty.
@@ -34,14 +27,6 @@ abbrev pub joined : List Line → List ℕ
 joined [] = []
 joined (line ∷ lines) = line ++ joined lines
 
--- no byte is LF
-abbrev pub HasNoFeed : List ℕ → Type 0
-HasNoFeed bytes = AllByRecursion (λ b. b ≢ 10) bytes
-
--- the line ends with LF, which is nowhere else in it
-abbrev pub EndsWithFeed : Line → Type 0
-EndsWithFeed line = (front : List ℕ) × HasNoFeed front × (line ≡ front ++ 10 ∷ [])
-
 -- the bytes without the blanks at their front
 abbrev pub skip_blanks : List ℕ → List ℕ
 skip_blanks [] = []
@@ -54,8 +39,7 @@ trimmed line = reverse (skip_blanks (reverse (skip_blanks line)))
 -- Ten dashes close a solution. Ten equality signs and the five named lines are claims on the
 -- search. Any other line begins or continues an item.
 abbrev pub kind_of_words : List ℕ → LineKind
-kind_of_words words =
-    if bytes_eq words (codes "----------") then Marker
+kind_of_words words = if bytes_eq words (codes "----------") then Marker
     else (if bytes_eq words (codes "==========") then Claim Complete
     else (if bytes_eq words (codes "=====UNSATISFIABLE=====") then Claim Unsatisfiable
     else (if bytes_eq words (codes "=====UNKNOWN=====") then Claim Unknown
@@ -174,9 +158,6 @@ pub record IsStreamTextWithin (limits : Limits) (bytes : List ℕ)
     (parts : List StreamPart) : Type 0 where
   pub framed : IsFramed bytes (map frame_of parts)
   pub items : AllByRecursion (HasItems limits) parts
-
-abbrev pub IsStreamText : List ℕ → List StreamPart → Type 0
-IsStreamText = IsStreamTextWithin standard_limits
 
 -- the blocks among the parts
 abbrev pub blocks_in : List StreamPart → List SolutionBlock

@@ -1,12 +1,20 @@
 -- The state of a splitter that is fed a stream in pieces, and what its calls do to it (this
 -- project's profile).
-use Rattle.std.specs.Prelude.{◌≡◌, ◌<◌, ℕ, ◌+◌, ◌^◌, List, [], ◌∷◌, ◌++◌, length, Option, Some, None, ◌⊎◌, take}
+use Rattle.std.specs.Prelude.{◌≡◌, ◌≢◌, ◌<◌, ℕ, ◌+◌, ◌^◌, List, [], ◌∷◌, ◌++◌, length, Option, Some, None, ◌⊎◌, take}
 use Rattle.std.specs.List.{AllByRecursion}
 use Rattle.fz_syntax.specs.Limits.{Limits}
 use Rattle.fz_syntax.specs.Tree.{Printed}
 use Rattle.fz_stream.specs.declared.splitter.Stage.{Stage}
 use Rattle.fz_stream.specs.declared.splitter.Stage.TheVariants.{Running}
-use Rattle.fz_stream.specs.Parts.{Line, lines_of, joined, HasNoFeed, EndsWithFeed, StreamPart, BlockPart, ClaimPart, Frame, IsBlockText, Closes, Covers, IsFramed}
+use Rattle.fz_stream.specs.Parts.{Line, lines_of, joined, StreamPart, BlockPart, ClaimPart, Frame, IsBlockText, Closes, Covers, IsFramed}
+
+-- no byte is LF
+abbrev pub HasNoFeed : List ℕ → Type 0
+HasNoFeed bytes = AllByRecursion (λ b. b ≢ 10) bytes
+
+-- the line ends with LF, which is nowhere else in it
+abbrev pub EndsWithFeed : Line → Type 0
+EndsWithFeed line = (front : List ℕ) × HasNoFeed front × (line ≡ front ++ 10 ∷ [])
 
 -- the most bytes that a splitter takes in all; it holds as many as its limits allow for a text
 abbrev pub most_taken : ℕ

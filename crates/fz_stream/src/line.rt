@@ -1,6 +1,7 @@
 ghost use Rattle.std.specs.Prelude.{◌≡◌, ◌⊎◌, reverse, ◌∷◌, length, ◌<◌, ◌≤◌, take, drop};
 ghost use Rattle.fz_syntax.specs.Token.{is_blank};
-ghost use Rattle.fz_stream.specs.Parts.{kind_of, kind_of_words, lines_of, skip_blanks, EndsWithFeed, HasNoFeed};
+ghost use Rattle.fz_stream.specs.Parts.{kind_of, kind_of_words, lines_of, skip_blanks};
+ghost use Rattle.fz_stream.specs.Splitting.{EndsWithFeed, HasNoFeed};
 
 use memchr::memchr;
 

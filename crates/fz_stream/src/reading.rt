@@ -1,10 +1,10 @@
 ghost use Rattle.std.specs.Prelude.{◌≡◌, ◌≢◌, List, map, length, vec_len, ◌<◌, ◌↔◌, IfOk, IfErr, Err};
 ghost use Rattle.std.specs.List.{AllByRecursion};
-ghost use Rattle.fz_syntax.specs.Lexing.{most_bytes};
+ghost use Rattle.fz_syntax.specs.Places.{most_bytes};
 ghost use Rattle.fz_stream.specs.Broken.{StopsAfter};
 ghost use Rattle.fz_stream.specs.Faults.{IsStreamFault, IsFaultWithin};
-ghost use Rattle.fz_stream.specs.Found.{block_of, HasPlaces, EndsWithin, IsReadAs, AreInOrder, StandsBeforeMarker};
-ghost use Rattle.fz_stream.specs.Parts.{StreamPart, IsStreamText};
+ghost use Rattle.fz_stream.specs.Found.{block_of, HasPlaces, EndsWithin, IsReadAs, AreInOrder, StandsBeforeMarker, IsStreamText};
+ghost use Rattle.fz_stream.specs.Parts.{StreamPart};
 
 use crate::block::{Block, read_block};
 use crate::error::StreamError;

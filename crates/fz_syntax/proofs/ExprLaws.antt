@@ -5,13 +5,12 @@ use Rattle.std.specs.List.{AllByRecursion}
 use Rattle.fz_tree.specs.of_lex.declared.token.Mark.TheVariants.{OpenBracket, CloseBracket, OpenBrace, CloseBrace, DotDot}
 use Rattle.fz_tree.specs.of_lex.Token.{TokenValue, Word, Whole, Marked}
 use Rattle.fz_tree.specs.Tree.{Literal, Number, Truth, Range, Braces, Basic, Lit, Named, Expr, One, Several}
-use Rattle.fz_tree.specs.Tokens.{mark, number_toks, literal_toks, name_toks, basic_toks, expr_toks, separated}
+use Rattle.fz_tree.specs.Tokens.{mark, number_toks, literal_toks, word, basic_toks, expr_toks, separated}
 use Rattle.fz_tree.specs.of_lex.declared.limits.Limits.{Limits}
 use Rattle.fz_tree.specs.Text.{is_reserved, IsName, IsLiteral, IsBounds, IsBasic, IsExpr, IsLiteralBasic}
-use Rattle.fz_syntax.specs.Reading.{is_mark, is_word, next_passes, next_is, next_word, at_most, whole_at, name_at, is_whole, is_name, braces_at, from_whole, literal_at, basic_at, expr_list_at, expr_at, literal_basic_at}
-use Rattle.fz_syntax.proofs.Lists.{Shrinks}
+use Rattle.fz_syntax.specs.Reading.{is_mark, is_word, next_passes, next_is, next_word, whole_at, name_at, is_whole, is_name, braces_at, from_whole, literal_at, basic_at, expr_at, literal_basic_at}
 use Rattle.fz_syntax.proofs.Laws.{Always, Took, Takes, ◌⟫◌, step, made, choose, refused, first, marked, worded}
-use Rattle.fz_syntax.proofs.ListLaws.{Law, Ends, no_range, fits_more, apart, AtMost, bounded, list_again, bounded_list_takes}
+use Rattle.fz_syntax.proofs.ListLaws.{Law, Ends, no_range, fits_more, apart, bounded, list_again, bounded_list_takes}
 
 -- limits that are no smaller
 pub record Allow (less more : Limits) : Type 0 where
@@ -27,8 +26,7 @@ same limits = record { elements = omega arith; size = omega arith; depth = omega
 pub whole_takes : Takes number_toks Always whole_at
 unfolding whole_at
 whole_takes (Whole n ∷ ts) x e = made e first tt
-whole_takes [] x e = refused e
-whole_takes (_ ∷ ts) x e = refused e
+whole_takes _ x e = refused e
 
 whole_again : (n : ℤ) (rest : List TokenValue) → whole_at (Whole n ∷ rest) ≡ Ok (n, rest)
 unfolding whole_at
@@ -41,12 +39,11 @@ whole_law = record {
   begun = λ n rest is. refl;
 }
 
-pub name_takes : Takes name_toks IsName name_at
+pub name_takes : Takes word IsName name_at
 unfolding name_at
 name_takes (Word w ∷ ts) x e =
     choose (is_reserved w) _ _ e (λ reserved f. refused f) (λ free f. made f first free)
-name_takes [] x e = refused e
-name_takes (_ ∷ ts) x e = refused e
+name_takes _ x e = refused e
 
 pub name_again : (name : List ℕ) (rest : List TokenValue) → IsName name
     → name_at (Word name ∷ rest) ≡ Ok (name, rest)
@@ -186,33 +183,22 @@ module _ (l m : Limits) (allow : Allow l m) where
   pub basic_law : Law begins_basic basic_toks (IsBasic l) (IsBasic m) (basic_at m)
   basic_law = record { takes = basic_takes; again = basic_again; begun = basic_begun }
 
-  -- ---- lists of them
-
-  pub expr_list_takes : Takes (λ bs. separated basic_toks bs ++ mark CloseBracket)
-      (AtMost m.elements (IsBasic m)) (expr_list_at m)
-  unfolding expr_list_at
-  expr_list_takes = bounded_list_takes basic_law m.elements CloseBracket
-
-  pub expr_list_again : (bs : List Basic) (rest : List TokenValue)
-      → AtMost l.elements (IsBasic l) bs → expr_list_at m
-      ((separated basic_toks bs ++ mark CloseBracket) ++ rest) ≡ Ok (bs, rest)
-  unfolding expr_list_at
-  expr_list_again bs rest is =
-      list_again (bounded basic_law m.elements) CloseBracket refl refl refl bs rest
-      (omega (arith, is.0)) is.1
+  -- ---- lists of them, or one
 
   expr_takes : Takes expr_toks (IsExpr m) (expr_at m)
   unfolding expr_at
   expr_takes tokens x e = choose (next_is OpenBracket tokens) _ _ e
       (λ bracket f.
-      let bs = step _ (expr_list_takes (drop 1 tokens)) f in
+      let bs = step _ (bounded_list_takes basic_law m.elements CloseBracket (drop 1 tokens)) f in
       made bs.on (marked bracket ⟫ bs.parts) bs.fits)
       (λ other f. let b = step _ (basic_takes tokens) f in made b.on b.parts b.fits)
 
   expr_again : (x : Expr) (rest : List TokenValue) → IsExpr l x → Ends rest
       → expr_at m (expr_toks x ++ rest) ≡ Ok (x, rest)
   unfolding expr_at
-  expr_again (Several bs) rest is ends = rw (expr_list_again bs rest is) refl
+  expr_again (Several bs) rest is ends =
+      rw (list_again (bounded basic_law m.elements) CloseBracket refl refl refl bs rest
+      (omega (arith, is.0)) is.1) refl
   expr_again (One b) rest is ends =
       let begun = basic_begun b rest (fits_more basic_law b is) in
       let other = apart begins_basic OpenBracket (basic_toks b ++ rest) refl begun in
@@ -253,17 +239,3 @@ module _ (l m : Limits) (allow : Allow l m) where
     again = literal_basic_again;
     begun = literal_basic_begun;
   }
-
--- ---- what is read takes a token at least
-
-pub numbers_shrink : (limit : ℕ) → Shrinks (at_most limit whole_at)
-numbers_shrink limit = (bounded whole_law limit).shrinks
-
-pub listed_shrinks : (limits : Limits)
-    → Shrinks (at_most limits.elements (basic_at limits))
-listed_shrinks limits = (bounded (basic_law limits limits (same limits)) limits.elements).shrinks
-
-pub literals_shrink : (limits : Limits)
-    → Shrinks (at_most limits.elements (literal_basic_at limits))
-literals_shrink limits =
-    (bounded (literal_basic_law limits limits (same limits)) limits.elements).shrinks

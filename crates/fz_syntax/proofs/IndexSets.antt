@@ -1,14 +1,14 @@
 -- The loop invariant over an array's index sets.
-use Rattle.std.proofs.Common.{◌≡◌, ℕ, zero, suc, List, [], ◌∷◌, ◌++◌, Ok, Err, refl, sym, ap, subst, ◌∙◌, append_assoc}
+use Rattle.std.proofs.Common.{◌≡◌, ℕ, zero, suc, List, [], ◌∷◌, ◌++◌, Ok, Err, refl, sym, ap, subst, ◌∙◌}
 use Rattle.std.proofs.lemmas.List.{append-nil}
 use Rattle.fz_tree.specs.of_lex.Token.{TokenValue}
 use Rattle.fz_syntax.specs.declared.parser.refusal.Refusal.{Refusal}
 use Rattle.fz_tree.specs.Tree.{Literal}
 use Rattle.fz_tree.specs.of_lex.declared.limits.Limits.{Limits}
-use Rattle.fz_syntax.specs.Reading.{Fault, Read, ◌>>=◌}
+use Rattle.fz_syntax.specs.Reading.{Fault, Read}
 use Rattle.fz_syntax.specs.ReadingItems.{index_set_at, index_sets_at}
 use Rattle.fz_syntax.specs.Outcome.{Fails}
-use Rattle.fz_syntax.proofs.Lists.{with_front}
+use Rattle.fz_syntax.proofs.Lists.{with_front, put_first, regroup}
 use Rattle.fz_syntax.proofs.Separated.{fails_like}
 use Rattle.fz_syntax.proofs.Running.{front_of_none}
 
@@ -22,14 +22,6 @@ pub counts_begin : (limits : Limits) (count left : ℕ) (tokens : List TokenValu
 counts_begin limits count left tokens front empty at =
     subst (λ (xs : List Literal). Counts limits left xs tokens (index_sets_at limits count tokens)) (sym empty)
     (record { so_far = front_of_none (index_sets_at limits left tokens) ∙ ap (λ (n : ℕ). index_sets_at limits n tokens) at })
-
-abbrev put_first : Literal → Read (List Literal) → Read (List Literal)
-put_first x read = read >>= λ others. Ok (x ∷ others.0, others.1)
-
-regroup : (front : List Literal) (x : Literal) (read : Read (List Literal))
-    → with_front front (put_first x read) ≡ with_front (front ++ x ∷ []) read
-regroup front x (Ok y) = ap (λ (xs : List Literal). Ok (xs, y.1)) (simp append_assoc)
-regroup front x (Err f) = refl
 
 step : (limits : Limits) (n : ℕ) (tokens : List TokenValue) (x : Literal) (rest : List TokenValue)
     → index_set_at limits tokens ≡ Ok (x, rest)

@@ -8,27 +8,15 @@ use Rattle.fz_tree.specs.of_lex.Token.{TokenValue, Word, Marked}
 use Rattle.fz_tree.specs.Tree.{Number, Truth, Expr, One, Several, Base, IntBase, Param, Predicate, Decl, Constraint, Goal, Satisfy, Minimize, Maximize, Solve, Tree}
 use Rattle.fz_tree.specs.of_lex.declared.limits.Limits.{Limits}
 use Rattle.fz_tree.specs.Text.{IsBase, IsBaseOf, IsParam, IsPredicate, IsValueOf, IsDecl, IsConstraint, IsGoal, IsSolve, HasShape}
-use Rattle.fz_tree.specs.Tokens.{mark, name_toks, basic_toks, expr_toks, separated, notes_toks, base_toks, var_toks, prefix_toks, param_prefix_toks, param_toks, predicate_toks, value_toks, decl_toks, constraint_toks, goal_toks, solve_toks, toks}
-use Rattle.fz_syntax.specs.Reading.{is_word, next_is, next_word, next_passes, any_number, mark_at, word_at, begins_decl, expr_at, may_lack_value, value_at, given_value_at, param_at, predicate_at, decl_at, constraint_at, goal_at, solve_at, tree_at, ended, tree_of}
+use Rattle.fz_tree.specs.Tokens.{mark, basic_toks, expr_toks, separated, notes_toks, base_toks, var_toks, prefix_toks, param_prefix_toks, param_toks, predicate_toks, value_toks, decl_toks, constraint_toks, goal_toks, solve_toks, toks}
+use Rattle.fz_syntax.specs.Reading.{is_word, next_is, next_word, next_passes, any_number, mark_at, word_at, begins_decl, may_lack_value, value_at, given_value_at, param_at, predicate_at, decl_at, constraint_at, goal_at, solve_at, tree_at, ended, tree_of}
 use Rattle.fz_syntax.proofs.Lists.{Shrinks}
 use Rattle.fz_syntax.proofs.Laws.{Takes, ◌⟫◌, step, next, made, choose, none, worded, mark_takes, mark_again, word_takes}
 use Rattle.fz_syntax.proofs.ListLaws.{Law, Ends, fits_more, apart_word, each_before, bounded, unbounded, list_again, bounded_list_takes, unbounded_list_takes, items_take, items_again}
-use Rattle.fz_syntax.proofs.ExprLaws.{Allow, same, all_always, name_takes, name_again, basic_law, expr_list_takes, expr_list_again, expr_law, literal_basic_law}
+use Rattle.fz_syntax.proofs.ExprLaws.{Allow, same, all_always, name_takes, name_again, basic_law, expr_law, literal_basic_law}
 use Rattle.fz_syntax.proofs.NoteLaws.{notes_take, notes_again}
 use Rattle.fz_syntax.proofs.TypeLaws.{begins_bounds, base_of, base_no_var, no_array, var_takes, var_again, base_takes, base_again, type_takes, type_again, param_prefix_takes, param_prefix_again, prefix_takes, prefix_again}
-
--- parts one after another, and what follows them
-pub flat4 : (a b c d rest : List TokenValue)
-    → (((a ++ b) ++ c) ++ d) ++ rest ≡ a ++ (b ++ (c ++ (d ++ rest)))
-flat4 a b c d rest = simp append_assoc
-
-flat5 : (a b c d e rest : List TokenValue)
-    → ((((a ++ b) ++ c) ++ d) ++ e) ++ rest ≡ a ++ (b ++ (c ++ (d ++ (e ++ rest))))
-flat5 a b c d e rest = simp append_assoc
-
-flat8 : (a b c d e f g h rest : List TokenValue) → (((((((a ++ b) ++ c) ++ d) ++ e) ++ f) ++ g)
-    ++ h) ++ rest ≡ a ++ (b ++ (c ++ (d ++ (e ++ (f ++ (g ++ (h ++ rest)))))))
-flat8 a b c d e f g h rest = simp append_assoc
+use Rattle.std.proofs.Math.Bool.{and-false}
 
 -- ---- what items begin with
 
@@ -73,13 +61,7 @@ goal_no_note _ rest = refl
 no_value : (limits : Limits) (v : Bool) (o : Option ℕ) (b : Bool)
     → (may_lack_value v o && b) ≡ true → IsValueOf limits v o None
 no_value limits true None b e = tt
-no_value limits true (Some n) b e = absurd cc
-no_value limits false None b e = absurd cc
-no_value limits false (Some n) b e = absurd cc
-
-lacks_none : (b : Bool) → (b && false) ≡ false
-lacks_none true = refl
-lacks_none false = refl
+no_value limits _ _ b e = absurd cc
 
 -- what begins neither a constraint nor the solve item begins nothing behind the declarations
 no_item : (begins : TokenValue → Bool) → begins (Word (codes "constraint")) ≡ false
@@ -112,24 +94,21 @@ module _ (l m : Limits) (allow : Allow l m) where
       let V : List TokenValue = var_toks p.is_var in
       let B : List TokenValue = base_toks p.base in
       let Z : List TokenValue = Marked Colon ∷ (Word p.name ∷ rest) in
-      ap (param_at m)
-      (flat5 (param_prefix_toks p.array) V B (mark Colon) (name_toks p.name) rest)
-      ∙ rw (
+      simp append_assoc (rw (
         param_prefix_again l m allow p.array (V ++ (B ++ Z)) is.array
             (no_array l p.is_var p.base Z is.base),
         var_again p.is_var (B ++ Z) (base_no_var l p.base Z is.base),
         base_again l m allow p.base Z is.base,
         mark_again Colon (Word p.name ∷ rest),
         name_again p.name rest is.name,
-      ) refl
+      ) refl)
 
   pub param_law : Law begins_param param_toks (IsParam l) (IsParam m) (param_at m)
   param_law = record {
     takes = param_takes;
     again = λ p rest is ends. param_again p rest is;
-    begun = λ p rest is. ap (next_passes begins_param) (flat5 (param_prefix_toks p.array)
-        (var_toks p.is_var) (base_toks p.base) (mark Colon) (name_toks p.name) rest)
-        ∙ type_begun m p.array p.is_var p.base (Marked Colon ∷ (Word p.name ∷ rest)) is.base;
+    begun = λ p rest is. simp append_assoc
+        (type_begun m p.array p.is_var p.base (Marked Colon ∷ (Word p.name ∷ rest)) is.base);
   }
 
   predicate_takes : Takes predicate_toks (IsPredicate m) (predicate_at m)
@@ -178,7 +157,8 @@ module _ (l m : Limits) (allow : Allow l m) where
       let b = step _ ((literal_basic_law l m allow).takes tokens) e in made b.on b.parts b.fits
   value_takes true (Some n) tokens x e =
       let opened = step _ (mark_takes OpenBracket tokens) e in
-      let bs = step _ (expr_list_takes l m allow opened.left) opened.on in
+      let bs = step _ (bounded_list_takes (basic_law l m allow) m.elements CloseBracket opened.left)
+      opened.on in
       made bs.on (opened.parts ⟫ bs.parts) bs.fits
   value_takes false (Some n) tokens x e =
       let opened = step _ (mark_takes OpenBracket tokens) e in
@@ -194,10 +174,10 @@ module _ (l m : Limits) (allow : Allow l m) where
   value_again false None (One b) rest is ends =
       rw ((literal_basic_law l m allow).again b rest is ends) refl
   value_again true (Some n) (Several bs) rest is ends =
-      rw (
-        mark_again OpenBracket ((separated basic_toks bs ++ mark CloseBracket) ++ rest),
-        expr_list_again l m allow bs rest is,
-      ) refl
+      let again = list_again (bounded (basic_law l m allow) m.elements) CloseBracket refl refl refl
+      bs rest (omega (arith, is.0, allow.elements)) is.1 in
+      rw (mark_again OpenBracket ((separated basic_toks bs ++ mark CloseBracket) ++ rest), again)
+      refl
   value_again false (Some n) (Several bs) rest is ends =
       let again = list_again (bounded (literal_basic_law l m allow) m.elements) CloseBracket
       refl refl refl bs rest (omega (arith, is.0, allow.elements)) is.1 in
@@ -221,7 +201,7 @@ module _ (l m : Limits) (allow : Allow l m) where
       ≡ Ok (e, Marked Semicolon ∷ rest)
   unfolding given_value_at mark_at
   given_value_again v o (Some e) rest is = rw (
-    lacks_none (may_lack_value v o),
+    and-false (may_lack_value v o),
     value_again v o e (Marked Semicolon ∷ rest) is refl,
   ) refl
   given_value_again true None None rest is = refl
@@ -261,9 +241,7 @@ module _ (l m : Limits) (allow : Allow l m) where
       let Y : List TokenValue = N ++ (E ++ (Marked Semicolon ∷ rest)) in
       let Z : List TokenValue = Marked Colon ∷ (Word d.name ∷ Y) in
       let base = base_of l d.is_var d.base is.base in
-      ap (decl_at m)
-      (flat8 (prefix_toks d.length) V B (mark Colon) (name_toks d.name) N E (mark Semicolon) rest)
-      ∙ rw (
+      simp append_assoc (rw (
         prefix_again l m allow d.length (V ++ (B ++ Z)) is.length
             (no_array l d.is_var d.base Z base),
         var_again d.is_var (B ++ Z) (base_no_var l d.base Z base),
@@ -274,17 +252,15 @@ module _ (l m : Limits) (allow : Allow l m) where
             (value_ends d.value rest) (value_no_note d.value rest),
         given_value_again d.is_var d.length d.value rest is.value,
         mark_again Semicolon rest,
-      ) refl
+      ) refl)
 
   pub decl_law : Law begins_decl decl_toks (IsDecl l) (IsDecl m) (decl_at m)
   decl_law = record {
     takes = decl_takes;
     again = λ d rest is ends. decl_again d rest is;
-    begun = λ d rest is. ap (next_passes begins_decl) (flat8 (prefix_toks d.length)
-        (var_toks d.is_var) (base_toks d.base) (mark Colon) (name_toks d.name)
-        (notes_toks d.notes) (value_toks d.value) (mark Semicolon) rest)
-        ∙ decl_begun m d.length d.is_var d.base (Marked Colon ∷ (Word d.name
-        ∷ (notes_toks d.notes ++ (value_toks d.value ++ (Marked Semicolon ∷ rest))))) is.base;
+    begun = λ d rest is. simp append_assoc (decl_begun m d.length d.is_var d.base (Marked Colon
+        ∷ (Word d.name ∷ (notes_toks d.notes ++ (value_toks d.value ++ (Marked Semicolon ∷ rest)))))
+        is.base);
   }
 
   -- ---- constraints and the solve item
@@ -399,6 +375,7 @@ module _ (l m : Limits) (allow : Allow l m) where
       → tree_at m (toks t ++ rest) ≡ Ok (t, rest)
   unfolding tree_at
   tree_again t rest is =
+      let P : List TokenValue = flat_map predicate_toks t.predicates in
       let D : List TokenValue = flat_map decl_toks t.decls in
       let C : List TokenValue = flat_map constraint_toks t.constraints in
       let S : List TokenValue = solve_toks t.solve ++ rest in
@@ -412,7 +389,8 @@ module _ (l m : Limits) (allow : Allow l m) where
       (no_item begins_decl refl refl t rest) in
       let constraints =
       items_again constraint_law constraint_again t.constraints S is.constraints refl in
-      ap (tree_at m) (flat4 (flat_map predicate_toks t.predicates) D C (solve_toks t.solve) rest)
+      ap (tree_at m) (append_assoc (P ++ D ++ C) (solve_toks t.solve) rest
+      ∙ append_assoc (P ++ D) C S ∙ append_assoc P D (C ++ S))
       ∙ rw (predicates, decls, constraints, solve_again t.solve rest is.solve) refl
 
   pub tree_of_toks : (t : Tree) → HasShape l t → tree_of m (toks t) ≡ Ok t
@@ -420,12 +398,6 @@ module _ (l m : Limits) (allow : Allow l m) where
   tree_of_toks t is = ap (tree_of m) (sym (append-nil (toks t))) ∙ rw (tree_again t [] is) refl
 
 -- ---- what is read takes a token at least
-
-pub exprs_shrink : (limits : Limits) → Shrinks (any_number (expr_at limits))
-exprs_shrink limits = (unbounded (expr_law limits limits (same limits)) 0).shrinks
-
-pub params_shrink : (limits : Limits) → Shrinks (any_number (param_at limits))
-params_shrink limits = (unbounded (param_law limits limits (same limits)) 0).shrinks
 
 pub predicates_shrink : (limits : Limits) → Shrinks (any_number (predicate_at limits))
 predicates_shrink limits = (unbounded (predicate_law limits limits (same limits)) 0).shrinks

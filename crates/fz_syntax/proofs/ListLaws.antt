@@ -1,8 +1,7 @@
 -- The laws of parts one after another and of lists with commas follow from those of their elements.
 use Rattle.std.proofs.Common.{◌≡◌, ℕ, zero, suc, ◌+◌, ◌≤◌, ◌<◌, Bool, true, false, eqb, List, [], ◌∷◌, ◌++◌, length, drop, Ok, ⊎_elim, refl, sym, ap, subst, ◌∙◌, append_assoc, arith, length-append, ◌||◌, nat_le}
 use Rattle.std.specs.List.{flat_map, AllByRecursion}
-use Rattle.std.proofs.lemmas.Bool.{eq-eqb, cases_Bool}
-use Rattle.std.proofs.lemmas.Bool.Decides.{nat_tests}
+use Rattle.std.proofs.lemmas.Bool.{eq-eqb, leb-false, lt-leb, cases_Bool}
 use Rattle.std.specs.Str.{bytes_eq}
 use Rattle.std.proofs.lemmas.Slice.Eq.{bytes_eq-Decides}
 use Rattle.std.proofs.lemmas.List.Concat.{flat_map-cons}
@@ -229,12 +228,6 @@ some_tokens : (begins : TokenValue → Bool) (ts : List TokenValue)
 some_tokens begins [] h = absurd cc
 some_tokens begins (t ∷ ts) h = omega arith
 
-room : (limit i : ℕ) → nat_le limit i ≡ false → i < limit
-room limit i e = grind (arith, nat_tests)
-
-no_room : (limit i : ℕ) → i < limit → nat_le limit i ≡ false
-no_room limit i lt = grind (arith, nat_tests)
-
 abbrev pub AtMost : {A : Type 0} → ℕ → (A → Type 0) → List A → Type 0
 AtMost limit Is xs = (length xs ≤ limit) × AllByRecursion Is xs
 
@@ -268,13 +261,13 @@ module _ {A : Type 0} {begins : TokenValue → Bool} {toks : A → List TokenVal
       → Takes toks (λ x. (i < limit) × Is x) (at_most limit read i)
   bounded_takes limit i tokens x e = choose (nat_le limit i) _ _ e (λ full f. refused f)
       (λ free f. let t = law.takes tokens x f in
-      record { parts = t.parts; fits = (room limit i free, t.fits) })
+      record { parts = t.parts; fits = (leb-false limit i free, t.fits) })
 
   pub bounded : (limit : ℕ) → Elements begins toks Less limit (at_most limit read)
   bounded limit = record {
     shrinks = λ i tokens x rest e. choose (nat_le limit i) _ _ e (λ full f. refused f)
         (λ free f. shortens tokens x rest f);
-    again = λ i x rest lt is ends. rw (no_room limit i lt) (law.again x rest is ends);
+    again = λ i x rest lt is ends. rw (lt-leb limit i lt) (law.again x rest is ends);
     begun = λ x rest is. law.begun x rest (fits_more x is);
   }
 

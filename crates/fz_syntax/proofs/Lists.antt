@@ -64,7 +64,7 @@ many_ends more part i (t ∷ ts) wanted = rw wanted refl
 abbrev pub with_front : {A : Type 0} → List A → Read (List A) → Read (List A)
 with_front front read = read >>= λ x. Ok (front ++ x.0, x.1)
 
-regroup : {A : Type 0} (front : List A) (x : A) (read : Read (List A))
+pub regroup : {A : Type 0} (front : List A) (x : A) (read : Read (List A))
     → with_front front (put_first x read) ≡ with_front (front ++ x ∷ []) read
 regroup front x (Ok y) = ap (λ xs. Ok (xs, y.1)) (simp append_assoc)
 regroup front x (Err f) = refl

@@ -1,12 +1,11 @@
 -- Tokens have one tree, whatever its size: it is read from them under limits that are large enough.
-use Rattle.std.proofs.Common.{◌≡◌, ◌+◌, List, Result, Ok, Err, sym, ap, ◌∙◌, arith, ℕ}
-use Rattle.std.specs.Prelude.{IfOk}
+use Rattle.std.proofs.Common.{◌≡◌, ◌+◌, List, Result, Ok, sym, ap, ◌∙◌, arith, ℕ}
 use Rattle.std.specs.List.{AllByRecursion}
-use Rattle.fz_tree.specs.of_lex.declared.error.SyntaxError.{SyntaxError}
+use Rattle.fz_tree.specs.of_lex.Token.{TokenValue}
 use Rattle.fz_tree.specs.Tree.{Tree, Printed}
 use Rattle.fz_tree.specs.Tokens.{toks, itoks}
 use Rattle.fz_tree.specs.of_lex.declared.limits.Limits.{Limits}
-use Rattle.fz_tree.specs.Text.{HasShape, IsTree, IsPrinted, IsTextOfTreeWithin, IsTextOfItemsWithin}
+use Rattle.fz_tree.specs.Text.{HasShape, IsPrinted, IsTextOfTreeWithin, IsTextOfItemsWithin}
 use Rattle.fz_syntax.specs.Reading.{Fault, tree_of}
 use Rattle.fz_syntax.specs.ReadingItems.{items_of}
 use Rattle.fz_syntax.proofs.ExprLaws.{Allow}
@@ -29,42 +28,22 @@ first_allowed l m = record { elements = omega arith; size = omega arith; depth =
 second_allowed : (l m : Limits) → Allow m (sum_of l m)
 second_allowed l m = record { elements = omega arith; size = omega arith; depth = omega arith }
 
-one_value : {A : Type 0} (x y : A) (read : Result A Fault) → read ≡ Ok x → read ≡ Ok y → x ≡ y
-one_value x y read e f = cc
-
--- trees with the same tokens are equal
-same_tree : (l m : Limits) (t u : Tree) → HasShape l t → HasShape m u → toks t ≡ toks u → t ≡ u
-same_tree l m t u is are e =
+-- values with the same tokens are equal
+same_read : {A : Type 0} (toks : A → List TokenValue) (Is : Limits → A → Type 0)
+    (read : Limits → List TokenValue → Result A Fault)
+    → ((l m : Limits) → Allow l m → (x : A) → Is l x → read m (toks x) ≡ Ok x)
+    → (l m : Limits) (x y : A) → Is l x → Is m y → toks x ≡ toks y → x ≡ y
+same_read toks Is read again l m x y is are e =
     let n = sum_of l m in
-    one_value t u (tree_of n (toks u))
-    (ap (tree_of n) (sym e) ∙ tree_of_toks l n (first_allowed l m) t is)
-    (tree_of_toks m n (second_allowed l m) u are)
+    let one : read n (toks y) ≡ Ok x = ap (read n) (sym e) ∙ again l n (first_allowed l m) x is in
+    let other = again m n (second_allowed l m) y are in cc
 
-pub same_of_tree : {X : Type 0} (view : X → Tree) (limits : Limits) (source : List ℕ)
-    (result : Result X SyntaxError)
-    → IfOk result (λ a. IsTextOfTreeWithin limits source (view a)) → IfOk result
-    (λ a. (any : Limits) (t : Tree) → IsTree any t → toks t ≡ toks (view a) → t ≡ view a)
-same_of_tree view limits source (Ok a) found = λ any t is e.
-    same_tree any limits t (view a) is.shape found.of_grammar.shape e
-same_of_tree view limits source (Err e) found = tt
+pub same_tree : (l m : Limits) (t u : Tree) → HasShape l t → HasShape m u → toks t ≡ toks u → t ≡ u
+same_tree = same_read toks HasShape tree_of tree_of_toks
 
--- items with the same tokens are equal
-same_items : (l m : Limits) (ps qs : List Printed) → AllByRecursion (IsPrinted l) ps
+pub same_items : (l m : Limits) (ps qs : List Printed) → AllByRecursion (IsPrinted l) ps
     → AllByRecursion (IsPrinted m) qs → itoks ps ≡ itoks qs → ps ≡ qs
-same_items l m ps qs is are e =
-    let n = sum_of l m in
-    one_value ps qs (items_of n (itoks qs))
-    (ap (items_of n) (sym e) ∙ items_of_toks l n (first_allowed l m) ps is)
-    (items_of_toks m n (second_allowed l m) qs are)
-
-pub same_of_items : {X : Type 0} (view : X → List Printed) (limits : Limits) (source : List ℕ)
-    (result : Result X SyntaxError)
-    → IfOk result (λ a. IsTextOfItemsWithin limits source (view a))
-    → IfOk result (λ a. (any : Limits) (others : List Printed)
-    → AllByRecursion (IsPrinted any) others → itoks others ≡ itoks (view a) → others ≡ view a)
-same_of_items view limits source (Ok a) found = λ any others are e.
-    same_items any limits others (view a) are found.of_grammar e
-same_of_items view limits source (Err e) found = tt
+same_items = same_read itoks (λ limits. AllByRecursion (IsPrinted limits)) items_of items_of_toks
 
 -- ---- one tree of a text
 

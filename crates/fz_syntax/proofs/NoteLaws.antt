@@ -1,39 +1,25 @@
 -- The laws of annotations.
 use Rattle.std.proofs.Common.{◌≡◌, ℕ, zero, suc, ◌≤◌, Bool, true, false, cond, List, [], ◌∷◌, ◌++◌, length, drop, Ok, refl, sym, ap, subst, ◌∙◌, append_assoc, arith, ◌||◌}
 use Rattle.std.specs.List.{AllByRecursion}
-use Rattle.std.proofs.lemmas.List.Concat.{flat_map-cons}
-use Rattle.fz_tree.specs.of_lex.declared.token.Mark.TheVariants.{OpenParen, CloseParen, OpenBracket, CloseBracket, Comma, ColonColon}
+use Rattle.fz_tree.specs.of_lex.declared.token.Mark.TheVariants.{OpenParen, CloseParen, OpenBracket, CloseBracket, ColonColon}
 use Rattle.fz_tree.specs.of_lex.Token.{TokenValue, FloatText, StringText, Marked}
 use Rattle.fz_tree.specs.Tree.{Literal, Truth, Note, Called, NoteArgs, NoMoreArgs, MoreArgs, NoteArg, OneBasic, ListOf, NoteBasics, NoMoreBasics, MoreBasics, NoteBasic, NoteLiteral, NoteFloat, NoteString, Inner}
-use Rattle.fz_tree.specs.Tokens.{mark, literal_toks, in_parens, in_brackets, note_toks, args_toks, more_args_toks, arg_toks, basics_toks, more_basics_toks, note_basic_toks, notes_toks, separated, after_commas}
+use Rattle.fz_tree.specs.Tokens.{mark, literal_toks, in_parens, in_brackets, note_toks, args_toks, arg_toks, basics_toks, note_basic_toks, notes_toks, separated}
 use Rattle.fz_tree.specs.View.{arg_list, basic_list}
 use Rattle.fz_tree.specs.of_lex.declared.limits.Limits.{Limits}
 use Rattle.fz_tree.specs.Text.{IsNote, AreArgs, IsArg, AreBasics, IsNoteBasic, AreNotes, count_basics}
-use Rattle.fz_syntax.specs.Reading.{Reader, ◌>>=◌, is_mark, next_passes, next_is, after_token, any_number, at_most, is_name, literal_at, note_at, note_args_at, note_arg_at, note_list_at, note_basic_at, notes_at}
-use Rattle.fz_syntax.proofs.Lists.{Shrinks}
+use Rattle.fz_syntax.specs.Reading.{Reader, ◌>>=◌, is_mark, next_passes, next_is, after_token, any_number, is_name, literal_at, note_at, note_args_at, note_arg_at, note_basic_at, notes_at}
 use Rattle.fz_syntax.proofs.Separated.{Shrinks-after_token}
 use Rattle.fz_syntax.proofs.Laws.{Takes, Split, ◌⟫◌, step, made, choose, refused, first, none, marked, mark_takes, mark_again, split_of}
 use Rattle.fz_syntax.proofs.ListLaws.{Law, Ends, no_args, apart, fits_more, bounded, unbounded, list_again, separated_takes, separated_again, bounded_list_takes, all_of, many_takes, many_again}
 use Rattle.fz_syntax.proofs.ExprLaws.{begins_literal, Allow, same, name_takes, name_again, literal_law, literal_begun, literal_no_name, first_of_two, second_of_two}
+use Rattle.fz_tree.proofs.PrintSteps.{more_args_are, more_basics_are}
 
 -- ---- lists of parts, as a tree of annotations holds them
-
-more_args_are : (args : List NoteArg) → more_args_toks (arg_list args) ≡ after_commas arg_toks args
-more_args_are [] = refl
-more_args_are (a ∷ rest) =
-    ap (λ (ys : List TokenValue). (Marked Comma ∷ arg_toks a) ++ ys) (more_args_are rest)
-    ∙ sym (flat_map-cons (λ x. Marked Comma ∷ arg_toks x) a rest)
 
 args_are : (a : NoteArg) (args : List NoteArg)
     → args_toks (arg_list (a ∷ args)) ≡ in_parens (separated arg_toks (a ∷ args))
 args_are a args = ap (λ (ys : List TokenValue). in_parens (arg_toks a ++ ys)) (more_args_are args)
-
-more_basics_are : (bs : List NoteBasic)
-    → more_basics_toks (basic_list bs) ≡ after_commas note_basic_toks bs
-more_basics_are [] = refl
-more_basics_are (b ∷ rest) =
-    ap (λ (ys : List TokenValue). (Marked Comma ∷ note_basic_toks b) ++ ys) (more_basics_are rest)
-    ∙ sym (flat_map-cons (λ x. Marked Comma ∷ note_basic_toks x) b rest)
 
 basics_are : (bs : List NoteBasic) → basics_toks (basic_list bs) ≡ separated note_basic_toks bs
 basics_are [] = refl
@@ -182,7 +168,7 @@ module _ (l m : Limits) (allow : Allow l m) (d e : ℕ) (inner : Reader Note)
   }
 
   note_arg_takes : Takes arg_toks (λ a. IsArg a m e) (note_arg_at m e inner)
-  unfolding note_arg_at note_list_at
+  unfolding note_arg_at
   note_arg_takes tokens x f = choose (next_is OpenBracket tokens) _ _ f
       (λ bracket g.
       let bs = step _ (bounded_list_takes note_basic_law m.elements CloseBracket
@@ -198,7 +184,7 @@ module _ (l m : Limits) (allow : Allow l m) (d e : ℕ) (inner : Reader Note)
   note_list_again : (bs : List NoteBasic) (rest : List TokenValue)
       → IsArg (ListOf (basic_list bs)) l d → note_arg_at m e inner
       (arg_toks (ListOf (basic_list bs)) ++ rest) ≡ Ok (ListOf (basic_list bs), rest)
-  unfolding note_arg_at note_list_at
+  unfolding note_arg_at
   note_list_again bs rest is =
       let again = list_again (bounded note_basic_law m.elements) CloseBracket refl refl
       (never_closes e) bs rest (omega (arith, is.0, count_are bs, allow.elements))
@@ -337,21 +323,3 @@ module _ (l m : Limits) (allow : Allow l m) where
       (is_mark ColonColon) (after_token (any_number (note_at m m.depth)))
       (Shrinks-after_token _ each.shrinks) (length notes) each.again
       (λ n ts it. refl) (λ n ts it. refl) 0 notes rest (omega arith) are ends over
-
--- ---- what is read takes a token at least
-
-pub note_list_shrinks : (limits : Limits) (depth : ℕ) → Shrinks (at_most limits.elements
-    (note_basic_at limits (note_at limits depth)))
-note_list_shrinks limits depth =
-    let law = note_law limits limits (same limits) depth depth (omega arith) in
-    (bounded (note_basic_law limits limits (same limits) depth depth _ law) limits.elements).shrinks
-
-pub note_args_shrink : (limits : Limits) (depth : ℕ)
-    → Shrinks (any_number (note_arg_at limits depth (note_at limits depth)))
-note_args_shrink limits depth =
-    let law = note_law limits limits (same limits) depth depth (omega arith) in
-    (unbounded (note_arg_law limits limits (same limits) depth depth _ law) 0).shrinks
-
-pub notes_shrink : (limits : Limits) (depth : ℕ) → Shrinks (any_number (note_at limits depth))
-notes_shrink limits depth =
-    (unbounded (note_law limits limits (same limits) depth depth (omega arith)) 0).shrinks

@@ -6,9 +6,9 @@ use Rattle.std.specs.List.{flat_map}
 use Rattle.std.proofs.lemmas.List.{append-nil}
 use Rattle.fz_tree.specs.of_lex.Ahead.{tokens_ahead}
 use Rattle.fz_tree.specs.of_lex.Left.{left, source_of}
-use Rattle.fz_tree.specs.of_lex.Lexing.{SpannedToken, LexesToSpanned, AreWithinLimit, LexesWithin}
+use Rattle.fz_tree.specs.of_lex.Lexing.{SpannedToken, LexesToSpanned, LexesWithin}
 use Rattle.fz_tree.specs.of_lex.declared.limits.Limits.{Limits}
-use Rattle.fz_tree.specs.of_lex.View.{IsLexicalFaultWithin, IsPlacedWithin, spanned}
+use Rattle.fz_tree.specs.of_lex.View.{IsLexicalFaultWithin, IsPlacedWithin, spanned, AreWithinLimit}
 use Rattle.fz_tree.specs.of_lex.declared.ahead.Tokens.{Tokens}
 use Rattle.fz_tree.specs.of_lex.declared.token.Token.{Token}
 use Rattle.fz_tree.specs.of_lex.Token.{TokenValue}
@@ -100,7 +100,7 @@ still {R} {B} part old new tokens upto end =
     (record {
       end = end;
       taken = [];
-      walked = walk_still old.parser new (ap left tokens) upto (ap source_of tokens);
+      walked = walk_still old.parser new (ap left tokens) upto (ap source_of tokens) end;
       read = ap (λ (ts : Tokens). part.read old.limits (map (λ t. t.token) (left ts))) (sym tokens) ∙ sym (changed_same (part.read old.limits (lexemes new)));
       bares = λ r. refl;
       places = λ r. refl;

@@ -4,7 +4,8 @@ use Rattle.std.specs.Prelude.{MatchResult}
 use Rattle.std.specs.List.{All, AllByRecursion}
 use Rattle.std.proofs.lemmas.List.Elements.{All-from_recursion}
 use Rattle.fz_tree.specs.of_lex.Token.{TokenValue, IsTokenText}
-use Rattle.fz_tree.specs.of_lex.Lexing.{SpannedToken, LexesToSpanned, nothing, AreWithinLimit, IsTextOfTokensWithin}
+use Rattle.fz_tree.specs.of_lex.Lexing.{SpannedToken, LexesToSpanned, nothing, IsTextOfTokensWithin}
+use Rattle.fz_tree.specs.of_lex.View.{AreWithinLimit}
 use Rattle.fz_tree.specs.of_lex.declared.limits.Limits.{Limits}
 use Rattle.fz_tree.specs.of_lex.Found.{AreInOrder}
 use Rattle.fz_tree.specs.of_lex.Ahead.{tokens_ahead}
@@ -23,7 +24,7 @@ use Rattle.fz_syntax.specs.ReadingItems.{items_of, items_at}
 use Rattle.fz_syntax.specs.Outcome.{IsWhole}
 use Rattle.fz_tree.specs.Refusals.{IsValue}
 use Rattle.fz_syntax.specs.Walk.{ahead, lexemes}
-use Rattle.fz_syntax.proofs.Whole.{found_of, only_of}
+use Rattle.fz_syntax.proofs.Whole.{only_of, is_found}
 use Rattle.fz_syntax.proofs.ExprLaws.{same}
 use Rattle.fz_syntax.proofs.ItemLaws.{tree_takes, tree_of_toks}
 use Rattle.fz_syntax.proofs.PrintedLaws.{items_takes, items_of_toks}
@@ -59,8 +60,7 @@ module _ (limits : Limits) (source : List ℕ) (p : Parser) (all : ahead p ≡ t
       → tree_of limits (lexemes p) ≡ Ok t → IsTextOfTreeWithin limits source t
   unfolding tree_of
   tree_found t short lexes numbers read =
-      let result : Result Tree SyntaxError = Ok t in
-      let h = found_of (λ (u : Tree). u) toks (HasShape limits) (tree_at limits) (tree_takes _ _ (same limits)) result (lexemes p) read in
+      let h = is_found toks (HasShape limits) (tree_at limits) (tree_takes _ _ (same limits)) (lexemes p) t read in
       record {
         lexes = text_of (toks t) short lexes numbers h.1;
         of_grammar = record { shape = h.0; texts = subst (AllByRecursion IsTokenText) (seen (toks t) h.1) (of_values (tokens_ahead source 0) (words_are_words source (tokens_ahead source 0) lexes)) };
@@ -78,8 +78,7 @@ module _ (limits : Limits) (source : List ℕ) (p : Parser) (all : ahead p ≡ t
       → IsTextOfItemsWithin limits source (bare_items v.items)
   unfolding items_of
   items_found v short lexes numbers read =
-      let result : Result (Vec Item Global) SyntaxError = Ok v in
-      let h = found_of (λ (x : Vec Item Global). bare_items x.items) itoks (AllByRecursion (IsPrinted limits)) (items_at limits) (items_takes _ _ (same limits)) result (lexemes p) read in
+      let h = is_found itoks (AllByRecursion (IsPrinted limits)) (items_at limits) (items_takes _ _ (same limits)) (lexemes p) (bare_items v.items) read in
       record { lexes = text_of (itoks (bare_items v.items)) short lexes numbers h.1; of_grammar = h.0 }
 
   -- items of which the source is a text are those that were read

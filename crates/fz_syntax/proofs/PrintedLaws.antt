@@ -10,15 +10,13 @@ use Rattle.fz_tree.specs.of_lex.Token.{TokenValue, Word, Marked}
 use Rattle.fz_tree.specs.Tree.{Literal, Truth, PrintedValue, OneValue, ArrayOf, Printed}
 use Rattle.fz_tree.specs.of_lex.declared.limits.Limits.{Limits}
 use Rattle.fz_tree.specs.Text.{IsLiteral, IsBounds, IsPrintedValue, IsPrinted}
-use Rattle.fz_tree.specs.Tokens.{mark, word, name_toks, literal_toks, separated, array_word, printed_value_toks, printed_toks, itoks}
-use Rattle.fz_syntax.specs.Reading.{is_name, any_number, at_most, literal_at, ended}
-use Rattle.fz_syntax.specs.ReadingItems.{dimensions_of, next_dimensions, index_set_at, index_sets_at, elements_at, printed_array_at, printed_value_at, printed_at, items_at, items_of}
-use Rattle.fz_syntax.proofs.Lists.{Shrinks}
+use Rattle.fz_tree.specs.Tokens.{mark, word, literal_toks, separated, array_word, printed_value_toks, printed_toks, itoks}
+use Rattle.fz_syntax.specs.Reading.{is_name, ended}
+use Rattle.fz_syntax.specs.ReadingItems.{dimensions_of, next_dimensions, index_set_at, index_sets_at, printed_array_at, printed_value_at, printed_at, items_at, items_of}
 use Rattle.fz_syntax.proofs.Laws.{Took, Takes, Split, ◌⟫◌, step, next, made, choose, none, mark_takes, mark_again}
-use Rattle.fz_syntax.proofs.ListLaws.{Law, Ends, AtMost, bounded, unbounded, flat_map_first, cons_first, list_again, bounded_list_takes, items_take, items_again}
-use Rattle.fz_syntax.proofs.ExprLaws.{Allow, same, name_takes, name_again, literal_law}
+use Rattle.fz_syntax.proofs.ListLaws.{Law, Ends, AtMost, bounded, flat_map_first, cons_first, list_again, bounded_list_takes, items_take, items_again}
+use Rattle.fz_syntax.proofs.ExprLaws.{Allow, name_takes, name_again, literal_law}
 use Rattle.fz_syntax.proofs.TypeLaws.{bounds_takes, bounds_again}
-use Rattle.fz_syntax.proofs.ItemLaws.{flat4}
 
 -- ---- the word of an array
 
@@ -127,20 +125,6 @@ module _ (l m : Limits) (allow : Allow l m) where
         index_sets_again xs rest are.1,
       ) refl
 
-  -- ---- elements
-
-  elements_take : Takes (λ xs. separated literal_toks xs ++ mark CloseBracket)
-      (AtMost m.elements (IsLiteral m)) (elements_at m)
-  unfolding elements_at
-  elements_take = bounded_list_takes (literal_law l m allow) m.elements CloseBracket
-
-  elements_again : (xs : List Literal) (rest : List TokenValue) → AtMost l.elements (IsLiteral l) xs
-      → elements_at m ((separated literal_toks xs ++ mark CloseBracket) ++ rest) ≡ Ok (xs, rest)
-  unfolding elements_at
-  elements_again xs rest are =
-      list_again (bounded (literal_law l m allow) m.elements) CloseBracket refl refl refl xs rest
-      (omega (arith, are.0, allow.elements)) are.1
-
   -- ---- values
 
   printed_array_takes : (n : ℕ) (tokens : List TokenValue) (x : PrintedValue × List TokenValue)
@@ -151,7 +135,8 @@ module _ (l m : Limits) (allow : Allow l m) where
       next _ (mark_takes OpenParen tokens) e (λ opened.
       next _ (index_sets_take n opened.left) opened.on (λ indexes.
       next _ (mark_takes OpenBracket indexes.left) indexes.on (λ bracket.
-      next _ (elements_take bracket.left) bracket.on (λ elements.
+      next _ (bounded_list_takes (literal_law l m allow) m.elements CloseBracket bracket.left)
+      bracket.on (λ elements.
       next _ (mark_takes CloseParen elements.left) elements.on (λ closed.
       let count : length indexes.value ≡ n = indexes.fits.0 in
       let worded : Split (Word (array_word n) ∷ tokens)
@@ -184,7 +169,8 @@ module _ (l m : Limits) (allow : Allow l m) where
         mark_again OpenParen (I ++ (Marked OpenBracket ∷ Y)),
         index_sets_again xs (Marked OpenBracket ∷ Y) sets,
         mark_again OpenBracket Y,
-        elements_again es (Marked CloseParen ∷ rest) elements,
+        list_again (bounded (literal_law l m allow) m.elements) CloseBracket refl refl refl es
+            (Marked CloseParen ∷ rest) (omega (arith, elements.0, allow.elements)) elements.1,
         mark_again CloseParen rest,
       ) refl
 
@@ -218,13 +204,12 @@ module _ (l m : Limits) (allow : Allow l m) where
   printed_again p rest is =
       let V : List TokenValue = printed_value_toks p.value in
       let Z : List TokenValue = Marked Semicolon ∷ rest in
-      ap (printed_at m) (flat4 (name_toks p.name) (mark Equals) V (mark Semicolon) rest)
-      ∙ rw (
+      simp append_assoc (rw (
         name_again p.name (Marked Equals ∷ (V ++ Z)) is.name,
         mark_again Equals (V ++ Z),
         printed_value_again p.value Z is.value refl,
         mark_again Semicolon rest,
-      ) refl
+      ) refl)
 
   pub printed_law : Law is_name printed_toks (IsPrinted l) (IsPrinted m) (printed_at m)
   printed_law = record {
@@ -242,12 +227,3 @@ module _ (l m : Limits) (allow : Allow l m) where
   unfolding items_of items_at ended
   items_of_toks ps are = ap (items_of m) (sym (append-nil (itoks ps)))
       ∙ rw (items_again printed_law printed_again ps [] are refl) refl
-
--- ---- what is read takes a token at least
-
-pub elements_shrink : (limits : Limits)
-    → Shrinks (at_most limits.elements (literal_at limits))
-elements_shrink limits = (bounded (literal_law limits limits (same limits)) limits.elements).shrinks
-
-pub printed_shrink : (limits : Limits) → Shrinks (any_number (printed_at limits))
-printed_shrink limits = (unbounded (printed_law limits limits (same limits)) 0).shrinks

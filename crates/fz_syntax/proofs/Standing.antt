@@ -3,7 +3,7 @@ use Rattle.std.proofs.Common.{◌≡◌, ◌≤◌, ◌<◌, ℕ, List, [], ◌�
 use Rattle.std.specs.List.{flat_map, AllByRecursion}
 use Rattle.std.specs.Option.{option_or}
 use Rattle.std.proofs.lemmas.List.{append-nil}
-use Rattle.fz_tree.specs.of_lex.Token.{TokenValue, Word, Whole, FloatText, StringText, Marked, Spells}
+use Rattle.fz_tree.specs.of_lex.Token.{TokenValue, Word, Whole, Marked, Spells}
 use Rattle.fz_tree.specs.of_lex.declared.token.Mark.{Mark}
 use Rattle.fz_tree.specs.of_lex.declared.token.Mark.TheVariants.{OpenParen, CloseParen, OpenBracket, CloseBracket, OpenBrace, CloseBrace, DotDot, Comma, Semicolon, Equals}
 use Rattle.fz_tree.specs.of_lex.Lexing.{SpannedToken, LexesToSpanned}
@@ -49,10 +49,7 @@ module _ (source : List ℕ) (upto : ℕ) where
       subst (λ u. Spells u (slice_range source t.start t.end)) (sym same) w in
       sym spelled.0 ∙ ap (λ k. slice_range source k t.end) (sym at)
       ∙ ap (λ k. slice_range source start k) (sym to)
-  word_stands t (Whole z) start end same at to w = tt
-  word_stands t (FloatText x) start end same at to w = tt
-  word_stands t (StringText x) start end same at to w = tt
-  word_stands t (Marked m) start end same at to w = tt
+  word_stands t _ start end same at to w = tt
 
   -- one token more, by what is known of it
   token_stands : (t : SpannedToken) (token : TokenValue) (start end : Option ℕ)
@@ -92,12 +89,11 @@ module _ (source : List ℕ) (upto : ℕ) where
       → Stand source from upto (spots_from begun ps)
   spots_stand [] [] from at begun agree order texts h =
       let earlier : from ≤ at = begun_before from at begun h in omega (arith, earlier, order)
-  spots_stand [] (t ∷ cut) from at begun agree order texts h = absurd agree
-  spots_stand (p ∷ ps) [] from at begun agree order texts h = absurd agree
   spots_stand (p ∷ ps) (t ∷ cut) from at begun agree order texts h =
       token_stands t p.token p.start p.end ps from at begun agree.0.token agree.0.start agree.0.end
       order.0 order.1 texts.0 h
       (λ from next h. spots_stand ps cut from t.end next agree.1 order.2 texts.1 h)
+  spots_stand _ _ from at begun agree order texts h = absurd agree
 
 pub stands_of : (source : List ℕ) (placed : List PlacedToken) → ArePlacedIn source placed
     → Stand source 0 (length source) (spots_from None placed)

@@ -1,18 +1,18 @@
 -- The laws of types.
-use Rattle.std.proofs.Common.{◌≡◌, ℕ, pos, negsuc, ◌≤◌, Bool, true, false, List, [], ◌∷◌, ◌++◌, drop, Option, Some, None, Ok, refl, ap, ◌∙◌, append_assoc, arith, ◌||◌}
+use Rattle.std.proofs.Common.{◌≡◌, ℕ, pos, ◌≤◌, Bool, true, false, List, [], ◌∷◌, ◌++◌, drop, Option, Some, None, Ok, refl, ap, ◌∙◌, append_assoc, arith, ◌||◌}
 use Rattle.std.specs.Prelude.{codes, nat_le, IfSome}
-use Rattle.std.proofs.lemmas.Bool.Decides.{Decides-int_eq, nat_tests}
+use Rattle.std.proofs.lemmas.Bool.{leb-true, le-leb}
+use Rattle.std.proofs.lemmas.Bool.Decides.{Decides-int_eq}
 use Rattle.fz_tree.specs.of_lex.declared.token.Mark.TheVariants.{OpenBracket, CloseBracket, OpenBrace, DotDot}
 use Rattle.fz_tree.specs.of_lex.Token.{TokenValue, Word, Whole, Marked}
-use Rattle.fz_tree.specs.Tree.{Literal, Number, Truth, Range, Braces, Base, BoolBase, IntBase, SetBase}
+use Rattle.fz_tree.specs.Tree.{Literal, Range, Braces, Base, BoolBase, IntBase, SetBase}
 use Rattle.fz_tree.specs.of_lex.declared.limits.Limits.{Limits}
 use Rattle.fz_tree.specs.Text.{IsBounds, IsBase, IsPlain, IsBaseOf, IsAnyIndex, IsParamArray, most_indexes}
 use Rattle.fz_tree.specs.Tokens.{mark, word, literal_toks, separated, in_brackets, bounds_toks, base_toks, var_toks, index_toks, prefix_toks, any_index_toks, param_prefix_toks}
-use Rattle.fz_syntax.specs.Reading.{Reader, ◌>>=◌, is_mark, is_word, is_whole, next_is, next_word, next_passes, at_most, whole_at, mark_at, word_at, range_at, bounds_at, int_at, base_at, plain_at, type_at, is_one, one_at, size_at, index_at, array_at, any_index_at, indexes_at, param_prefix_at, prefix_at, var_at}
-use Rattle.fz_syntax.proofs.Lists.{Shrinks}
+use Rattle.fz_syntax.specs.Reading.{Reader, ◌>>=◌, is_mark, is_word, is_whole, next_is, next_word, next_passes, whole_at, mark_at, word_at, range_at, bounds_at, int_at, base_at, plain_at, type_at, is_one, one_at, size_at, index_at, array_at, any_index_at, param_prefix_at, prefix_at, var_at, listed_index, separated_at}
 use Rattle.fz_syntax.proofs.Laws.{Always, Takes, ◌⟫◌, step, next, made, choose, refused, first, none, marked, worded, split_of, mark_takes, mark_again, word_takes}
 use Rattle.fz_syntax.proofs.ListLaws.{Law, apart_word, bounded, bounded_takes, few_of, separated_takes, separated_again}
-use Rattle.fz_syntax.proofs.ExprLaws.{Allow, same, whole_takes, braces_take, braces_again}
+use Rattle.fz_syntax.proofs.ExprLaws.{Allow, whole_takes, braces_take, braces_again}
 
 -- ---- types without bounds
 
@@ -54,10 +54,9 @@ begins_index t = is_whole t || is_word (codes "int") t
 
 bounds_begun : (limits : Limits) (x : Literal) (rest : List TokenValue) → IsBounds limits x
     → next_passes begins_bounds (literal_toks x ++ rest) ≡ true
-bounds_begun limits (Number n) rest is = absurd is
-bounds_begun limits (Truth b) rest is = absurd is
 bounds_begun limits (Range low high) rest is = refl
 bounds_begun limits (Braces numbers) rest is = refl
+bounds_begun limits _ rest is = absurd is
 
 bounds_no_word : (limits : Limits) (text : List ℕ) (x : Literal) (rest : List TokenValue)
     → IsBounds limits x → next_word text (literal_toks x ++ rest) ≡ false
@@ -123,12 +122,6 @@ array_again toks index x again rest =
     rw (mark_again OpenBracket (inside ++ rest), flat, again after, mark_again CloseBracket after)
     refl
 
-fits_in : (a b : ℕ) → nat_le a b ≡ true → a ≤ b
-fits_in a b e = grind (arith, nat_tests)
-
-in_fits : (a b : ℕ) → a ≤ b → nat_le a b ≡ true
-in_fits a b le = grind (arith, nat_tests)
-
 -- Reading under limits that are no smaller.
 module _ (l m : Limits) (allow : Allow l m) where
   -- ---- bounds
@@ -152,10 +145,9 @@ module _ (l m : Limits) (allow : Allow l m) where
   pub bounds_again : (x : Literal) (rest : List TokenValue) → IsBounds l x
       → bounds_at m (literal_toks x ++ rest) ≡ Ok (x, rest)
   unfolding bounds_at range_at whole_at mark_at
-  bounds_again (Number n) rest is = absurd is
-  bounds_again (Truth b) rest is = absurd is
   bounds_again (Range low high) rest is = refl
   bounds_again (Braces numbers) rest is = braces_again l m allow numbers rest is
+  bounds_again _ rest is = absurd is
 
   int_takes : Takes bounds_toks (λ o. IfSome o (IsBounds m)) (int_at m)
   unfolding int_at
@@ -212,10 +204,8 @@ module _ (l m : Limits) (allow : Allow l m) where
   size_takes : Takes (λ n. Whole (pos n) ∷ []) (λ n. n ≤ m.size) (size_at m)
   unfolding size_at
   size_takes (Whole (pos n) ∷ rest) x e = choose (nat_le n m.size) _ _ e
-      (λ fits f. made f first (fits_in n m.size fits)) (λ large f. refused f)
-  size_takes (Whole (negsuc n) ∷ rest) x e = refused e
-  size_takes [] x e = refused e
-  size_takes (_ ∷ rest) x e = refused e
+      (λ fits f. made f first (leb-true n m.size fits)) (λ large f. refused f)
+  size_takes _ x e = refused e
 
   index_takes : Takes index_toks (λ n. n ≤ m.size) (index_at m)
   unfolding index_at
@@ -229,7 +219,7 @@ module _ (l m : Limits) (allow : Allow l m) where
       → index_at m (index_toks n ++ rest) ≡ Ok (n, rest)
   unfolding index_at one_at mark_at size_at
   index_again n rest fits =
-      let le : n ≤ m.size = omega (arith, fits, allow.size) in rw (in_fits n m.size le) refl
+      let le : n ≤ m.size = omega (arith, fits, allow.size) in rw (le-leb n m.size le) refl
 
   any_index_takes : Takes any_index_toks (IsAnyIndex m) (any_index_at m)
   unfolding any_index_at
@@ -256,8 +246,8 @@ module _ (l m : Limits) (allow : Allow l m) where
     begun = λ o rest is. any_index_begun o rest;
   }
 
-  indexes_takes : Takes (separated any_index_toks) (λ is. IsParamArray m (Some is)) (indexes_at m)
-  unfolding indexes_at
+  indexes_takes : Takes (separated any_index_toks) (λ is. IsParamArray m (Some is))
+      (separated_at (listed_index m))
   indexes_takes tokens x e =
       let t = separated_takes any_index_toks _ _ (bounded_takes any_index_law most_indexes)
       tokens x e in
@@ -265,9 +255,9 @@ module _ (l m : Limits) (allow : Allow l m) where
       record { parts = t.parts; fits = (t.fits.0, omega (arith, few.0), few.1) }
 
   indexes_again : (is : List (Option ℕ)) (rest : List TokenValue) → IsParamArray l (Some is)
-      → indexes_at m (separated any_index_toks is ++ (Marked CloseBracket ∷ rest))
+      → separated_at (listed_index m)
+      (separated any_index_toks is ++ (Marked CloseBracket ∷ rest))
       ≡ Ok (is, Marked CloseBracket ∷ rest)
-  unfolding indexes_at
   indexes_again [] rest are = absurd (omega (arith, are.0))
   indexes_again (i ∷ is) rest are =
       separated_again (bounded any_index_law most_indexes) i is (Marked CloseBracket ∷ rest)
@@ -280,7 +270,7 @@ module _ (l m : Limits) (allow : Allow l m) where
   param_prefix_takes tokens x e = choose (next_word (codes "array") tokens) _ _ e
       (λ word f.
       let array = step _ (array_takes (separated any_index_toks) (λ is. IsParamArray m (Some is))
-      (indexes_at m) indexes_takes (drop 1 tokens)) f in
+      _ indexes_takes (drop 1 tokens)) f in
       made array.on (worded word ⟫ array.parts) array.fits)
       (λ other f. made f none tt)
 
@@ -290,7 +280,7 @@ module _ (l m : Limits) (allow : Allow l m) where
   unfolding param_prefix_at
   param_prefix_again None rest is other = rw other refl
   param_prefix_again (Some indexes) rest is other = ap (λ r. r >>= λ a. Ok (Some a.0, a.1))
-      (array_again (separated any_index_toks) (indexes_at m) indexes
+      (array_again (separated any_index_toks) _ indexes
       (λ ts. indexes_again indexes ts is) rest)
 
   pub prefix_takes : Takes prefix_toks (λ o. IfSome o (λ n. n ≤ m.size)) (prefix_at m)
@@ -309,11 +299,3 @@ module _ (l m : Limits) (allow : Allow l m) where
   prefix_again None rest is other = rw other refl
   prefix_again (Some n) rest is other = rw (array_again index_toks (index_at m) n
       (λ ts. index_again n (Marked CloseBracket ∷ ts) is) rest) refl
-
--- an index set of a list that isn't full
-abbrev pub listed_index : Limits → ℕ → Reader (Option ℕ)
-listed_index limits = at_most most_indexes (any_index_at limits)
-
-pub indexes_shrink : (limits : Limits) → Shrinks (listed_index limits)
-indexes_shrink limits =
-    (bounded (any_index_law limits limits (same limits)) most_indexes).shrinks

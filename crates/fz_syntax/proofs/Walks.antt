@@ -4,7 +4,7 @@ use Rattle.std.proofs.Common.{true, false, ◌≡◌, ◌<◌, ℕ, Bool, List, 
 use Rattle.std.specs.Prelude.{IfOk, if◌then◌else◌, ◌==◌, codes}
 use Rattle.std.specs.List.{flat_map}
 use Rattle.std.specs.Bool.{OnFalse}
-use Rattle.std.proofs.lemmas.List.{append-nil, append_cancel_right, map-append}
+use Rattle.std.proofs.lemmas.List.{append-nil, append_cancel_right, map-append, length-map}
 use Rattle.std.proofs.lemmas.Bool.{eqb-true, cases_Bool}
 use Rattle.std.proofs.lemmas.Grind.{flat_map-append}
 use Rattle.fz_tree.specs.of_lex.of_base.declared.span.Span.{Span}
@@ -32,7 +32,7 @@ use Rattle.fz_tree.specs.declared.tree.NoteArg.{NoteArg}
 use Rattle.fz_tree.specs.declared.tree.NoteBasic.{NoteBasic}
 use Rattle.fz_tree.specs.declared.tree.PrintedValue.{PrintedValue}
 use Rattle.fz_syntax.specs.Placed.{PlacedToken, AgreeWith, unplaced, plain, placed_mark, placed_word, placed_separated, placed_between, starting_at, ending_at, placed_literal, placed_parts, placed_args, placed_arg, placed_note_basic, placed_printed_value}
-use Rattle.fz_syntax.specs.Walk.{ahead, lexemes, start_of, end_of, Consumed, Passed, Walk, placed_listed}
+use Rattle.fz_syntax.specs.Walk.{ahead, lexemes, start_of, end_of, Consumed, Passed, Walk, Passes, Walks, placed_listed}
 use Rattle.fz_syntax.proofs.Laws.{Takes, marked_tokens, worded_tokens, mark_takes, word_takes}
 use Rattle.fz_syntax.proofs.PrintedLaws.{array_tokens}
 
@@ -43,29 +43,29 @@ end_append : (from : ℕ) (xs ys : List SpannedToken)
 end_append from [] ys = refl
 end_append from (x ∷ xs) ys = end_append x.end xs ys
 
+consumed : (p q : Parser) (taken : List SpannedToken) → ahead p ≡ taken ++ ahead q
+    → q.reached ≡ end_of p.reached taken → source_of q.tokens ≡ source_of p.tokens
+    → q.end ≡ p.end → Consumed p q taken
+consumed p q taken split upto same end = record {
+  split = split;
+  upto = upto;
+  same_source = same;
+  shorter = simp length-map (omega (arith, simp length-append at (ap length split)));
+  end = end;
+}
+
 consumed_then : {p q r : Parser} {xs ys : List SpannedToken} → Consumed p q xs → Consumed q r ys
     → Consumed p r (xs ++ ys)
 consumed_then {p} {q} {r} {xs} {ys} a b = record {
   split = a.split ∙ ap (λ (ts : List SpannedToken). xs ++ ts) b.split ∙ sym (append_assoc xs ys (ahead r));
   upto = b.upto ∙ ap (λ (n : ℕ). end_of n ys) a.upto ∙ sym (end_append p.reached xs ys);
   same_source = b.same_source ∙ a.same_source;
-}
-
-consumed_none : (p q : Parser) → ahead q ≡ ahead p → q.reached ≡ p.reached
-    → source_of q.tokens ≡ source_of p.tokens → Consumed p q []
-consumed_none p q left upto same = record { split = sym left; upto = upto; same_source = same }
-
-consumed_one : (p q : Parser) (t : SpannedToken) (rest : List SpannedToken) → ahead p ≡ t ∷ rest
-    → ahead q ≡ rest → q.reached ≡ t.end → source_of q.tokens ≡ source_of p.tokens
-    → Consumed p q (t ∷ [])
-consumed_one p q t rest before after upto same = record {
-  split = before ∙ ap (λ (ts : List SpannedToken). t ∷ ts) (sym after);
-  upto = upto;
-  same_source = same;
+  shorter = omega arith;
+  end = b.end ∙ a.end;
 }
 
 pub passed_none : {p : Parser} → Passed p p
-passed_none {p} = record { taken = []; on = consumed_none p p refl refl refl }
+passed_none {p} = record { taken = []; on = consumed p p [] refl refl refl refl }
 
 pub passed_then : {p q r : Parser} → Passed p q → Passed q r → Passed p r
 passed_then a b = record { taken = a.taken ++ b.taken; on = consumed_then a.on b.on }
@@ -75,8 +75,12 @@ passed w = record { taken = w.taken; on = w.on }
 
 -- the first token is taken
 pub skip_passed : (p q : Parser) (t : SpannedToken) (rest : List SpannedToken) → ahead p ≡ t ∷ rest
-    → ahead q ≡ rest → q.reached ≡ t.end → source_of q.tokens ≡ source_of p.tokens → Passed p q
-skip_passed p q t rest before after upto same = record { taken = t ∷ []; on = consumed_one p q t rest before after upto same }
+    → ahead q ≡ rest → q.reached ≡ t.end → source_of q.tokens ≡ source_of p.tokens
+    → q.end ≡ p.end → Passed p q
+skip_passed p q t rest before after upto same end = record {
+  taken = t ∷ [];
+  on = consumed p q (t ∷ []) (before ∙ ap (λ (ts : List SpannedToken). t ∷ ts) (sym after)) upto same end;
+}
 
 -- ---- and their byte ranges
 
@@ -88,7 +92,7 @@ agree_then (p ∷ s) t [] ys a b = absurd a
 agree_then (p ∷ s) t (x ∷ xs) ys a b = (a.0, agree_then s t xs ys a.1 b)
 
 pub walk_none : {p : Parser} → Walk p p []
-walk_none {p} = record { taken = []; on = consumed_none p p refl refl refl; agree = tt }
+walk_none {p} = record { taken = []; on = consumed p p [] refl refl refl refl; agree = tt }
 
 -- the parser is where it was
 pub walk_same : {p q : Parser} → q ≡ p → Walk p q []
@@ -96,8 +100,8 @@ walk_same {p} {q} same = subst (λ (r : Parser). Walk p r []) (sym same) walk_no
 
 -- it took no token
 pub walk_still : (p q : Parser) → ahead q ≡ ahead p → q.reached ≡ p.reached
-    → source_of q.tokens ≡ source_of p.tokens → Walk p q []
-walk_still p q left upto same = record { taken = []; on = consumed_none p q left upto same; agree = tt }
+    → source_of q.tokens ≡ source_of p.tokens → q.end ≡ p.end → Walk p q []
+walk_still p q left upto same end = record { taken = []; on = consumed p q [] (sym left) upto same end; agree = tt }
 
 -- the parser was where it is now
 pub walk_from : {p q r : Parser} {s : List PlacedToken} → q ≡ p → Walk q r s → Walk p r s
@@ -115,8 +119,8 @@ walk_then {p} {q} {r} {s} {t} w v = record { taken = w.taken ++ v.taken; on = co
 
 -- the parser had the same left to read
 pub walk_as : {p q r : Parser} {s : List PlacedToken} → q.tokens ≡ p.tokens
-    → q.reached ≡ p.reached → Walk q r s → Walk p r s
-walk_as {p} {q} same upto w = walk_then (walk_still p q (ap left same) upto (ap source_of same)) w
+    → q.reached ≡ p.reached → q.end ≡ p.end → Walk q r s → Walk p r s
+walk_as {p} {q} same upto end w = walk_then (walk_still p q (ap left same) upto (ap source_of same) end) w
 
 pub walk_end : {p q r : Parser} {s : List PlacedToken} → Walk p q s → Walk q r [] → Walk p r s
 walk_end {p} {q} {r} {s} w v = subst (λ (t : List PlacedToken). Walk p r t) (append-nil s) (walk_then w v)
@@ -201,11 +205,9 @@ array_word_walk {p} {q} n some found left w =
 pub array_walk : {p q : Parser} (r : Parser) (n : ℕ) (result : Result PrintedValue Refusal)
     → Walk p q (placed_word (array_word n)) → IfOk result
     (λ v. placed_printed_value v ≡ placed_word (array_word n) ++ drop 1 (placed_printed_value v))
-    → IfOk result (λ v. Walk q r (drop 1 (placed_printed_value v))) → IfOk result (λ v. Walk p r (placed_printed_value v))
+    → Walks q r result (λ v. drop 1 (placed_printed_value v)) → Walks p r result placed_printed_value
 array_walk {p} {q} r n (Ok v) w worded behind = subst (λ (s : List PlacedToken). Walk p r s) (sym worded) (walk_then w behind)
-array_walk r n (Err e) w worded behind = tt
-
--- ---- names
+array_walk r n (Err e) w worded behind = record { shorter = omega (arith, w.on.shorter); end = behind.end ∙ w.on.end }
 
 -- ---- literals
 
@@ -239,18 +241,18 @@ literal_walk {p} {q} l w tokens at upto =
 
 pub read_literal : (p q : Parser) (Is : tree.Literal → Type 0) (read : Reader tree.Literal)
     → Takes literal_toks Is read → (result : Result Literal Refusal) (start : ℕ)
-    → Gives bare_literal result (read (lexemes p)) (lexemes q) → start ≡ start_of (ahead p) p.end
-    → IfOk result (λ l. Passed p q) → IfOk result (λ l. (l.span.start ≡ start) × (l.span.end ≡ q.reached)) → IfOk result (λ l. Walk p q (placed_literal l))
+    → Gives p q result bare_literal read → start ≡ start_of (ahead p) p.end → Passes p q result
+    → IfOk result (λ l. (l.span.start ≡ start) × (l.span.end ≡ q.reached)) → Walks p q result placed_literal
 read_literal p q Is read takes (Ok l) start given at w span = literal_walk l w (takes (lexemes p) (bare_literal l, lexemes q) given).parts (span.0 ∙ at) span.1
-read_literal p q Is read takes (Err e) start given at w span = tt
+read_literal p q Is read takes (Err e) start given at w span = w
 
 -- the first two tokens are taken, a literal of one token and the comma behind it
 pub listed_pair : (p q : Parser) (l : Listed) → ahead p ≡ spanned l.token
     ∷ (listed_comma l ∷ ahead q) → q.reached ≡ l.comma.end → source_of q.tokens ≡ source_of p.tokens
-    → Walk p q (placed_listed (lexeme l.token) l.token.span)
-listed_pair p q l before upto same = record {
+    → q.end ≡ p.end → Walk p q (placed_listed (lexeme l.token) l.token.span)
+listed_pair p q l before upto same end = record {
   taken = spanned l.token ∷ (listed_comma l ∷ []);
-  on = record { split = before; upto = upto; same_source = same };
+  on = consumed p q (spanned l.token ∷ (listed_comma l ∷ [])) before upto same end;
   agree = (record { token = refl; start = refl; end = refl }, (record { token = refl; start = tt; end = tt }, tt));
 }
 

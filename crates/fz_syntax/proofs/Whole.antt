@@ -1,6 +1,5 @@
 -- All of the tokens: what is read of them is of the grammar, spelled by them, and only that.
 use Rattle.std.proofs.Common.{ℕ, ◌≡◌, ◌∙◌, ◌<◌, List, [], ◌∷◌, length, Result, Ok, Err, ap, arith}
-use Rattle.std.specs.Prelude.{IfOk}
 use Rattle.std.proofs.lemmas.List.{append-nil}
 use Rattle.fz_tree.specs.of_lex.declared.error.SyntaxError.{SyntaxError}
 use Rattle.fz_tree.specs.of_lex.declared.error.SyntaxError.TheVariants as errors
@@ -35,35 +34,21 @@ refused_more view r e read tokens (t ∷ rest) x found some of =
 ends_whole : {A : Type 0} (r : Read A) (x : A) → whole r ≡ Ok x → r ≡ Ok (x, [])
 unfolding ended
 ends_whole {A} (Ok (y, [])) x e = let same : y ≡ x = cc in ap (λ (z : A). Ok (z, [])) same
-ends_whole (Ok (y, t ∷ rest)) x e = absurd cc
-ends_whole (Err f) x e = absurd cc
+ends_whole _ x e = absurd cc
 
 -- what is read of all of the tokens is of the grammar within the limits, and these are its tokens
-is_found : {A : Type 0} (toks : A → List TokenValue) (Is : A → Type 0) (read : Reader A)
+pub is_found : {A : Type 0} (toks : A → List TokenValue) (Is : A → Type 0) (read : Reader A)
     → Takes toks Is read → (tokens : List TokenValue) (x : A) → whole (read tokens) ≡ Ok x
     → Is x × (tokens ≡ toks x)
 is_found toks Is read takes tokens x e =
     let t = takes tokens (x, []) (ends_whole (read tokens) x e) in
     (t.fits, t.parts ∙ append-nil (toks x))
 
-pub found_of : {X A : Type 0} (view : X → A) (toks : A → List TokenValue) (Is : A → Type 0)
-    (read : Reader A) → Takes toks Is read → (result : Result X SyntaxError)
-    (tokens : List TokenValue) → IsWhole view result (whole (read tokens))
-    → IfOk result (λ x. Is (view x) × (tokens ≡ toks (view x)))
-found_of view toks Is read takes (Ok x) tokens e = is_found toks Is read takes tokens (view x) e
-found_of view toks Is read takes (Err e) tokens h = tt
-
-same_ok : {A : Type 0} (x y : A) (read : Result A Fault) → read ≡ Ok x → read ≡ Ok y → x ≡ y
-same_ok x y read e f = cc
-
-no_fault : {A : Type 0} (f : Fault) (y : A) (read : Result A Fault) → read ≡ Err f → read ≡ Ok y → ⊥
-no_fault f y read e g = cc
-
 value_of : {X A : Type 0} (view : X → A) (result : Result X SyntaxError) (read : Result A Fault)
     (m : A) → IsWhole view result read → read ≡ Ok m → IsValue view result m
-value_of view (Ok x) read m e f = same_ok (view x) m read e f
+value_of view (Ok x) read m e f = let same : view x ≡ m = cc in same
 value_of view (Err errors.Memory) read m h f = tt
-value_of view (Err _) read m h f = no_fault tt m read h.1 f
+value_of view (Err _) read m h f = let fails = h.1 in absurd cc
 
 -- what is of the grammar within the limits and has these tokens is what is given
 pub only_of : {X A : Type 0} (view : X → A) (toks : A → List TokenValue) (Is : A → Type 0)

@@ -5,6 +5,7 @@ use Rattle.fz_tree.specs.of_lex.declared.error.SyntaxError.{SyntaxError}
 use Rattle.fz_tree.specs.of_lex.declared.error.SyntaxError.TheVariants as errors
 use Rattle.fz_syntax.specs.declared.parser.refusal.Refusal.{Refusal}
 use Rattle.fz_syntax.specs.declared.parser.refusal.Refusal.TheVariants as refusals
+use Rattle.fz_syntax.specs.declared.parser.cursor.Parser.{Parser}
 use Rattle.fz_syntax.specs.declared.parser.kinds.Plain.{Plain}
 use Rattle.fz_syntax.specs.declared.parser.kinds.Plain.TheVariants as plains
 use Rattle.fz_tree.specs.of_lex.Token.{TokenValue, Word, Whole, Marked}
@@ -13,7 +14,8 @@ use Rattle.fz_tree.specs.declared.tree.LiteralKind.{LiteralKind}
 use Rattle.fz_tree.specs.declared.tree.LiteralKind.TheVariants as literals
 use Rattle.fz_tree.specs.Tree.{Literal, Number, Truth}
 use Rattle.fz_tree.specs.Tokens.{truth_word}
-use Rattle.fz_syntax.specs.Reading.{Fault, Read}
+use Rattle.fz_syntax.specs.Reading.{Fault, Reader}
+use Rattle.fz_syntax.specs.Walk.{lexemes}
 
 -- an error that the lexer doesn't find
 abbrev pub IsFault : SyntaxError → Type 0
@@ -32,11 +34,12 @@ abbrev pub Fails : {A : Type 0} → Refusal → Result A Fault → Type 0
 Fails refusals.Memory read = Unit {0}
 Fails _ read = read ≡ Err tt
 
--- A result, as plain data by `view`, and the tokens that are left are what reading gives, unless
--- memory ran out.
-abbrev pub Gives : {X A : Type 0} → (X → A) → Result X Refusal → Read A → List TokenValue → Type 0
-Gives view (Ok x) read left = read ≡ Ok (view x, left)
-Gives view (Err e) read left = Fails e read
+-- Between the two states of the parser, a result, as plain data by `view`, and the tokens that are
+-- left are what reading gives, unless memory ran out.
+abbrev pub Gives : {X A : Type 0} → Parser → Parser → Result X Refusal → (X → A) → Reader A
+    → Type 0
+Gives p q (Ok x) view read = read (lexemes p) ≡ Ok (view x, lexemes q)
+Gives p q (Err e) view read = Fails e (read (lexemes p))
 
 -- A result is what reading all of the tokens gives, unless memory ran out.
 abbrev pub IsWhole : {X A : Type 0} → (X → A) → Result X SyntaxError → Result A Fault → Type 0

@@ -159,14 +159,11 @@ basic_at limits tokens =
     if next_passes is_name tokens then (name_at tokens >>= λ name. Ok (Named name.0, name.1))
     else (literal_at limits tokens >>= λ l. Ok (Lit l.0, l.1))
 
-unfoldable pub expr_list_at : Limits → Reader (List Basic)
-expr_list_at limits tokens =
-    list_at CloseBracket (at_most limits.elements (basic_at limits)) tokens
-
 unfoldable pub expr_at : Limits → Reader Expr
 expr_at limits tokens =
-    if next_is OpenBracket tokens then (expr_list_at limits (drop 1 tokens) >>= λ bs. Ok
-    (Several bs.0, bs.1)) else (basic_at limits tokens >>= λ b. Ok (One b.0, b.1))
+    if next_is OpenBracket tokens then (list_at CloseBracket (at_most limits.elements
+    (basic_at limits)) (drop 1 tokens) >>= λ bs. Ok (Several bs.0, bs.1))
+    else (basic_at limits tokens >>= λ b. Ok (One b.0, b.1))
 
 -- ---- annotations
 
@@ -178,14 +175,10 @@ note_basic_at limits inner tokens =
     if next_passes is_name tokens then (inner tokens >>= λ n. Ok (Inner n.0, n.1))
     else (literal_at limits tokens >>= λ l. Ok (NoteLiteral l.0, l.1))
 
-unfoldable pub note_list_at : Limits → ℕ → Reader Note → Reader (List NoteBasic)
-note_list_at limits depth inner tokens =
-    list_at CloseBracket (at_most limits.elements (note_basic_at limits inner)) tokens
-
 unfoldable pub note_arg_at : Limits → ℕ → Reader Note → Reader NoteArg
 note_arg_at limits depth inner tokens =
-    if next_is OpenBracket tokens then (note_list_at limits depth inner (drop 1 tokens) >>= λ bs. Ok
-    (ListOf (basic_list bs.0), bs.1))
+    if next_is OpenBracket tokens then (list_at CloseBracket (at_most limits.elements
+    (note_basic_at limits inner)) (drop 1 tokens) >>= λ bs. Ok (ListOf (basic_list bs.0), bs.1))
     else (note_basic_at limits inner tokens >>= λ b. Ok (OneBasic b.0, b.1))
 
 -- after an annotation's name: its arguments, if it has any
@@ -279,9 +272,9 @@ any_index_at limits tokens =
     if next_word (codes "int") tokens then Ok (None, drop 1 tokens)
     else (index_at limits tokens >>= λ n. Ok (Some n.0, n.1))
 
-unfoldable pub indexes_at : Limits → Reader (List (Option ℕ))
-indexes_at limits tokens =
-    separated_at (at_most most_indexes (any_index_at limits)) tokens
+-- an index set of a list that isn't full
+abbrev pub listed_index : Limits → ℕ → Reader (Option ℕ)
+listed_index limits = at_most most_indexes (any_index_at limits)
 
 -- ---- items
 
@@ -291,7 +284,7 @@ var_at tokens =
 
 unfoldable pub param_prefix_at : Limits → Reader (Option (List (Option ℕ)))
 param_prefix_at limits tokens =
-    if next_word (codes "array") tokens then (array_at (indexes_at limits)
+    if next_word (codes "array") tokens then (array_at (separated_at (listed_index limits))
     (drop 1 tokens) >>= λ array. Ok (Some array.0, array.1)) else Ok (None, tokens)
 
 unfoldable pub param_at : Limits → Reader Param
@@ -325,12 +318,11 @@ unfoldable pub value_at : Limits → (is_var : Bool) → (length : Option ℕ) �
 value_at limits true None tokens = basic_at limits tokens >>= λ b. Ok (One b.0, b.1)
 value_at limits false None tokens = literal_basic_at limits tokens >>= λ b. Ok (One b.0, b.1)
 value_at limits true (Some n) tokens =
-    mark_at OpenBracket tokens >>= λ opened. expr_list_at limits opened.1 >>= λ bs. Ok
-    (Several bs.0, bs.1)
+    mark_at OpenBracket tokens >>= λ opened. list_at CloseBracket
+    (at_most limits.elements (basic_at limits)) opened.1 >>= λ bs. Ok (Several bs.0, bs.1)
 value_at limits false (Some n) tokens =
     mark_at OpenBracket tokens >>= λ opened. list_at CloseBracket
-    (at_most limits.elements (literal_basic_at limits)) opened.1 >>= λ bs. Ok
-    (Several bs.0, bs.1)
+    (at_most limits.elements (literal_basic_at limits)) opened.1 >>= λ bs. Ok (Several bs.0, bs.1)
 
 -- only a scalar variable may go without a value
 abbrev pub may_lack_value : (is_var : Bool) → (length : Option ℕ) → Bool

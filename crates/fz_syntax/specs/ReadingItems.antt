@@ -41,18 +41,13 @@ index_sets_at limits (suc n) tokens =
     index_set_at limits tokens >>= λ first. index_sets_at limits n first.1 >>= λ others. Ok
     (first.0 ∷ others.0, others.1)
 
--- literals after the bracket that opens their list
-unfoldable pub elements_at : Limits → Reader (List Literal)
-elements_at limits tokens =
-    list_at CloseBracket (at_most limits.elements (literal_at limits)) tokens
-
 -- an array of so many index sets, after its word
 unfoldable pub printed_array_at : Limits → ℕ → Reader PrintedValue
 printed_array_at limits dimensions tokens = do
   opened ← mark_at OpenParen tokens
   indexes ← index_sets_at limits dimensions opened.1
   bracket ← mark_at OpenBracket indexes.1
-  elements ← elements_at limits bracket.1
+  elements ← list_at CloseBracket (at_most limits.elements (literal_at limits)) bracket.1
   closed ← mark_at CloseParen elements.1
   Ok (ArrayOf indexes.0 elements.0, closed.1)
 

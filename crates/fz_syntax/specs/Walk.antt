@@ -1,12 +1,13 @@
 -- Used only by private functions: a reader of the contracts need not believe this file. What the
 -- parser has left to read, and what it took between two states.
-use Rattle.std.specs.Prelude.{◌≡◌, ℕ, List, [], ◌∷◌, ◌++◌, map, Some}
+use Rattle.std.specs.Prelude.{◌≡◌, ◌≤◌, ℕ, List, [], ◌∷◌, ◌++◌, length, map, Some, Result, Ok, Err}
 use Rattle.fz_tree.specs.of_lex.of_base.declared.span.Span.{Span}
 use Rattle.fz_tree.specs.of_lex.declared.token.Mark.TheVariants.{Comma}
 use Rattle.fz_tree.specs.of_lex.Token.{TokenValue}
 use Rattle.fz_tree.specs.of_lex.Lexing.{SpannedToken}
 use Rattle.fz_tree.specs.of_lex.Left.{left, source_of}
 use Rattle.fz_syntax.specs.declared.parser.cursor.Parser.{Parser}
+use Rattle.fz_syntax.specs.declared.parser.refusal.Refusal.{Refusal}
 use Rattle.fz_syntax.specs.Placed.{PlacedToken, AgreeWith, placed_mark}
 
 -- the tokens that are left to read, with their byte ranges and without
@@ -26,11 +27,18 @@ abbrev pub end_of : ℕ → List SpannedToken → ℕ
 end_of from [] = from
 end_of from (t ∷ ts) = end_of t.end ts
 
--- Between the two states the parser took these tokens from the front.
+-- Between the two states no token came back, and the source is as long.
+pub record Onward (p q : Parser) : Type 0 where
+  pub shorter : length (lexemes q) ≤ length (lexemes p)
+  pub end : q.end ≡ p.end
+
+-- Between them the parser took these tokens from the front.
 pub record Consumed (p q : Parser) (taken : List SpannedToken) : Type 0 where
   pub split : ahead p ≡ taken ++ ahead q
   pub upto : q.reached ≡ end_of p.reached taken
   pub same_source : source_of q.tokens ≡ source_of p.tokens
+  pub shorter : length (lexemes q) ≤ length (lexemes p)
+  pub end : q.end ≡ p.end
 
 -- It took some tokens.
 pub record Passed (p q : Parser) : Type 0 where
@@ -42,6 +50,17 @@ pub record Walk (p q : Parser) (placed : List PlacedToken) : Type 0 where
   pub taken : List SpannedToken
   pub on : Consumed p q taken
   pub agree : AgreeWith placed taken
+
+-- Where a method gave a result, it took some tokens.
+abbrev pub Passes : {X : Type 0} → Parser → Parser → Result X Refusal → Type 0
+Passes p q (Ok x) = Passed p q
+Passes p q (Err e) = Onward p q
+
+-- Where it gave a result, it took the tokens of that.
+abbrev pub Walks : {X : Type 0} → Parser → Parser → Result X Refusal → (X → List PlacedToken)
+    → Type 0
+Walks p q (Ok x) placed = Walk p q (placed x)
+Walks p q (Err e) placed = Onward p q
 
 -- a literal of one token at a byte range, and the comma after it
 abbrev pub placed_listed : TokenValue → Span → List PlacedToken

@@ -14,11 +14,12 @@ pub behind : (p q r : Page) (s t : List TokenValue) → q ≡ fold with_token p 
     → r ≡ fold with_token q t → r ≡ fold with_token p (s ++ t)
 behind p q r s t e f = f ∙ (ap (λ x. fold with_token x t) e ∙ sym (fold-append with_token p s t))
 
-more_args_are : (args : List NoteArg) → more_args_toks (arg_list args) ≡ after_commas arg_toks args
+-- what stands behind the first part of such a list, as a list with commas
+pub more_args_are : (args : List NoteArg) → more_args_toks (arg_list args) ≡ after_commas arg_toks args
 more_args_are [] = refl
 more_args_are (a ∷ rest) = ap (λ (ys : List TokenValue). (Marked Comma ∷ arg_toks a) ++ ys) (more_args_are rest)
 
-more_basics_are : (bs : List NoteBasic)
+pub more_basics_are : (bs : List NoteBasic)
     → more_basics_toks (basic_list bs) ≡ after_commas note_basic_toks bs
 more_basics_are [] = refl
 more_basics_are (b ∷ rest) = ap (λ (ys : List TokenValue). (Marked Comma ∷ note_basic_toks b) ++ ys) (more_basics_are rest)

@@ -9,6 +9,13 @@ use Rattle.fz_lex.specs.declared.error.SyntaxError.TheVariants as errors
 use Rattle.fz_tree.specs.Tree.{Tree, Printed}
 use Rattle.fz_tree.specs.Text.{IsTextOfTreeWithin, IsTextOfItemsWithin}
 
+-- a text of a tree, and of printed items, at the standard limits
+abbrev pub IsTextOfTree : List ℕ → Tree → Type 0
+IsTextOfTree = IsTextOfTreeWithin standard_limits
+
+abbrev pub IsTextOfItems : List ℕ → List Printed → Type 0
+IsTextOfItems = IsTextOfItemsWithin standard_limits
+
 -- a result is this value, unless memory ran out
 abbrev pub IsValue : {X A : Type 0} → (X → A) → Result X SyntaxError → A → Type 0
 IsValue view (Ok x) value = view x ≡ value

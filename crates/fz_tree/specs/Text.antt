@@ -1,25 +1,23 @@
 -- Texts of a tree and of printed items, and what a call that reads them gives. (MiniZinc Handbook,
 -- FlatZinc grammar; the limits are this project's profile.)
-use Rattle.std.specs.Prelude.{◌≡◌, ℕ, List, length, ◌≤◌, ◌+◌, zero, suc, Bool, true, false, ◌||◌, [], ◌∷◌, Option, Some, None, codes, IfSome}
+use Rattle.std.specs.Prelude.{◌≡◌, ℕ, List, bytes_eq, length, map, ◌≤◌, ◌+◌, zero, suc, Bool, true, false, ◌||◌, [], ◌∷◌, Option, Some, None, codes, IfSome}
 use Rattle.std.specs.List.{AllByRecursion, list_any}
-use Rattle.fz_lex.specs.Lexing.{IsTextOfTokensWithin, standard_limits}
+use Rattle.fz_lex.specs.Lexing.{IsTextOfTokensWithin}
 use Rattle.fz_lex.specs.declared.limits.Limits.{Limits}
-use Rattle.fz_tree.specs.Tree.{Tree, Printed, Literal, Number, Truth, Range, Braces, Basic, Lit, Named, Expr, One, Several, Note, Called, NoteArgs, NoMoreArgs, MoreArgs, NoteArg, OneBasic, ListOf, NoteBasics, NoMoreBasics, MoreBasics, NoteBasic, NoteLiteral, NoteFloat, NoteString, Inner, Base, BoolBase, IntBase, SetBase, Param, Predicate, Decl, Constraint, Goal, Satisfy, Minimize, Maximize, Solve, PrintedValue, OneValue, ArrayOf}
+use Rattle.fz_tree.specs.Tree.{Tree, Printed, Literal, Number, Truth, Braces, Basic, Lit, Named, Expr, One, Several, Note, Called, NoteArgs, NoMoreArgs, MoreArgs, NoteArg, OneBasic, ListOf, NoteBasics, NoMoreBasics, MoreBasics, NoteBasic, NoteLiteral, Inner, Base, BoolBase, IntBase, SetBase, Param, Predicate, Decl, Constraint, Goal, Satisfy, Minimize, Maximize, Solve, PrintedValue, OneValue, ArrayOf}
 use Rattle.fz_tree.specs.Tokens.{toks, itoks}
-use Rattle.std.specs.Str.{bytes_eq}
 use Rattle.fz_lex.specs.Token.{IsTokenText}
 
 -- the words that are no names (MiniZinc Handbook; the list is this project's profile)
 abbrev pub type_words : List (List ℕ)
-type_words = codes "array" ∷ codes "of" ∷ codes "var" ∷ codes "bool" ∷ codes "int" ∷ codes "float"
-    ∷ codes "set" ∷ []
+type_words = map codes ("array" ∷ "of" ∷ "var" ∷ "bool" ∷ "int" ∷ "float" ∷ "set" ∷ [])
 
 abbrev pub item_words : List (List ℕ)
-item_words = codes "predicate" ∷ codes "constraint" ∷ codes "solve" ∷ codes "satisfy"
-    ∷ codes "minimize" ∷ codes "maximize" ∷ []
+item_words =
+    map codes ("predicate" ∷ "constraint" ∷ "solve" ∷ "satisfy" ∷ "minimize" ∷ "maximize" ∷ [])
 
 abbrev pub truth_words : List (List ℕ)
-truth_words = codes "true" ∷ codes "false" ∷ []
+truth_words = map codes ("true" ∷ "false" ∷ [])
 
 abbrev pub is_one_of : List (List ℕ) → List ℕ → Bool
 is_one_of words text = list_any (bytes_eq text) words
@@ -34,17 +32,14 @@ IsName text = is_reserved text ≡ false
 -- ---- expressions
 
 abbrev pub IsLiteral : Limits → Literal → Type 0
-IsLiteral limits (Number n) = Unit {0}
-IsLiteral limits (Truth b) = Unit {0}
-IsLiteral limits (Range low high) = Unit {0}
 IsLiteral limits (Braces numbers) = length numbers ≤ limits.elements
+IsLiteral limits _ = Unit {0}
 
 -- the bounds of a type: a range or numbers in braces
 abbrev pub IsBounds : Limits → Literal → Type 0
 IsBounds limits (Number n) = ⊥
 IsBounds limits (Truth b) = ⊥
-IsBounds limits (Range low high) = Unit {0}
-IsBounds limits (Braces numbers) = length numbers ≤ limits.elements
+IsBounds limits l = IsLiteral limits l
 
 abbrev pub IsBasic : Limits → Basic → Type 0
 IsBasic limits (Lit l) = IsLiteral limits l
@@ -81,9 +76,8 @@ abbrev mutual
 
   pub IsNoteBasic : NoteBasic → Limits → ℕ → Type 0
   IsNoteBasic (NoteLiteral l) limits depth = IsLiteral limits l
-  IsNoteBasic (NoteFloat text) limits depth = Unit {0}
-  IsNoteBasic (NoteString text) limits depth = Unit {0}
   IsNoteBasic (Inner n) limits depth = IsNote n limits depth
+  IsNoteBasic _ limits depth = Unit {0}
 
 abbrev pub AreNotes : Limits → List Note → Type 0
 AreNotes limits notes = AllByRecursion (λ n. IsNote n limits limits.depth) notes
@@ -183,7 +177,8 @@ pub record IsTree (limits : Limits) (t : Tree) : Type 0 where
 abbrev pub IsPrintedValue : Limits → PrintedValue → Type 0
 IsPrintedValue limits (OneValue l) = IsLiteral limits l
 IsPrintedValue limits (ArrayOf indexes elements) =
-    (1 ≤ length indexes) × (length indexes ≤ 6) × AllByRecursion (IsBounds limits) indexes
+    (1 ≤ length indexes) × (length indexes ≤ most_indexes)
+    × AllByRecursion (IsBounds limits) indexes
     × (length elements ≤ limits.elements) × AllByRecursion (IsLiteral limits) elements
 
 pub record IsPrinted (limits : Limits) (p : Printed) : Type 0 where
@@ -195,14 +190,8 @@ pub record IsTextOfTreeWithin (limits : Limits) (source : List ℕ) (t : Tree) :
   pub lexes : IsTextOfTokensWithin limits source (toks t)
   pub of_grammar : IsTree limits t
 
-abbrev pub IsTextOfTree : List ℕ → Tree → Type 0
-IsTextOfTree = IsTextOfTreeWithin standard_limits
-
 -- The source lexes to the tokens of the printed items, and both are within the limits.
 pub record IsTextOfItemsWithin (limits : Limits) (source : List ℕ)
     (items : List Printed) : Type 0 where
   pub lexes : IsTextOfTokensWithin limits source (itoks items)
   pub of_grammar : AllByRecursion (IsPrinted limits) items
-
-abbrev pub IsTextOfItems : List ℕ → List Printed → Type 0
-IsTextOfItems = IsTextOfItemsWithin standard_limits

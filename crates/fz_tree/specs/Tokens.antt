@@ -1,7 +1,6 @@
 -- The token list of a tree, by cases on its parts.
 -- (MiniZinc Handbook, FlatZinc grammar, read from a tree to its text.)
-use Rattle.std.specs.Prelude.{ℕ, ℤ, ◌+◌, length, pos, Bool, true, false, List, [], ◌∷◌, ◌++◌, Option, Some, None, codes}
-use Rattle.std.specs.List.{flat_map}
+use Rattle.std.specs.Prelude.{ℕ, ℤ, ◌+◌, length, pos, Bool, true, false, List, [], ◌∷◌, ◌++◌, Option, Some, None, codes, flat_map}
 use Rattle.fz_lex.specs.declared.token.Mark.{Mark}
 use Rattle.fz_lex.specs.declared.token.Mark.TheVariants.{OpenParen, CloseParen, OpenBracket, CloseBracket, OpenBrace, CloseBrace, Comma, Semicolon, Colon, ColonColon, Equals, DotDot}
 use Rattle.fz_lex.specs.Token.{TokenValue, Word, Whole, FloatText, StringText, Marked}
@@ -10,7 +9,7 @@ use Rattle.fz_tree.specs.Tree.{Literal, Number, Truth, Range, Braces, Basic, Lit
 abbrev pub mark : Mark → List TokenValue
 mark m = Marked m ∷ []
 
--- a reserved word
+-- a reserved word or a name
 abbrev pub word : List ℕ → List TokenValue
 word text = Word text ∷ []
 
@@ -29,9 +28,6 @@ in_parens inside = Marked OpenParen ∷ (inside ++ mark CloseParen)
 abbrev pub in_brackets : List TokenValue → List TokenValue
 in_brackets inside = Marked OpenBracket ∷ (inside ++ mark CloseBracket)
 
-abbrev pub in_braces : List TokenValue → List TokenValue
-in_braces inside = Marked OpenBrace ∷ (inside ++ mark CloseBrace)
-
 -- ---- expressions
 
 abbrev pub number_toks : ℤ → List TokenValue
@@ -45,14 +41,12 @@ abbrev pub literal_toks : Literal → List TokenValue
 literal_toks (Number n) = number_toks n
 literal_toks (Truth b) = word (truth_word b)
 literal_toks (Range low high) = Whole low ∷ Marked DotDot ∷ Whole high ∷ []
-literal_toks (Braces numbers) = in_braces (separated number_toks numbers)
-
-abbrev pub name_toks : List ℕ → List TokenValue
-name_toks name = Word name ∷ []
+literal_toks (Braces numbers) =
+    Marked OpenBrace ∷ (separated number_toks numbers ++ mark CloseBrace)
 
 abbrev pub basic_toks : Basic → List TokenValue
 basic_toks (Lit l) = literal_toks l
-basic_toks (Named name) = name_toks name
+basic_toks (Named name) = word name
 
 abbrev pub expr_toks : Expr → List TokenValue
 expr_toks (One b) = basic_toks b
@@ -137,10 +131,10 @@ param_prefix_toks (Some indexes) = array_toks (separated any_index_toks indexes)
 
 abbrev pub param_toks : Param → List TokenValue
 param_toks p = param_prefix_toks p.array ++ var_toks p.is_var ++ base_toks p.base ++ mark Colon
-    ++ name_toks p.name
+    ++ word p.name
 
 abbrev pub predicate_toks : Predicate → List TokenValue
-predicate_toks p = word (codes "predicate") ++ name_toks p.name
+predicate_toks p = word (codes "predicate") ++ word p.name
     ++ in_parens (separated param_toks p.params) ++ mark Semicolon
 
 abbrev pub value_toks : Option Expr → List TokenValue
@@ -149,10 +143,10 @@ value_toks (Some e) = Marked Equals ∷ expr_toks e
 
 abbrev pub decl_toks : Decl → List TokenValue
 decl_toks d = prefix_toks d.length ++ var_toks d.is_var ++ base_toks d.base ++ mark Colon
-    ++ name_toks d.name ++ notes_toks d.notes ++ value_toks d.value ++ mark Semicolon
+    ++ word d.name ++ notes_toks d.notes ++ value_toks d.value ++ mark Semicolon
 
 abbrev pub constraint_toks : Constraint → List TokenValue
-constraint_toks c = word (codes "constraint") ++ name_toks c.name
+constraint_toks c = word (codes "constraint") ++ word c.name
     ++ in_parens (separated expr_toks c.args) ++ notes_toks c.notes ++ mark Semicolon
 
 abbrev pub goal_toks : Goal → List TokenValue
@@ -183,7 +177,7 @@ printed_value_toks (ArrayOf indexes elements) =
     ++ in_brackets (separated literal_toks elements))
 
 abbrev pub printed_toks : Printed → List TokenValue
-printed_toks p = name_toks p.name ++ mark Equals ++ printed_value_toks p.value ++ mark Semicolon
+printed_toks p = word p.name ++ mark Equals ++ printed_value_toks p.value ++ mark Semicolon
 
 -- the tokens of a list of printed items
 abbrev pub itoks : List Printed → List TokenValue

@@ -5,6 +5,7 @@ ghost use Rattle.fz_kernel.specs.Views.{ints};
 
 use crate::distinct::all_different;
 use crate::elements::Elements;
+use crate::indices::{all_pairs, any_between};
 use std::alloc::{AllocError, Global};
 
 // Up to this many elements each pair is compared, which takes no memory.
@@ -36,22 +37,14 @@ pub fn numbers_of(alloc: Global, elements: &Elements) -> Result<Vec<i64>, AllocE
 fn pairs_differ(elements: &Elements) -> bool
     ensures { result ≡ all_different (ints elements.now) }
 {
-    for place in 0..elements.len() {
-        if stands_from(elements.int(place), elements, place + 1) {
-            return false;
-        }
-    }
-    true
+    all_pairs(elements.len(), |one, other| {
+        elements.int(one) != elements.int(other)
+    })
 }
 
 // Whether the number is at this index or at a later one.
 pub fn stands_from(number: i64, elements: &Elements, start: usize) -> bool
     ensures { result ≡ is_among number (drop start (ints elements.now)) }
 {
-    for place in start..elements.len() {
-        if elements.int(place) == number {
-            return true;
-        }
-    }
-    false
+    any_between(start, elements.len(), |place| elements.int(place) == number)
 }

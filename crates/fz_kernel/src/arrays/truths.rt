@@ -5,17 +5,13 @@ ghost use Rattle.fz_data.specs.of_meaning.Relations.{is_odd};
 ghost use Rattle.fz_kernel.specs.Views.{bools};
 
 use crate::elements::Elements;
+use crate::indices::{all_between, any_between};
 
 /// Whether all are true.
 pub fn all_true(elements: &Elements) -> bool
     ensures exact { result ≡ list_all (λ x. x) (bools elements.now) }
 {
-    for place in 0..elements.len() {
-        if !elements.truth(place) {
-            return false;
-        }
-    }
-    true
+    all_between(0, elements.len(), |place| elements.truth(place))
 }
 
 /// Whether at least one is true.
@@ -23,12 +19,7 @@ pub fn all_true(elements: &Elements) -> bool
 pub fn any_true(elements: &Elements) -> bool
     ensures exact { result ≡ list_any (λ x. x) (bools elements.now) }
 {
-    for place in 0..elements.len() {
-        if elements.truth(place) {
-            return true;
-        }
-    }
-    false
+    any_between(0, elements.len(), |place| elements.truth(place))
 }
 
 /// Whether at least one is false.
@@ -36,12 +27,7 @@ pub fn any_true(elements: &Elements) -> bool
 pub fn any_false(elements: &Elements) -> bool
     ensures exact { result ≡ list_any (λ x. not x) (bools elements.now) }
 {
-    for place in 0..elements.len() {
-        if !elements.truth(place) {
-            return true;
-        }
-    }
-    false
+    any_between(0, elements.len(), |place| !elements.truth(place))
 }
 
 /// Whether an odd number of them are true.

@@ -1,12 +1,12 @@
 //! Reads annotations.
 
-ghost use Rattle.std.specs.Prelude.{◌≡◌, ◌≤◌, ◌<◌, ◌++◌, length, map, IfOk};
+ghost use Rattle.std.specs.Prelude.{◌<◌, ◌++◌, length, map, IfOk};
 ghost use Rattle.fz_tree.specs.View.{bare_note, bare_arg, bare_basic, bare_notes};
 ghost use Rattle.fz_syntax.specs.Outcome.{Gives};
-ghost use Rattle.fz_syntax.specs.Reading.{mark_at, at_most, separated_at, note_at, note_args_at, note_arg_at, note_list_at, note_basic_at, any_number, notes_at, list_at};
-ghost use Rattle.fz_tree.specs.of_lex.declared.token.Mark.TheVariants.{CloseParen, CloseBracket};
+ghost use Rattle.fz_syntax.specs.Reading.{at_most, separated_at, note_at, note_args_at, note_arg_at, note_basic_at, any_number, notes_at, list_at};
+ghost use Rattle.fz_tree.specs.of_lex.declared.token.Mark.TheVariants.{CloseBracket};
 ghost use Rattle.fz_syntax.specs.Placed.{placed_mark, placed_separated, placed_note, placed_arg, placed_args, placed_note_basic, placed_notes};
-ghost use Rattle.fz_syntax.specs.Walk.{Walk, lexemes};
+ghost use Rattle.fz_syntax.specs.Walk.{Walks};
 
 use crate::parser::cursor::Parser;
 use crate::parser::lists::trimmed;
@@ -18,11 +18,8 @@ impl<'a> Parser<'a> {
     #[cycle(notes)]
     #[tactic(auto, unfolding(crate::specs::Reading::note_at), using(crate::proofs::Walks::passed_then, crate::proofs::Walks::passed_none, crate::proofs::Walks::passed, crate::proofs::Walks::walk_none, crate::proofs::Separated::fails_from, crate::proofs::Separated::fails_bind))]
     pub(crate) fn note(&mut self, limits: &Limits, depth: usize) -> Result<Note<'a>, Refusal>
-        ensures read { Gives (bare_note) result (note_at limits.now depth (lexemes self.old))
-            (lexemes self.new) }
-        ensures shorter { length (lexemes self.new) ≤ length (lexemes self.old) }
-        ensures end { self.new.end ≡ self.old.end }
-        ensures walked { IfOk result (λ n. Walk self.old self.new (placed_note n)) }
+        ensures read { Gives self.old self.new result bare_note (note_at limits.now depth) }
+        ensures walked { Walks self.old self.new result placed_note }
     {
         if depth == 0 {
             return Err(if self.begins_name() {
@@ -43,13 +40,10 @@ impl<'a> Parser<'a> {
         limits: &Limits,
         depth: usize,
     ) -> Result<Vec<NoteArg<'a>>, Refusal>
-        ensures read { Gives (λ v. map bare_arg v.items) result
-            (note_args_at limits.now depth (note_at limits.now depth) (lexemes self.old))
-            (lexemes self.new) }
-        ensures shorter { length (lexemes self.new) ≤ length (lexemes self.old) }
-        ensures end { self.new.end ≡ self.old.end }
-        ensures walked { IfOk result (λ v. Walk self.old self.new
-            (placed_args (map placed_arg v.items))) }
+        ensures read { Gives self.old self.new result (λ v. map bare_arg v.items)
+            (note_args_at limits.now depth (note_at limits.now depth)) }
+        ensures walked { Walks self.old self.new result
+            (λ v. placed_args (map placed_arg v.items)) }
     {
         if !self.eat(Mark::OpenParen) {
             return Ok(Vec::new(self.alloc));
@@ -65,13 +59,9 @@ impl<'a> Parser<'a> {
         limits: &Limits,
         depth: usize,
     ) -> Result<Vec<NoteArg<'a>>, Refusal>
-        ensures read { Gives (λ v. map bare_arg v.items) result
-            (separated_at (any_number (note_arg_at limits.now depth (note_at limits.now depth)))
-            (lexemes self.old)) (lexemes self.new) }
-        ensures shorter { length (lexemes self.new) ≤ length (lexemes self.old) }
-        ensures end { self.new.end ≡ self.old.end }
-        ensures walked { IfOk result (λ v. Walk self.old self.new
-            (placed_separated placed_arg v.items)) }
+        ensures read { Gives self.old self.new result (λ v. map bare_arg v.items)
+            (separated_at (any_number (note_arg_at limits.now depth (note_at limits.now depth)))) }
+        ensures walked { Walks self.old self.new result (λ v. placed_separated placed_arg v.items) }
         ensures some { IfOk result (λ v. 0 < length v.items) }
     {
         let mut arguments = self.spare.note_args.list(self.alloc);
@@ -86,11 +76,9 @@ impl<'a> Parser<'a> {
     #[cycle(notes)]
     #[tactic(auto, unfolding(crate::specs::Reading::note_arg_at), using(crate::proofs::Walks::passed_then, crate::proofs::Walks::passed_none, crate::proofs::Walks::passed, crate::proofs::Walks::walk_none, crate::proofs::Separated::fails_from, crate::proofs::Separated::fails_bind))]
     pub(crate) fn note_arg(&mut self, limits: &Limits, depth: usize) -> Result<NoteArg<'a>, Refusal>
-        ensures read { Gives (bare_arg) result (note_arg_at limits.now depth
-            (note_at limits.now depth) (lexemes self.old)) (lexemes self.new) }
-        ensures shorter { length (lexemes self.new) ≤ length (lexemes self.old) }
-        ensures end { self.new.end ≡ self.old.end }
-        ensures walked { IfOk result (λ a. Walk self.old self.new (placed_arg a)) }
+        ensures read { Gives self.old self.new result bare_arg
+            (note_arg_at limits.now depth (note_at limits.now depth)) }
+        ensures walked { Walks self.old self.new result placed_arg }
     {
         if self.eat(Mark::OpenBracket) {
             Ok(NoteArg::List(self.note_list(limits, depth)?))
@@ -100,19 +88,17 @@ impl<'a> Parser<'a> {
     }
 
     #[cycle(notes)]
-    #[tactic(auto, unfolding(crate::specs::Reading::note_list_at, crate::specs::Reading::list_at, crate::specs::Reading::mark_at), using(crate::proofs::Walks::passed_then, crate::proofs::Walks::passed_none, crate::proofs::Walks::passed, crate::proofs::Walks::walk_none, crate::proofs::Separated::fails_from, crate::proofs::Separated::fails_bind))]
+    #[tactic(auto, unfolding(crate::specs::Reading::list_at, crate::specs::Reading::mark_at), using(crate::proofs::Walks::passed_then, crate::proofs::Walks::passed_none, crate::proofs::Walks::passed, crate::proofs::Walks::walk_none, crate::proofs::Separated::fails_from, crate::proofs::Separated::fails_bind))]
     pub(crate) fn note_list(
         &mut self,
         limits: &Limits,
         depth: usize,
     ) -> Result<Vec<NoteBasic<'a>>, Refusal>
-        ensures read { Gives (λ v. map bare_basic v.items) result
-            (note_list_at limits.now depth (note_at limits.now depth) (lexemes self.old))
-            (lexemes self.new) }
-        ensures shorter { length (lexemes self.new) ≤ length (lexemes self.old) }
-        ensures end { self.new.end ≡ self.old.end }
-        ensures walked { IfOk result (λ v. Walk self.old self.new
-            (placed_separated placed_note_basic v.items ++ placed_mark CloseBracket)) }
+        ensures read { Gives self.old self.new result (λ v. map bare_basic v.items)
+            (list_at CloseBracket (at_most limits.now.elements
+            (note_basic_at limits.now (note_at limits.now depth)))) }
+        ensures walked { Walks self.old self.new result
+            (λ v. placed_separated placed_note_basic v.items ++ placed_mark CloseBracket) }
     {
         if self.eat(Mark::CloseBracket) {
             return Ok(Vec::new(self.alloc));
@@ -128,14 +114,10 @@ impl<'a> Parser<'a> {
         limits: &Limits,
         depth: usize,
     ) -> Result<Vec<NoteBasic<'a>>, Refusal>
-        ensures read { Gives (λ v. map bare_basic v.items) result
-            (separated_at (at_most limits.now.elements
-            (note_basic_at limits.now (note_at limits.now depth))) (lexemes self.old))
-            (lexemes self.new) }
-        ensures shorter { length (lexemes self.new) ≤ length (lexemes self.old) }
-        ensures end { self.new.end ≡ self.old.end }
-        ensures walked { IfOk result (λ v. Walk self.old self.new
-            (placed_separated placed_note_basic v.items)) }
+        ensures read { Gives self.old self.new result (λ v. map bare_basic v.items) (separated_at
+            (at_most limits.now.elements (note_basic_at limits.now (note_at limits.now depth)))) }
+        ensures walked { Walks self.old self.new result
+            (λ v. placed_separated placed_note_basic v.items) }
     {
         let mut basics = Vec::new(self.alloc);
         basics.push(self.listed_note_basic(limits, depth, 0)?)?;
@@ -155,12 +137,9 @@ impl<'a> Parser<'a> {
         depth: usize,
         count: usize,
     ) -> Result<NoteBasic<'a>, Refusal>
-        ensures read { Gives (bare_basic) result (at_most limits.now.elements
-            (note_basic_at limits.now (note_at limits.now depth)) count
-            (lexemes self.old)) (lexemes self.new) }
-        ensures shorter { length (lexemes self.new) ≤ length (lexemes self.old) }
-        ensures end { self.new.end ≡ self.old.end }
-        ensures walked { IfOk result (λ b. Walk self.old self.new (placed_note_basic b)) }
+        ensures read { Gives self.old self.new result bare_basic (at_most limits.now.elements
+            (note_basic_at limits.now (note_at limits.now depth)) count) }
+        ensures walked { Walks self.old self.new result placed_note_basic }
     {
         if count >= limits.elements() {
             return Err(if depth == 0 && self.begins_name() {
@@ -179,11 +158,9 @@ impl<'a> Parser<'a> {
         limits: &Limits,
         depth: usize,
     ) -> Result<NoteBasic<'a>, Refusal>
-        ensures read { Gives (bare_basic) result (note_basic_at limits.now
-            (note_at limits.now depth) (lexemes self.old)) (lexemes self.new) }
-        ensures shorter { length (lexemes self.new) ≤ length (lexemes self.old) }
-        ensures end { self.new.end ≡ self.old.end }
-        ensures walked { IfOk result (λ b. Walk self.old self.new (placed_note_basic b)) }
+        ensures read { Gives self.old self.new result bare_basic
+            (note_basic_at limits.now (note_at limits.now depth)) }
+        ensures walked { Walks self.old self.new result placed_note_basic }
     {
         if let Some(first) = self.tokens.first() {
             match first.kind {
@@ -206,11 +183,9 @@ impl<'a> Parser<'a> {
     }
 
     pub(crate) fn notes(&mut self, limits: &Limits) -> Result<Vec<Note<'a>>, Refusal>
-        ensures read { Gives (λ v. bare_notes v.items) result
-            (notes_at limits.now (lexemes self.old)) (lexemes self.new) }
-        ensures shorter { length (lexemes self.new) ≤ length (lexemes self.old) }
-        ensures end { self.new.end ≡ self.old.end }
-        ensures walked { IfOk result (λ v. Walk self.old self.new (placed_notes v.items)) }
+        ensures read { Gives self.old self.new result (λ v. bare_notes v.items)
+            (notes_at limits.now) }
+        ensures walked { Walks self.old self.new result (λ v. placed_notes v.items) }
     {
         let mut notes = self.spare.notes.list(self.alloc);
         while self.eat(Mark::ColonColon) {

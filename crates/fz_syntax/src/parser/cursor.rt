@@ -1,12 +1,11 @@
 //! The tokens that are left to read, and how one of them is taken.
 
-ghost use Rattle.std.specs.Prelude.{List, ◌∷◌, ◌≡◌, ◌≤◌, ◌<◌, ◌-◌, drop, length, if◌then◌else◌, IfOk};
+ghost use Rattle.std.specs.Prelude.{List, ◌∷◌, ◌≡◌, ◌≤◌, ◌<◌, ◌-◌, drop, length, if◌then◌else◌};
 ghost use Rattle.std.specs.Bool.{OnTrue, OnFalse};
 ghost use Rattle.std.specs.List.{All};
 ghost use Rattle.fz_tree.specs.of_lex.View.{IsSpanWithin, IsPlacedWithin};
 ghost use Rattle.fz_tree.specs.of_lex.Left.{left};
 ghost use Rattle.fz_tree.specs.View.{bare_name};
-ghost use Rattle.fz_syntax.specs.Outcome.{Gives, IsErrorOf};
 ghost use Rattle.fz_syntax.specs.Reading.{next_is, next_word, next_passes, mark_at, word_at, name_at, whole_at, is_name, is_whole, begins_decl};
 
 use crate::parser::kinds::{
@@ -14,7 +13,7 @@ use crate::parser::kinds::{
 };
 use crate::parser::lists::SpareLists;
 use crate::parser::refusal::Refusal;
-use fz_tree::{Mark, Name, Span, SyntaxError, TokenKind, Tokens};
+use fz_tree::{Literal, LiteralKind, Mark, Name, Span, SyntaxError, TokenKind, Tokens};
 use std::alloc::Global;
 
 /// The tokens that are left to read. After a refusal they begin with the token that was refused.
@@ -31,7 +30,8 @@ pub(crate) struct Parser<'a> {
 }
 
 impl<'a> Parser<'a> {
-    ghost use Rattle.fz_syntax.specs.Walk.{Passed, Walk, start_of, ahead, lexemes};
+    ghost use Rattle.fz_syntax.specs.Outcome.{Gives, IsErrorOf};
+    ghost use Rattle.fz_syntax.specs.Walk.{Passed, Passes, Walks, start_of, ahead, lexemes};
     ghost use Rattle.fz_syntax.specs.Placed.{placed_name};
     ghost use Rattle.fz_tree.specs.of_lex.Lexing.{SpannedToken};
     ghost use Rattle.fz_tree.specs.of_lex.Ahead.{tokens_ahead};
@@ -67,14 +67,18 @@ impl<'a> Parser<'a> {
         }
     }
 
-    /// The byte range from an offset up to the end of the token that was taken last.
+    /// The literal from an offset up to the end of the token that was taken last.
     #[inline(always)]
-    pub(crate) fn span_from(&self, start: usize) -> Span
-        ensures { (result.start ≡ start) × (result.end ≡ self.now.reached) }
+    pub(crate) fn literal_since(&self, start: usize, what: LiteralKind) -> Literal
+        ensures { result
+            ≡ record { span = record { start = start; end = self.now.reached }; what = what } }
     {
-        Span {
-            start,
-            end: self.reached,
+        Literal {
+            span: Span {
+                start,
+                end: self.reached,
+            },
+            what,
         }
     }
 
@@ -97,7 +101,6 @@ impl<'a> Parser<'a> {
     pub(crate) fn skip(&mut self)
         ensures left { lexemes self.new ≡ drop 1 (lexemes self.old) }
         ensures shorter { length (lexemes self.new) ≡ length (lexemes self.old) - 1 }
-        ensures end { self.new.end ≡ self.old.end }
         ensures walked { Passed self.old self.new }
         ensures reached { (t : SpannedToken) (rest : List SpannedToken) → ahead self.old ≡ t ∷ rest
             → (ahead self.new ≡ rest) × (self.new.reached ≡ t.end) }
@@ -112,10 +115,7 @@ impl<'a> Parser<'a> {
     pub(crate) fn next_is(&self, mark: Mark) -> bool
         ensures { result ≡ next_is mark (lexemes self.now) }
     {
-        match self.tokens.first() {
-            Some(first) => first.kind == TokenKind::Mark(mark),
-            None => false,
-        }
+        matches!(self.tokens.first(), Some(first) if first.kind == TokenKind::Mark(mark))
     }
 
     #[inline(always)]
@@ -150,8 +150,6 @@ impl<'a> Parser<'a> {
         ensures found { result ≡ next_is mark (lexemes self.old) }
         ensures left { lexemes self.new ≡ (if next_is mark (lexemes self.old)
             then drop 1 (lexemes self.old) else lexemes self.old) }
-        ensures shorter { length (lexemes self.new) ≤ length (lexemes self.old) }
-        ensures end { self.new.end ≡ self.old.end }
         ensures walked { Passed self.old self.new }
         ensures kept { OnFalse result (self.new ≡ self.old) }
         ensures taken { OnTrue result (length (lexemes self.new) < length (lexemes self.old)) }
@@ -166,10 +164,8 @@ impl<'a> Parser<'a> {
     #[inline(always)]
     #[tactic(auto, unfolding(crate::specs::Reading::mark_at), using(crate::proofs::Walks::passed_then, crate::proofs::Walks::passed_none, crate::proofs::Walks::passed, crate::proofs::Walks::walk_none, crate::proofs::Separated::fails_from))]
     pub(crate) fn expect(&mut self, mark: Mark) -> Result<(), Refusal>
-        ensures read { Gives (λ _. tt) result (mark_at mark (lexemes self.old)) (lexemes self.new) }
-        ensures shorter { length (lexemes self.new) ≤ length (lexemes self.old) }
-        ensures end { self.new.end ≡ self.old.end }
-        ensures walked { IfOk result (λ _. Passed self.old self.new) }
+        ensures read { Gives self.old self.new result (λ _. tt) (mark_at mark) }
+        ensures walked { Passes self.old self.new result }
     {
         if self.eat(mark) {
             Ok(())
@@ -180,11 +176,8 @@ impl<'a> Parser<'a> {
 
     #[tactic(auto, unfolding(crate::specs::Reading::word_at), using(crate::proofs::Walks::passed_then, crate::proofs::Walks::passed_none, crate::proofs::Walks::passed, crate::proofs::Walks::walk_none, crate::proofs::Separated::fails_from))]
     pub(crate) fn expect_word(&mut self, word: &[u8]) -> Result<(), Refusal>
-        ensures read { Gives (λ _. tt) result (word_at word.now (lexemes self.old))
-            (lexemes self.new) }
-        ensures shorter { length (lexemes self.new) ≤ length (lexemes self.old) }
-        ensures end { self.new.end ≡ self.old.end }
-        ensures walked { IfOk result (λ _. Passed self.old self.new) }
+        ensures read { Gives self.old self.new result (λ _. tt) (word_at word.now) }
+        ensures walked { Passes self.old self.new result }
     {
         if self.eat_word(word) {
             Ok(())
@@ -197,8 +190,6 @@ impl<'a> Parser<'a> {
         ensures found { result ≡ next_word word.now (lexemes self.old) }
         ensures left { lexemes self.new ≡ (if next_word word.now (lexemes self.old)
             then drop 1 (lexemes self.old) else lexemes self.old) }
-        ensures shorter { length (lexemes self.new) ≤ length (lexemes self.old) }
-        ensures end { self.new.end ≡ self.old.end }
         ensures walked { Passed self.old self.new }
         ensures kept { OnFalse result (self.new ≡ self.old) }
         ensures taken { OnTrue result (length (lexemes self.new) < length (lexemes self.old)) }
@@ -213,10 +204,8 @@ impl<'a> Parser<'a> {
     #[inline(always)]
     #[tactic(auto, unfolding(crate::specs::Reading::name_at), using(crate::proofs::Walks::passed_then, crate::proofs::Walks::passed_none, crate::proofs::Walks::passed, crate::proofs::Walks::walk_none, crate::proofs::Separated::fails_from))]
     pub(crate) fn name(&mut self) -> Result<Name<'a>, Refusal>
-        ensures read { Gives bare_name result (name_at (lexemes self.old)) (lexemes self.new) }
-        ensures shorter { length (lexemes self.new) ≤ length (lexemes self.old) }
-        ensures end { self.new.end ≡ self.old.end }
-        ensures walked { IfOk result (λ n. Walk self.old self.new (placed_name n)) }
+        ensures read { Gives self.old self.new result bare_name name_at }
+        ensures walked { Walks self.old self.new result placed_name }
     {
         match self.tokens.first() {
             Some(first) if is_name(&first) => {
@@ -233,10 +222,8 @@ impl<'a> Parser<'a> {
     #[inline(always)]
     #[tactic(auto, unfolding(crate::specs::Reading::whole_at), using(crate::proofs::Walks::passed_then, crate::proofs::Walks::passed_none, crate::proofs::Walks::passed, crate::proofs::Walks::walk_none, crate::proofs::Separated::fails_from))]
     pub(crate) fn whole(&mut self) -> Result<i64, Refusal>
-        ensures read { Gives (λ n. n) result (whole_at (lexemes self.old)) (lexemes self.new) }
-        ensures shorter { length (lexemes self.new) ≤ length (lexemes self.old) }
-        ensures end { self.new.end ≡ self.old.end }
-        ensures walked { IfOk result (λ _. Passed self.old self.new) }
+        ensures read { Gives self.old self.new result (λ n. n) whole_at }
+        ensures walked { Passes self.old self.new result }
     {
         match self.tokens.first() {
             Some(first) => match first.kind {
@@ -254,42 +241,27 @@ impl<'a> Parser<'a> {
     pub(crate) fn begins_whole(&self) -> bool
         ensures { result ≡ next_passes is_whole (lexemes self.now) }
     {
-        match self.tokens.first() {
-            Some(first) => matches!(first.kind, TokenKind::Whole(_)),
-            None => false,
-        }
+        matches!(self.tokens.first(), Some(first) if matches!(first.kind, TokenKind::Whole(_)))
     }
 
     #[inline(always)]
     pub(crate) fn begins_name(&self) -> bool
         ensures { result ≡ next_passes is_name (lexemes self.now) }
     {
-        match self.tokens.first() {
-            Some(first) => is_name(&first),
-            None => false,
-        }
+        matches!(self.tokens.first(), Some(first) if is_name(&first))
     }
 
     pub(crate) fn begins_literal(&self) -> bool {
-        match self.tokens.first() {
-            Some(first) => begins_literal(&first),
-            None => false,
-        }
+        matches!(self.tokens.first(), Some(first) if begins_literal(&first))
     }
 
     pub(crate) fn begins_index(&self) -> bool {
-        match self.tokens.first() {
-            Some(first) => begins_index(&first),
-            None => false,
-        }
+        matches!(self.tokens.first(), Some(first) if begins_index(&first))
     }
 
     #[inline(always)]
     pub(crate) fn begins_basic(&self) -> bool {
-        match self.tokens.first() {
-            Some(first) => is_name(&first) || begins_literal(&first),
-            None => false,
-        }
+        matches!(self.tokens.first(), Some(first) if is_name(&first) || begins_literal(&first))
     }
 
     pub(crate) fn begins_note_basic(&self, depth: usize) -> bool {
@@ -305,9 +277,6 @@ impl<'a> Parser<'a> {
     pub(crate) fn begins_decl(&self) -> bool
         ensures { result ≡ next_passes begins_decl (lexemes self.now) }
     {
-        match self.tokens.first() {
-            Some(first) => begins_decl(&first),
-            None => false,
-        }
+        matches!(self.tokens.first(), Some(first) if begins_decl(&first))
     }
 }

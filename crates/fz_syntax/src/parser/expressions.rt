@@ -1,13 +1,13 @@
 //! Reads literals, names and lists of them.
 
-ghost use Rattle.std.specs.Prelude.{◌≡◌, ◌<◌, ◌≤◌, ◌∷◌, ◌++◌, length, IfOk, IfSome, IfNone, []};
+ghost use Rattle.std.specs.Prelude.{◌≡◌, ◌<◌, ◌∷◌, ◌++◌, length, IfOk, IfSome, IfNone, []};
 ghost use Rattle.fz_tree.specs.View.{lexeme, bare_literal, bare_expression, bare_expr};
 ghost use Rattle.fz_syntax.specs.Outcome.{Gives, IsListed};
-ghost use Rattle.fz_syntax.specs.Reading.{mark_at, whole_at, at_most, separated_at, braces_at, from_whole, literal_at, basic_at, expr_list_at, expr_at, list_at, literal_basic_at};
+ghost use Rattle.fz_syntax.specs.Reading.{whole_at, at_most, separated_at, braces_at, from_whole, literal_at, basic_at, expr_at, literal_basic_at};
 ghost use Rattle.fz_tree.specs.of_lex.Token.{Whole, Marked};
-ghost use Rattle.fz_tree.specs.of_lex.declared.token.Mark.TheVariants.{CloseBracket, Comma};
+ghost use Rattle.fz_tree.specs.of_lex.declared.token.Mark.TheVariants.{Comma};
 ghost use Rattle.fz_syntax.specs.Placed.{placed_mark, placed_literal, placed_basic, placed_expr};
-ghost use Rattle.fz_syntax.specs.Walk.{Passed, Walk, placed_listed, lexemes};
+ghost use Rattle.fz_syntax.specs.Walk.{Walks, Walk, Passes, Passed, placed_listed, lexemes};
 
 use crate::parser::cursor::Parser;
 use crate::parser::elements::Basics;
@@ -22,7 +22,6 @@ impl<'a> Parser<'a> {
     fn eat_with_comma(&mut self) -> Option<Token<'a>>
         ensures read { IfSome result (λ t. lexemes self.old
             ≡ lexeme t ∷ (Marked Comma ∷ lexemes self.new)) }
-        ensures end { self.new.end ≡ self.old.end }
         ensures walked { IfSome result
             (λ t. Walk self.old self.new (placed_listed (lexeme t) t.span)) }
         ensures kept { IfNone result (lexemes self.new ≡ lexemes self.old) }
@@ -43,9 +42,6 @@ impl<'a> Parser<'a> {
     pub(crate) fn eat_listed(&mut self) -> Option<Literal>
         ensures read { IfSome result (λ l. IsListed (bare_literal l) (lexemes self.old)
             (lexemes self.new)) }
-        ensures shorter { IfSome result
-            (λ _. length (lexemes self.new) < length (lexemes self.old)) }
-        ensures end { self.new.end ≡ self.old.end }
         ensures walked { IfSome result
             (λ l. Walk self.old self.new (placed_literal l ++ placed_mark Comma)) }
         ensures kept { IfNone result (lexemes self.new ≡ lexemes self.old) }
@@ -60,17 +56,20 @@ impl<'a> Parser<'a> {
         })
     }
 
-    /// The same for a number in braces.
+    /// The same for a number in braces, whose list has `count` elements so far and isn't full.
     #[inline(always)]
-    fn eat_listed_whole(&mut self) -> Option<i64>
+    fn eat_listed_whole(&mut self, limits: &Limits, count: usize) -> Option<i64>
+        ensures room { IfSome result (λ _. count < limits.now.elements) }
         ensures read { IfSome result (λ n. lexemes self.old
             ≡ Whole n ∷ (Marked Comma ∷ lexemes self.new)) }
         ensures shorter { IfSome result
             (λ _. length (lexemes self.new) < length (lexemes self.old)) }
-        ensures end { self.new.end ≡ self.old.end }
         ensures walked { Passed self.old self.new }
         ensures kept { IfNone result (lexemes self.new ≡ lexemes self.old) }
     {
+        if count >= limits.elements() {
+            return None;
+        }
         let first = self.tokens.first()?;
         let TokenKind::Whole(value) = first.kind else {
             return None;
@@ -83,11 +82,9 @@ impl<'a> Parser<'a> {
     #[tactic(auto, using(crate::proofs::Separated::fails_from))]
     #[inline(always)]
     pub(crate) fn listed_whole(&mut self, limits: &Limits, count: usize) -> Result<i64, Refusal>
-        ensures read { Gives (λ n. n) result (at_most limits.now.elements whole_at count
-            (lexemes self.old)) (lexemes self.new) }
-        ensures shorter { length (lexemes self.new) ≤ length (lexemes self.old) }
-        ensures end { self.new.end ≡ self.old.end }
-        ensures walked { IfOk result (λ _. Passed self.old self.new) }
+        ensures read { Gives self.old self.new result (λ n. n)
+            (at_most limits.now.elements whole_at count) }
+        ensures walked { Passes self.old self.new result }
     {
         if count >= limits.elements() {
             return Err(self.full(self.begins_whole()));
@@ -96,19 +93,14 @@ impl<'a> Parser<'a> {
     }
 
     pub(crate) fn numbers(&mut self, limits: &Limits) -> Result<Vec<i64>, Refusal>
-        ensures read { Gives (λ v. v.items) result (separated_at
-            (at_most limits.now.elements whole_at) (lexemes self.old)) (lexemes self.new) }
-        ensures shorter { length (lexemes self.new) ≤ length (lexemes self.old) }
-        ensures end { self.new.end ≡ self.old.end }
-        ensures walked { IfOk result (λ _. Passed self.old self.new) }
+        ensures read { Gives self.old self.new result (λ v. v.items)
+            (separated_at (at_most limits.now.elements whole_at)) }
+        ensures walked { Passes self.old self.new result }
     {
         let mut numbers = Vec::new(self.alloc);
         'numbers: loop {
             // Numbers with a comma right after them: mostly all but the last.
-            'listed: while numbers.len() < limits.elements() {
-                let Some(number) = self.eat_listed_whole() else {
-                    break;
-                };
+            'listed: while let Some(number) = self.eat_listed_whole(limits, numbers.len()) {
                 numbers.push(number)?;
             }
             let number = self.listed_whole(limits, numbers.len())?;
@@ -122,74 +114,47 @@ impl<'a> Parser<'a> {
     /// Numbers after the brace that opened at `start`.
     #[tactic(auto, unfolding(crate::specs::Reading::braces_at, crate::specs::Reading::list_at, crate::specs::Reading::mark_at), using(crate::proofs::Walks::passed_then, crate::proofs::Walks::passed_none, crate::proofs::Walks::passed, crate::proofs::Walks::walk_none, crate::proofs::Separated::fails_from, crate::proofs::Separated::fails_bind))]
     pub(crate) fn braces(&mut self, limits: &Limits, start: usize) -> Result<Literal, Refusal>
-        ensures read { Gives (bare_literal) result (braces_at limits.now (lexemes self.old))
-            (lexemes self.new) }
-        ensures shorter { length (lexemes self.new) ≤ length (lexemes self.old) }
-        ensures end { self.new.end ≡ self.old.end }
-        ensures walked { IfOk result (λ _. Passed self.old self.new) }
+        ensures read { Gives self.old self.new result bare_literal (braces_at limits.now) }
+        ensures walked { Passes self.old self.new result }
         ensures span { IfOk result (λ l. (l.span.start ≡ start) × (l.span.end ≡ self.new.reached)) }
     {
         if self.eat(Mark::CloseBrace) {
-            return Ok(Literal {
-                span: self.span_from(start),
-                what: LiteralKind::Braces(Vec::new(self.alloc)),
-            });
+            return Ok(self.literal_since(start, LiteralKind::Braces(Vec::new(self.alloc))));
         }
         let numbers = self.numbers(limits)?;
         self.expect(Mark::CloseBrace)?;
-        Ok(Literal {
-            span: self.span_from(start),
-            what: LiteralKind::Braces(numbers),
-        })
+        Ok(self.literal_since(start, LiteralKind::Braces(numbers)))
     }
 
     #[inline(always)]
     #[tactic(auto, unfolding(crate::specs::Reading::from_whole), using(crate::proofs::Walks::passed_then, crate::proofs::Walks::passed_none, crate::proofs::Walks::passed, crate::proofs::Walks::walk_none, crate::proofs::Separated::fails_from, crate::proofs::Separated::fails_bind))]
     pub(crate) fn from_whole(&mut self, low: i64, start: usize) -> Result<Literal, Refusal>
-        ensures read { Gives (bare_literal) result (from_whole low (lexemes self.old))
-            (lexemes self.new) }
-        ensures shorter { length (lexemes self.new) ≤ length (lexemes self.old) }
-        ensures end { self.new.end ≡ self.old.end }
-        ensures walked { IfOk result (λ _. Passed self.old self.new) }
+        ensures read { Gives self.old self.new result bare_literal (from_whole low) }
+        ensures walked { Passes self.old self.new result }
         ensures span { IfOk result (λ l. (l.span.start ≡ start) × (l.span.end ≡ self.new.reached)) }
     {
         if !self.eat(Mark::DotDot) {
-            return Ok(Literal {
-                span: self.span_from(start),
-                what: LiteralKind::Whole(low),
-            });
+            return Ok(self.literal_since(start, LiteralKind::Whole(low)));
         }
         let high = self.whole()?;
-        Ok(Literal {
-            span: self.span_from(start),
-            what: LiteralKind::Range(low, high),
-        })
+        Ok(self.literal_since(start, LiteralKind::Range(low, high)))
     }
 
     /// A literal whose first token starts at `start`.
     #[inline(always)]
     #[tactic(auto, unfolding(crate::specs::Reading::literal_at), using(crate::proofs::Walks::passed_then, crate::proofs::Walks::passed_none, crate::proofs::Walks::passed, crate::proofs::Walks::walk_none, crate::proofs::Separated::fails_from, crate::proofs::Separated::fails_bind))]
     fn literal_from(&mut self, limits: &Limits, start: usize) -> Result<Literal, Refusal>
-        ensures read { Gives (bare_literal) result (literal_at limits.now (lexemes self.old))
-            (lexemes self.new) }
-        ensures shorter { length (lexemes self.new) ≤ length (lexemes self.old) }
-        ensures end { self.new.end ≡ self.old.end }
-        ensures walked { IfOk result (λ _. Passed self.old self.new) }
+        ensures read { Gives self.old self.new result bare_literal (literal_at limits.now) }
+        ensures walked { Passes self.old self.new result }
         ensures span { IfOk result (λ l. (l.span.start ≡ start) × (l.span.end ≡ self.new.reached)) }
     {
         if self.begins_whole() {
             let low = self.whole()?;
             self.from_whole(low, start)
         } else if self.eat_word(b"true") {
-            Ok(Literal {
-                span: self.span_from(start),
-                what: LiteralKind::Truth(true),
-            })
+            Ok(self.literal_since(start, LiteralKind::Truth(true)))
         } else if self.eat_word(b"false") {
-            Ok(Literal {
-                span: self.span_from(start),
-                what: LiteralKind::Truth(false),
-            })
+            Ok(self.literal_since(start, LiteralKind::Truth(false)))
         } else if self.eat(Mark::OpenBrace) {
             self.braces(limits, start)
         } else {
@@ -199,11 +164,8 @@ impl<'a> Parser<'a> {
 
     #[inline(always)]
     pub(crate) fn literal(&mut self, limits: &Limits) -> Result<Literal, Refusal>
-        ensures read { Gives (bare_literal) result (literal_at limits.now (lexemes self.old))
-            (lexemes self.new) }
-        ensures shorter { length (lexemes self.new) ≤ length (lexemes self.old) }
-        ensures end { self.new.end ≡ self.old.end }
-        ensures walked { IfOk result (λ l. Walk self.old self.new (placed_literal l)) }
+        ensures read { Gives self.old self.new result bare_literal (literal_at limits.now) }
+        ensures walked { Walks self.old self.new result placed_literal }
     {
         let start = self.place().start;
         self.literal_from(limits, start)
@@ -212,11 +174,8 @@ impl<'a> Parser<'a> {
     #[inline(always)]
     #[tactic(auto, unfolding(crate::specs::Reading::basic_at), using(crate::proofs::Walks::passed_then, crate::proofs::Walks::passed_none, crate::proofs::Walks::passed, crate::proofs::Walks::walk_none, crate::proofs::Separated::fails_from, crate::proofs::Separated::fails_bind))]
     pub(crate) fn basic(&mut self, limits: &Limits) -> Result<Basic<'a>, Refusal>
-        ensures read { Gives (bare_expression) result (basic_at limits.now (lexemes self.old))
-            (lexemes self.new) }
-        ensures shorter { length (lexemes self.new) ≤ length (lexemes self.old) }
-        ensures end { self.new.end ≡ self.old.end }
-        ensures walked { IfOk result (λ b. Walk self.old self.new (placed_basic b)) }
+        ensures read { Gives self.old self.new result bare_expression (basic_at limits.now) }
+        ensures walked { Walks self.old self.new result placed_basic }
     {
         if self.begins_name() {
             Ok(Basic::Named(self.name()?))
@@ -226,13 +185,10 @@ impl<'a> Parser<'a> {
     }
 
     #[inline(always)]
-    #[tactic(auto, unfolding(crate::specs::Reading::expr_at, crate::specs::Reading::expr_list_at), using(crate::proofs::Walks::passed_then, crate::proofs::Walks::passed_none, crate::proofs::Walks::passed, crate::proofs::Walks::walk_none, crate::proofs::Separated::fails_from, crate::proofs::Separated::fails_bind))]
+    #[tactic(auto, unfolding(crate::specs::Reading::expr_at), using(crate::proofs::Walks::passed_then, crate::proofs::Walks::passed_none, crate::proofs::Walks::passed, crate::proofs::Walks::walk_none, crate::proofs::Separated::fails_from, crate::proofs::Separated::fails_bind))]
     pub(crate) fn expr(&mut self, limits: &Limits) -> Result<Expr<'a>, Refusal>
-        ensures read { Gives (bare_expr) result (expr_at limits.now (lexemes self.old))
-            (lexemes self.new) }
-        ensures shorter { length (lexemes self.new) ≤ length (lexemes self.old) }
-        ensures end { self.new.end ≡ self.old.end }
-        ensures walked { IfOk result (λ e. Walk self.old self.new (placed_expr e)) }
+        ensures read { Gives self.old self.new result bare_expr (expr_at limits.now) }
+        ensures walked { Walks self.old self.new result placed_expr }
     {
         if self.eat(Mark::OpenBracket) {
             Ok(Expr::List(self.list::<Basics>(limits, Mark::CloseBracket)?))
@@ -243,11 +199,9 @@ impl<'a> Parser<'a> {
 
     #[tactic(auto, unfolding(crate::specs::Reading::literal_basic_at), using(crate::proofs::Walks::passed_then, crate::proofs::Walks::passed_none, crate::proofs::Walks::passed, crate::proofs::Walks::walk_none, crate::proofs::Separated::fails_from, crate::proofs::Separated::fails_bind))]
     pub(crate) fn literal_basic(&mut self, limits: &Limits) -> Result<Basic<'a>, Refusal>
-        ensures read { Gives (bare_expression) result
-            (literal_basic_at limits.now (lexemes self.old)) (lexemes self.new) }
-        ensures shorter { length (lexemes self.new) ≤ length (lexemes self.old) }
-        ensures end { self.new.end ≡ self.old.end }
-        ensures walked { IfOk result (λ b. Walk self.old self.new (placed_basic b)) }
+        ensures read { Gives self.old self.new result bare_expression
+            (literal_basic_at limits.now) }
+        ensures walked { Walks self.old self.new result placed_basic }
     {
         Ok(Basic::Lit(self.literal(limits)?))
     }

@@ -1,11 +1,11 @@
 //! Reads the items of a model.
 
-ghost use Rattle.std.specs.Prelude.{◌≡◌, ◌≤◌, codes, length, true, IfOk};
+ghost use Rattle.std.specs.Prelude.{◌≡◌, codes, length, true};
 ghost use Rattle.fz_tree.specs.View.{bare_expr, bare_param, bare_predicate, bare_constraint, bare_goal, bare_solve, bare_value, bare_decl};
 ghost use Rattle.fz_syntax.specs.Outcome.{Gives};
 ghost use Rattle.fz_syntax.specs.Reading.{param_at, predicate_at, next_word, constraint_at, goal_at, solve_at, decl_at, value_at, given_value_at, may_lack_value};
 ghost use Rattle.fz_syntax.specs.Placed.{placed_expr, placed_param, placed_predicate, placed_constraint, placed_goal, placed_solve, placed_value, placed_decl};
-ghost use Rattle.fz_syntax.specs.Walk.{Walk, lexemes};
+ghost use Rattle.fz_syntax.specs.Walk.{Walks, lexemes};
 
 use crate::parser::cursor::Parser;
 use crate::parser::elements::{Arguments, Basics, Literals, Parameters};
@@ -16,11 +16,8 @@ use fz_tree::{Constraint, Decl, Expr, Goal, Limits, Mark, Param, Predicate, Solv
 impl<'a> Parser<'a> {
     #[tactic(auto, unfolding(crate::specs::Reading::param_at, crate::specs::Reading::var_at), using(crate::proofs::Walks::passed_then, crate::proofs::Walks::passed_none, crate::proofs::Walks::passed, crate::proofs::Walks::walk_none, crate::proofs::Separated::fails_from, crate::proofs::Separated::fails_bind))]
     pub(crate) fn param(&mut self, limits: &Limits) -> Result<Param<'a>, Refusal>
-        ensures read { Gives (bare_param) result (param_at limits.now (lexemes self.old))
-            (lexemes self.new) }
-        ensures shorter { length (lexemes self.new) ≤ length (lexemes self.old) }
-        ensures end { self.new.end ≡ self.old.end }
-        ensures walked { IfOk result (λ p. Walk self.old self.new (placed_param p)) }
+        ensures read { Gives self.old self.new result bare_param (param_at limits.now) }
+        ensures walked { Walks self.old self.new result placed_param }
     {
         let array = self.param_prefix(limits)?;
         let is_var = self.eat_word(b"var");
@@ -37,11 +34,8 @@ impl<'a> Parser<'a> {
 
     #[tactic(auto, unfolding(crate::specs::Reading::predicate_at), using(crate::proofs::Walks::passed_then, crate::proofs::Walks::passed_none, crate::proofs::Walks::passed, crate::proofs::Walks::walk_none, crate::proofs::Separated::fails_from, crate::proofs::Separated::fails_bind))]
     pub(crate) fn predicate(&mut self, limits: &Limits) -> Result<Predicate<'a>, Refusal>
-        ensures read { Gives (bare_predicate) result (predicate_at limits.now (lexemes self.old))
-            (lexemes self.new) }
-        ensures shorter { length (lexemes self.new) ≤ length (lexemes self.old) }
-        ensures end { self.new.end ≡ self.old.end }
-        ensures walked { IfOk result (λ p. Walk self.old self.new (placed_predicate p)) }
+        ensures read { Gives self.old self.new result bare_predicate (predicate_at limits.now) }
+        ensures walked { Walks self.old self.new result placed_predicate }
     {
         self.expect_word(b"predicate")?;
         let name = self.name()?;
@@ -55,11 +49,8 @@ impl<'a> Parser<'a> {
     /// A constraint, whose first word has been looked at.
     pub(crate) fn constraint(&mut self, limits: &Limits) -> Result<Constraint<'a>, Refusal>
         requires begun { next_word (codes "constraint") (lexemes self.old) ≡ true }
-        ensures read { Gives (bare_constraint) result (constraint_at limits.now (lexemes self.old))
-            (lexemes self.new) }
-        ensures shorter { length (lexemes self.new) ≤ length (lexemes self.old) }
-        ensures end { self.new.end ≡ self.old.end }
-        ensures walked { IfOk result (λ c. Walk self.old self.new (placed_constraint c)) }
+        ensures read { Gives self.old self.new result bare_constraint (constraint_at limits.now) }
+        ensures walked { Walks self.old self.new result placed_constraint }
     {
         self.skip();
         let name = self.name()?;
@@ -72,11 +63,8 @@ impl<'a> Parser<'a> {
 
     #[tactic(auto, unfolding(crate::specs::Reading::goal_at), using(crate::proofs::Walks::passed_then, crate::proofs::Walks::passed_none, crate::proofs::Walks::passed, crate::proofs::Walks::walk_none, crate::proofs::Separated::fails_from, crate::proofs::Separated::fails_bind))]
     pub(crate) fn goal(&mut self, limits: &Limits) -> Result<Goal<'a>, Refusal>
-        ensures read { Gives (bare_goal) result (goal_at limits.now (lexemes self.old))
-            (lexemes self.new) }
-        ensures shorter { length (lexemes self.new) ≤ length (lexemes self.old) }
-        ensures end { self.new.end ≡ self.old.end }
-        ensures walked { IfOk result (λ g. Walk self.old self.new (placed_goal g)) }
+        ensures read { Gives self.old self.new result bare_goal (goal_at limits.now) }
+        ensures walked { Walks self.old self.new result placed_goal }
     {
         if self.eat_word(b"minimize") {
             Ok(Goal::Minimize(self.basic(limits)?))
@@ -90,11 +78,8 @@ impl<'a> Parser<'a> {
 
     #[tactic(auto, unfolding(crate::specs::Reading::solve_at), using(crate::proofs::Walks::passed_then, crate::proofs::Walks::passed_none, crate::proofs::Walks::passed, crate::proofs::Walks::walk_none, crate::proofs::Separated::fails_from, crate::proofs::Separated::fails_bind))]
     pub(crate) fn solve(&mut self, limits: &Limits) -> Result<Solve<'a>, Refusal>
-        ensures read { Gives (bare_solve) result (solve_at limits.now (lexemes self.old))
-            (lexemes self.new) }
-        ensures shorter { length (lexemes self.new) ≤ length (lexemes self.old) }
-        ensures end { self.new.end ≡ self.old.end }
-        ensures walked { IfOk result (λ s. Walk self.old self.new (placed_solve s)) }
+        ensures read { Gives self.old self.new result bare_solve (solve_at limits.now) }
+        ensures walked { Walks self.old self.new result placed_solve }
     {
         self.expect_word(b"solve")?;
         let notes = self.notes(limits)?;
@@ -103,18 +88,15 @@ impl<'a> Parser<'a> {
         Ok(Solve { notes, goal })
     }
 
-    #[tactic(auto, unfolding(crate::specs::Reading::value_at, crate::specs::Reading::expr_list_at), using(crate::proofs::Walks::passed_then, crate::proofs::Walks::passed_none, crate::proofs::Walks::passed, crate::proofs::Walks::walk_none, crate::proofs::Separated::fails_from, crate::proofs::Separated::fails_bind))]
+    #[tactic(auto, unfolding(crate::specs::Reading::value_at), using(crate::proofs::Walks::passed_then, crate::proofs::Walks::passed_none, crate::proofs::Walks::passed, crate::proofs::Walks::walk_none, crate::proofs::Separated::fails_from, crate::proofs::Separated::fails_bind))]
     pub(crate) fn value(
         &mut self,
         limits: &Limits,
         is_var: bool,
         array: Option<usize>,
     ) -> Result<Expr<'a>, Refusal>
-        ensures read { Gives (bare_expr) result
-            (value_at limits.now is_var array (lexemes self.old)) (lexemes self.new) }
-        ensures shorter { length (lexemes self.new) ≤ length (lexemes self.old) }
-        ensures end { self.new.end ≡ self.old.end }
-        ensures walked { IfOk result (λ e. Walk self.old self.new (placed_expr e)) }
+        ensures read { Gives self.old self.new result bare_expr (value_at limits.now is_var array) }
+        ensures walked { Walks self.old self.new result placed_expr }
     {
         match (is_var, array) {
             (true, None) => Ok(Expr::One(self.basic(limits)?)),
@@ -137,11 +119,9 @@ impl<'a> Parser<'a> {
         is_var: bool,
         array: Option<usize>,
     ) -> Result<Option<Expr<'a>>, Refusal>
-        ensures read { Gives (bare_value) result
-            (given_value_at limits.now is_var array (lexemes self.old)) (lexemes self.new) }
-        ensures shorter { length (lexemes self.new) ≤ length (lexemes self.old) }
-        ensures end { self.new.end ≡ self.old.end }
-        ensures walked { IfOk result (λ o. Walk self.old self.new (placed_value o)) }
+        ensures read { Gives self.old self.new result bare_value
+            (given_value_at limits.now is_var array) }
+        ensures walked { Walks self.old self.new result placed_value }
     {
         if may_lack_value(is_var, array) && !self.next_is(Mark::Equals) {
             return Ok(None);
@@ -152,11 +132,8 @@ impl<'a> Parser<'a> {
 
     #[tactic(auto, unfolding(crate::specs::Reading::decl_at, crate::specs::Reading::var_at), using(crate::proofs::Walks::passed_then, crate::proofs::Walks::passed_none, crate::proofs::Walks::passed, crate::proofs::Walks::walk_none, crate::proofs::Separated::fails_from, crate::proofs::Separated::fails_bind))]
     pub(crate) fn decl(&mut self, limits: &Limits) -> Result<Decl<'a>, Refusal>
-        ensures read { Gives (bare_decl) result (decl_at limits.now (lexemes self.old))
-            (lexemes self.new) }
-        ensures shorter { length (lexemes self.new) ≤ length (lexemes self.old) }
-        ensures end { self.new.end ≡ self.old.end }
-        ensures walked { IfOk result (λ d. Walk self.old self.new (placed_decl d)) }
+        ensures read { Gives self.old self.new result bare_decl (decl_at limits.now) }
+        ensures walked { Walks self.old self.new result placed_decl }
     {
         let length = self.prefix(limits)?;
         let is_var = self.eat_word(b"var");

@@ -1,16 +1,17 @@
 //! Reads the items of a solver's output.
 
-ghost use Rattle.std.specs.Prelude.{◌≡◌, ◌≤◌, ◌==◌, if◌then◌else◌, drop, ◌++◌, length, map, IfOk};
+ghost use Rattle.std.specs.Prelude.{◌≡◌, ◌==◌, if◌then◌else◌, drop, ◌++◌, map, IfOk};
 ghost use Rattle.fz_tree.specs.View.{bare_literal, bare_printed_value, bare_printed, bare_items};
 ghost use Rattle.fz_syntax.specs.Outcome.{Gives};
-ghost use Rattle.fz_syntax.specs.Reading.{any_number, at_most, separated_at, literal_at, many_at, is_name};
-ghost use Rattle.fz_syntax.specs.ReadingItems.{next_dimensions, index_set_at, index_sets_at, elements_at, printed_array_at, printed_value_at, printed_at};
-ghost use Rattle.fz_syntax.specs.Placed.{placed_mark, placed_word, placed_separated, placed_literal, placed_indexes, placed_printed_value, placed_printed, placed_items};
-ghost use Rattle.fz_tree.specs.of_lex.declared.token.Mark.TheVariants.{CloseBracket, Comma};
+ghost use Rattle.fz_syntax.specs.Reading.{any_number, many_at, is_name};
+ghost use Rattle.fz_syntax.specs.ReadingItems.{next_dimensions, index_set_at, index_sets_at, printed_array_at, printed_value_at, printed_at};
+ghost use Rattle.fz_syntax.specs.Placed.{placed_mark, placed_word, placed_literal, placed_indexes, placed_printed_value, placed_printed, placed_items};
+ghost use Rattle.fz_tree.specs.of_lex.declared.token.Mark.TheVariants.{Comma};
 ghost use Rattle.fz_tree.specs.Tokens.{array_word};
-ghost use Rattle.fz_syntax.specs.Walk.{Passed, Walk, lexemes};
+ghost use Rattle.fz_syntax.specs.Walk.{Walks, Passed, lexemes};
 
 use crate::parser::cursor::Parser;
+use crate::parser::elements::Elements;
 use crate::parser::kinds::dimensions;
 use crate::parser::refusal::Refusal;
 use fz_tree::{Limits, Literal, Mark, Printed, PrintedValue};
@@ -22,8 +23,6 @@ impl<'a> Parser<'a> {
         ensures found { result ≡ next_dimensions (lexemes self.old) }
         ensures left { lexemes self.new ≡ (if next_dimensions (lexemes self.old) == 0
             then lexemes self.old else drop 1 (lexemes self.old)) }
-        ensures shorter { length (lexemes self.new) ≤ length (lexemes self.old) }
-        ensures end { self.new.end ≡ self.old.end }
         ensures walked { Passed self.old self.new }
     {
         match self.tokens.first() {
@@ -40,12 +39,9 @@ impl<'a> Parser<'a> {
 
     #[tactic(auto, unfolding(crate::specs::ReadingItems::index_set_at), using(crate::proofs::Walks::passed_then, crate::proofs::Walks::passed_none, crate::proofs::Walks::passed, crate::proofs::Walks::walk_none, crate::proofs::Separated::fails_from, crate::proofs::Separated::fails_bind))]
     fn index_set(&mut self, limits: &Limits) -> Result<Literal, Refusal>
-        ensures read { Gives bare_literal result (index_set_at limits.now (lexemes self.old))
-            (lexemes self.new) }
-        ensures shorter { length (lexemes self.new) ≤ length (lexemes self.old) }
-        ensures end { self.new.end ≡ self.old.end }
-        ensures walked { IfOk result (λ l. Walk self.old self.new
-            (placed_literal l ++ placed_mark Comma)) }
+        ensures read { Gives self.old self.new result bare_literal (index_set_at limits.now) }
+        ensures walked { Walks self.old self.new result
+            (λ l. placed_literal l ++ placed_mark Comma) }
     {
         let bounds = self.bounds(limits)?;
         self.expect(Mark::Comma)?;
@@ -53,11 +49,9 @@ impl<'a> Parser<'a> {
     }
 
     fn index_sets(&mut self, limits: &Limits, count: usize) -> Result<Vec<Literal>, Refusal>
-        ensures read { Gives (λ v. map bare_literal v.items) result
-            (index_sets_at limits.now count (lexemes self.old)) (lexemes self.new) }
-        ensures shorter { length (lexemes self.new) ≤ length (lexemes self.old) }
-        ensures end { self.new.end ≡ self.old.end }
-        ensures walked { IfOk result (λ v. Walk self.old self.new (placed_indexes v.items)) }
+        ensures read { Gives self.old self.new result (λ v. map bare_literal v.items)
+            (index_sets_at limits.now count) }
+        ensures walked { Walks self.old self.new result (λ v. placed_indexes v.items) }
     {
         let mut sets = Vec::new(self.alloc);
         while sets.len() < count {
@@ -67,92 +61,28 @@ impl<'a> Parser<'a> {
         Ok(sets)
     }
 
-    /// An element of a list that has `count` elements so far.
-    #[tactic(auto, using(crate::proofs::Separated::fails_from))]
-    fn listed_element(&mut self, limits: &Limits, count: usize) -> Result<Literal, Refusal>
-        ensures read { Gives bare_literal result (at_most limits.now.elements
-            (literal_at limits.now) count (lexemes self.old)) (lexemes self.new) }
-        ensures shorter { length (lexemes self.new) ≤ length (lexemes self.old) }
-        ensures end { self.new.end ≡ self.old.end }
-        ensures walked { IfOk result (λ l. Walk self.old self.new (placed_literal l)) }
-    {
-        if count >= limits.elements() {
-            return Err(self.full(self.begins_literal()));
-        }
-        self.literal(limits)
-    }
-
-    fn separated_elements(&mut self, limits: &Limits) -> Result<Vec<Literal>, Refusal>
-        ensures read { Gives (λ v. map bare_literal v.items) result
-            (separated_at (at_most limits.now.elements (literal_at limits.now))
-            (lexemes self.old)) (lexemes self.new) }
-        ensures shorter { length (lexemes self.new) ≤ length (lexemes self.old) }
-        ensures end { self.new.end ≡ self.old.end }
-        ensures walked { IfOk result (λ v. Walk self.old self.new
-            (placed_separated placed_literal v.items)) }
-    {
-        let mut elements = Vec::new(self.alloc);
-        'elements: loop {
-            // Literals of one token with a comma right after them: mostly all but the last.
-            'listed: while elements.len() < limits.elements() {
-                let Some(literal) = self.eat_listed() else {
-                    break;
-                };
-                elements.push(literal)?;
-            }
-            let element = self.listed_element(limits, elements.len())?;
-            elements.push(element)?;
-            if !self.eat(Mark::Comma) {
-                return Ok(elements);
-            }
-        }
-    }
-
-    /// An array's elements, after the bracket that opens them.
-    #[tactic(auto, unfolding(crate::specs::ReadingItems::elements_at, crate::specs::Reading::list_at, crate::specs::Reading::mark_at), using(crate::proofs::Walks::passed_then, crate::proofs::Walks::passed_none, crate::proofs::Walks::passed, crate::proofs::Walks::walk_none, crate::proofs::Separated::fails_from, crate::proofs::Separated::fails_bind))]
-    fn elements(&mut self, limits: &Limits) -> Result<Vec<Literal>, Refusal>
-        ensures read { Gives (λ v. map bare_literal v.items) result
-            (elements_at limits.now (lexemes self.old)) (lexemes self.new) }
-        ensures shorter { length (lexemes self.new) ≤ length (lexemes self.old) }
-        ensures end { self.new.end ≡ self.old.end }
-        ensures walked { IfOk result (λ v. Walk self.old self.new
-            (placed_separated placed_literal v.items ++ placed_mark CloseBracket)) }
-    {
-        if self.eat(Mark::CloseBracket) {
-            return Ok(Vec::new(self.alloc));
-        }
-        let elements = self.separated_elements(limits)?;
-        self.expect(Mark::CloseBracket)?;
-        Ok(elements)
-    }
-
     /// An array, after its word, which says how many index sets it has.
     #[tactic(auto, unfolding(crate::specs::ReadingItems::printed_array_at), using(crate::proofs::Walks::passed_then, crate::proofs::Walks::passed_none, crate::proofs::Walks::passed, crate::proofs::Walks::walk_none, crate::proofs::Separated::fails_from, crate::proofs::Separated::fails_bind))]
     fn printed_array(&mut self, limits: &Limits, dimensions: usize) -> Result<PrintedValue, Refusal>
-        ensures read { Gives bare_printed_value result
-            (printed_array_at limits.now dimensions (lexemes self.old)) (lexemes self.new) }
-        ensures shorter { length (lexemes self.new) ≤ length (lexemes self.old) }
-        ensures end { self.new.end ≡ self.old.end }
-        ensures walked { IfOk result (λ v. Walk self.old self.new
-            (drop 1 (placed_printed_value v))) }
+        ensures read { Gives self.old self.new result bare_printed_value
+            (printed_array_at limits.now dimensions) }
+        ensures walked { Walks self.old self.new result (λ v. drop 1 (placed_printed_value v)) }
         ensures worded { IfOk result (λ v. placed_printed_value v
             ≡ placed_word (array_word dimensions) ++ drop 1 (placed_printed_value v)) }
     {
         self.expect(Mark::OpenParen)?;
         let indexes = self.index_sets(limits, dimensions)?;
         self.expect(Mark::OpenBracket)?;
-        let elements = self.elements(limits)?;
+        let elements = self.list::<Elements>(limits, Mark::CloseBracket)?;
         self.expect(Mark::CloseParen)?;
         Ok(PrintedValue::Array { indexes, elements })
     }
 
     #[tactic(auto, unfolding(crate::specs::ReadingItems::printed_value_at), using(crate::proofs::Walks::passed_then, crate::proofs::Walks::passed_none, crate::proofs::Walks::passed, crate::proofs::Walks::walk_none, crate::proofs::Separated::fails_from, crate::proofs::Separated::fails_bind))]
     fn printed_value(&mut self, limits: &Limits) -> Result<PrintedValue, Refusal>
-        ensures read { Gives bare_printed_value result
-            (printed_value_at limits.now (lexemes self.old)) (lexemes self.new) }
-        ensures shorter { length (lexemes self.new) ≤ length (lexemes self.old) }
-        ensures end { self.new.end ≡ self.old.end }
-        ensures walked { IfOk result (λ v. Walk self.old self.new (placed_printed_value v)) }
+        ensures read { Gives self.old self.new result bare_printed_value
+            (printed_value_at limits.now) }
+        ensures walked { Walks self.old self.new result placed_printed_value }
     {
         let dimensions = self.eat_array();
         if dimensions == 0 {
@@ -164,11 +94,8 @@ impl<'a> Parser<'a> {
 
     #[tactic(auto, unfolding(crate::specs::ReadingItems::printed_at), using(crate::proofs::Walks::passed_then, crate::proofs::Walks::passed_none, crate::proofs::Walks::passed, crate::proofs::Walks::walk_none, crate::proofs::Separated::fails_from, crate::proofs::Separated::fails_bind))]
     fn printed(&mut self, limits: &Limits) -> Result<Printed<'a>, Refusal>
-        ensures read { Gives bare_printed result (printed_at limits.now (lexemes self.old))
-            (lexemes self.new) }
-        ensures shorter { length (lexemes self.new) ≤ length (lexemes self.old) }
-        ensures end { self.new.end ≡ self.old.end }
-        ensures walked { IfOk result (λ p. Walk self.old self.new (placed_printed p)) }
+        ensures read { Gives self.old self.new result bare_printed (printed_at limits.now) }
+        ensures walked { Walks self.old self.new result placed_printed }
     {
         let name = self.name()?;
         self.expect(Mark::Equals)?;
@@ -178,12 +105,9 @@ impl<'a> Parser<'a> {
     }
 
     pub(crate) fn printed_items(&mut self, limits: &Limits) -> Result<Vec<Printed<'a>>, Refusal>
-        ensures read { Gives (λ v. bare_items v.items) result
-            (many_at is_name (any_number (printed_at limits.now)) 0 (lexemes self.old))
-            (lexemes self.new) }
-        ensures shorter { length (lexemes self.new) ≤ length (lexemes self.old) }
-        ensures end { self.new.end ≡ self.old.end }
-        ensures walked { IfOk result (λ v. Walk self.old self.new (placed_items v.items)) }
+        ensures read { Gives self.old self.new result (λ v. bare_items v.items)
+            (many_at is_name (any_number (printed_at limits.now)) 0) }
+        ensures walked { Walks self.old self.new result (λ v. placed_items v.items) }
     {
         let mut items = Vec::new(self.alloc);
         while self.begins_name() {

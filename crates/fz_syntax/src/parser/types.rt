@@ -1,13 +1,11 @@
 //! Reads types and the lengths of arrays.
 
-ghost use Rattle.std.specs.Prelude.{◌≡◌, ◌≤◌, length, IfOk};
+ghost use Rattle.std.specs.Prelude.{◌≡◌, length, IfOk};
 ghost use Rattle.fz_tree.specs.View.{bare_literal, bare_bounds, bare_base, bare_indexes};
 ghost use Rattle.fz_syntax.specs.Outcome.{Gives};
-ghost use Rattle.fz_syntax.specs.Reading.{range_at, bounds_at, int_at, base_at, plain_at, one_at, size_at, index_at, any_index_at, at_most, indexes_at, param_prefix_at, prefix_at, type_at};
-ghost use Rattle.fz_tree.specs.of_lex.declared.token.Mark.TheVariants.{CloseBracket};
-ghost use Rattle.fz_tree.specs.Text.{most_indexes};
+ghost use Rattle.fz_syntax.specs.Reading.{range_at, bounds_at, int_at, base_at, plain_at, one_at, size_at, index_at, any_index_at, listed_index, separated_at, param_prefix_at, prefix_at, type_at};
 ghost use Rattle.fz_syntax.specs.Placed.{placed_literal, placed_bounds, placed_base};
-ghost use Rattle.fz_syntax.specs.Walk.{Passed, Walk, lexemes};
+ghost use Rattle.fz_syntax.specs.Walk.{Walks, Passes};
 
 use crate::parser::cursor::Parser;
 use crate::parser::refusal::Refusal;
@@ -20,30 +18,21 @@ impl<'a> Parser<'a> {
     /// A range whose first number starts at `start`.
     #[tactic(auto, unfolding(crate::specs::Reading::range_at), using(crate::proofs::Walks::passed_then, crate::proofs::Walks::passed_none, crate::proofs::Walks::passed, crate::proofs::Walks::walk_none, crate::proofs::Separated::fails_from, crate::proofs::Separated::fails_bind))]
     fn range(&mut self, start: usize) -> Result<Literal, Refusal>
-        ensures read { Gives (bare_literal) result (range_at (lexemes self.old))
-            (lexemes self.new) }
-        ensures shorter { length (lexemes self.new) ≤ length (lexemes self.old) }
-        ensures end { self.new.end ≡ self.old.end }
-        ensures walked { IfOk result (λ _. Passed self.old self.new) }
+        ensures read { Gives self.old self.new result bare_literal range_at }
+        ensures walked { Passes self.old self.new result }
         ensures span { IfOk result (λ l. (l.span.start ≡ start) × (l.span.end ≡ self.new.reached)) }
     {
         let low = self.whole()?;
         self.expect(Mark::DotDot)?;
         let high = self.whole()?;
-        Ok(Literal {
-            span: self.span_from(start),
-            what: LiteralKind::Range(low, high),
-        })
+        Ok(self.literal_since(start, LiteralKind::Range(low, high)))
     }
 
     /// Bounds whose first token starts at `start`.
     #[tactic(auto, unfolding(crate::specs::Reading::bounds_at), using(crate::proofs::Walks::passed_then, crate::proofs::Walks::passed_none, crate::proofs::Walks::passed, crate::proofs::Walks::walk_none, crate::proofs::Separated::fails_from, crate::proofs::Separated::fails_bind))]
     fn bounds_from(&mut self, limits: &Limits, start: usize) -> Result<Literal, Refusal>
-        ensures read { Gives (bare_literal) result (bounds_at limits.now (lexemes self.old))
-            (lexemes self.new) }
-        ensures shorter { length (lexemes self.new) ≤ length (lexemes self.old) }
-        ensures end { self.new.end ≡ self.old.end }
-        ensures walked { IfOk result (λ _. Passed self.old self.new) }
+        ensures read { Gives self.old self.new result bare_literal (bounds_at limits.now) }
+        ensures walked { Passes self.old self.new result }
         ensures span { IfOk result (λ l. (l.span.start ≡ start) × (l.span.end ≡ self.new.reached)) }
     {
         if self.eat(Mark::OpenBrace) {
@@ -54,11 +43,8 @@ impl<'a> Parser<'a> {
     }
 
     pub(crate) fn bounds(&mut self, limits: &Limits) -> Result<Literal, Refusal>
-        ensures read { Gives (bare_literal) result (bounds_at limits.now (lexemes self.old))
-            (lexemes self.new) }
-        ensures shorter { length (lexemes self.new) ≤ length (lexemes self.old) }
-        ensures end { self.new.end ≡ self.old.end }
-        ensures walked { IfOk result (λ l. Walk self.old self.new (placed_literal l)) }
+        ensures read { Gives self.old self.new result bare_literal (bounds_at limits.now) }
+        ensures walked { Walks self.old self.new result placed_literal }
     {
         let start = self.place().start;
         self.bounds_from(limits, start)
@@ -67,11 +53,8 @@ impl<'a> Parser<'a> {
     /// The word `int`, or bounds.
     #[tactic(auto, unfolding(crate::specs::Reading::int_at), using(crate::proofs::Walks::passed_then, crate::proofs::Walks::passed_none, crate::proofs::Walks::passed, crate::proofs::Walks::walk_none, crate::proofs::Separated::fails_from, crate::proofs::Separated::fails_bind))]
     pub(crate) fn int(&mut self, limits: &Limits) -> Result<Option<Literal>, Refusal>
-        ensures read { Gives (bare_bounds) result (int_at limits.now (lexemes self.old))
-            (lexemes self.new) }
-        ensures shorter { length (lexemes self.new) ≤ length (lexemes self.old) }
-        ensures end { self.new.end ≡ self.old.end }
-        ensures walked { IfOk result (λ o. Walk self.old self.new (placed_bounds o)) }
+        ensures read { Gives self.old self.new result bare_bounds (int_at limits.now) }
+        ensures walked { Walks self.old self.new result placed_bounds }
     {
         if self.eat_word(b"int") {
             Ok(None)
@@ -82,11 +65,8 @@ impl<'a> Parser<'a> {
 
     #[tactic(auto, unfolding(crate::specs::Reading::base_at), using(crate::proofs::Walks::passed_then, crate::proofs::Walks::passed_none, crate::proofs::Walks::passed, crate::proofs::Walks::walk_none, crate::proofs::Separated::fails_from, crate::proofs::Separated::fails_bind))]
     pub(crate) fn base(&mut self, limits: &Limits) -> Result<Base, Refusal>
-        ensures read { Gives (bare_base) result (base_at limits.now (lexemes self.old))
-            (lexemes self.new) }
-        ensures shorter { length (lexemes self.new) ≤ length (lexemes self.old) }
-        ensures end { self.new.end ≡ self.old.end }
-        ensures walked { IfOk result (λ b. Walk self.old self.new (placed_base b)) }
+        ensures read { Gives self.old self.new result bare_base (base_at limits.now) }
+        ensures walked { Walks self.old self.new result placed_base }
     {
         if self.eat_word(b"bool") {
             Ok(Base::Bool)
@@ -101,10 +81,8 @@ impl<'a> Parser<'a> {
     /// The type of a parameter.
     #[tactic(auto, unfolding(crate::specs::Reading::plain_at), using(crate::proofs::Walks::passed_then, crate::proofs::Walks::passed_none, crate::proofs::Walks::passed, crate::proofs::Walks::walk_none, crate::proofs::Separated::fails_from, crate::proofs::Separated::fails_bind))]
     pub(crate) fn plain(&mut self) -> Result<Base, Refusal>
-        ensures read { Gives (bare_base) result (plain_at (lexemes self.old)) (lexemes self.new) }
-        ensures shorter { length (lexemes self.new) ≤ length (lexemes self.old) }
-        ensures end { self.new.end ≡ self.old.end }
-        ensures walked { IfOk result (λ b. Walk self.old self.new (placed_base b)) }
+        ensures read { Gives self.old self.new result bare_base plain_at }
+        ensures walked { Walks self.old self.new result placed_base }
     {
         if self.eat_word(b"bool") {
             Ok(Base::Bool)
@@ -120,10 +98,8 @@ impl<'a> Parser<'a> {
 
     #[tactic(auto, unfolding(crate::specs::Reading::one_at), using(crate::proofs::Walks::passed_then, crate::proofs::Walks::passed_none, crate::proofs::Walks::passed, crate::proofs::Walks::walk_none, crate::proofs::Separated::fails_from, crate::proofs::Separated::fails_bind))]
     pub(crate) fn one(&mut self) -> Result<(), Refusal>
-        ensures read { Gives (λ _. tt) result (one_at (lexemes self.old)) (lexemes self.new) }
-        ensures shorter { length (lexemes self.new) ≤ length (lexemes self.old) }
-        ensures end { self.new.end ≡ self.old.end }
-        ensures walked { IfOk result (λ _. Passed self.old self.new) }
+        ensures read { Gives self.old self.new result (λ _. tt) one_at }
+        ensures walked { Passes self.old self.new result }
     {
         match self.tokens.first() {
             Some(first) => {
@@ -140,11 +116,8 @@ impl<'a> Parser<'a> {
 
     #[tactic(auto, unfolding(crate::specs::Reading::size_at), using(crate::proofs::Walks::passed_then, crate::proofs::Walks::passed_none, crate::proofs::Walks::passed, crate::proofs::Walks::walk_none, crate::proofs::Separated::fails_from, crate::proofs::Separated::fails_bind))]
     pub(crate) fn size(&mut self, limits: &Limits) -> Result<usize, Refusal>
-        ensures read { Gives (λ n. n) result (size_at limits.now (lexemes self.old))
-            (lexemes self.new) }
-        ensures shorter { length (lexemes self.new) ≤ length (lexemes self.old) }
-        ensures end { self.new.end ≡ self.old.end }
-        ensures walked { IfOk result (λ _. Passed self.old self.new) }
+        ensures read { Gives self.old self.new result (λ n. n) (size_at limits.now) }
+        ensures walked { Passes self.old self.new result }
     {
         match self.tokens.first() {
             Some(first) => match first.kind {
@@ -167,11 +140,8 @@ impl<'a> Parser<'a> {
 
     #[tactic(auto, unfolding(crate::specs::Reading::index_at), using(crate::proofs::Walks::passed_then, crate::proofs::Walks::passed_none, crate::proofs::Walks::passed, crate::proofs::Walks::walk_none, crate::proofs::Separated::fails_from, crate::proofs::Separated::fails_bind))]
     pub(crate) fn index(&mut self, limits: &Limits) -> Result<usize, Refusal>
-        ensures read { Gives (λ n. n) result (index_at limits.now (lexemes self.old))
-            (lexemes self.new) }
-        ensures shorter { length (lexemes self.new) ≤ length (lexemes self.old) }
-        ensures end { self.new.end ≡ self.old.end }
-        ensures walked { IfOk result (λ _. Passed self.old self.new) }
+        ensures read { Gives self.old self.new result (λ n. n) (index_at limits.now) }
+        ensures walked { Passes self.old self.new result }
     {
         self.one()?;
         self.expect(Mark::DotDot)?;
@@ -180,11 +150,8 @@ impl<'a> Parser<'a> {
 
     #[tactic(auto, unfolding(crate::specs::Reading::any_index_at), using(crate::proofs::Walks::passed_then, crate::proofs::Walks::passed_none, crate::proofs::Walks::passed, crate::proofs::Walks::walk_none, crate::proofs::Separated::fails_from, crate::proofs::Separated::fails_bind))]
     pub(crate) fn any_index(&mut self, limits: &Limits) -> Result<Option<usize>, Refusal>
-        ensures read { Gives (λ n. n) result (any_index_at limits.now (lexemes self.old))
-            (lexemes self.new) }
-        ensures shorter { length (lexemes self.new) ≤ length (lexemes self.old) }
-        ensures end { self.new.end ≡ self.old.end }
-        ensures walked { IfOk result (λ _. Passed self.old self.new) }
+        ensures read { Gives self.old self.new result (λ n. n) (any_index_at limits.now) }
+        ensures walked { Passes self.old self.new result }
     {
         if self.eat_word(b"int") {
             Ok(None)
@@ -196,11 +163,9 @@ impl<'a> Parser<'a> {
     /// An index set of an array that has `count` index sets so far.
     #[tactic(auto, using(crate::proofs::Separated::fails_from))]
     fn listed_index(&mut self, limits: &Limits, count: usize) -> Result<Option<usize>, Refusal>
-        ensures read { Gives (λ n. n) result (at_most most_indexes
-            (any_index_at limits.now) count (lexemes self.old)) (lexemes self.new) }
-        ensures shorter { length (lexemes self.new) ≤ length (lexemes self.old) }
-        ensures end { self.new.end ≡ self.old.end }
-        ensures walked { IfOk result (λ _. Passed self.old self.new) }
+        ensures read { Gives self.old self.new result (λ n. n)
+            (listed_index limits.now count) }
+        ensures walked { Passes self.old self.new result }
     {
         if count >= MOST_INDEXES {
             return Err(self.full(self.begins_index()));
@@ -210,11 +175,9 @@ impl<'a> Parser<'a> {
 
     /// The index sets of an array, up to the bracket after them.
     fn indexes(&mut self, limits: &Limits) -> Result<Vec<Option<usize>>, Refusal>
-        ensures read { Gives (λ v. v.items) result (indexes_at limits.now (lexemes self.old))
-            (lexemes self.new) }
-        ensures shorter { length (lexemes self.new) ≤ length (lexemes self.old) }
-        ensures end { self.new.end ≡ self.old.end }
-        ensures walked { IfOk result (λ _. Passed self.old self.new) }
+        ensures read { Gives self.old self.new result (λ v. v.items)
+            (separated_at (listed_index limits.now)) }
+        ensures walked { Passes self.old self.new result }
     {
         let mut indexes = Vec::new(self.alloc);
         indexes.push(self.listed_index(limits, 0)?)?;
@@ -230,11 +193,8 @@ impl<'a> Parser<'a> {
         &mut self,
         limits: &Limits,
     ) -> Result<Option<Vec<Option<usize>>>, Refusal>
-        ensures read { Gives bare_indexes result (param_prefix_at limits.now (lexemes self.old))
-            (lexemes self.new) }
-        ensures shorter { length (lexemes self.new) ≤ length (lexemes self.old) }
-        ensures end { self.new.end ≡ self.old.end }
-        ensures walked { IfOk result (λ _. Passed self.old self.new) }
+        ensures read { Gives self.old self.new result bare_indexes (param_prefix_at limits.now) }
+        ensures walked { Passes self.old self.new result }
     {
         if !self.eat_word(b"array") {
             return Ok(None);
@@ -248,11 +208,8 @@ impl<'a> Parser<'a> {
 
     #[tactic(auto, unfolding(crate::specs::Reading::prefix_at, crate::specs::Reading::array_at), using(crate::proofs::Walks::passed_then, crate::proofs::Walks::passed_none, crate::proofs::Walks::passed, crate::proofs::Walks::walk_none, crate::proofs::Separated::fails_from, crate::proofs::Separated::fails_bind))]
     pub(crate) fn prefix(&mut self, limits: &Limits) -> Result<Option<usize>, Refusal>
-        ensures read { Gives (λ n. n) result (prefix_at limits.now (lexemes self.old))
-            (lexemes self.new) }
-        ensures shorter { length (lexemes self.new) ≤ length (lexemes self.old) }
-        ensures end { self.new.end ≡ self.old.end }
-        ensures walked { IfOk result (λ _. Passed self.old self.new) }
+        ensures read { Gives self.old self.new result (λ n. n) (prefix_at limits.now) }
+        ensures walked { Passes self.old self.new result }
     {
         if !self.eat_word(b"array") {
             return Ok(None);
@@ -266,11 +223,8 @@ impl<'a> Parser<'a> {
 
     #[tactic(auto, unfolding(crate::specs::Reading::type_at), using(crate::proofs::Walks::passed_then, crate::proofs::Walks::passed_none, crate::proofs::Walks::passed, crate::proofs::Walks::walk_none, crate::proofs::Separated::fails_from, crate::proofs::Separated::fails_bind))]
     pub(crate) fn element_type(&mut self, limits: &Limits, is_var: bool) -> Result<Base, Refusal>
-        ensures read { Gives (bare_base) result (type_at limits.now is_var (lexemes self.old))
-            (lexemes self.new) }
-        ensures shorter { length (lexemes self.new) ≤ length (lexemes self.old) }
-        ensures end { self.new.end ≡ self.old.end }
-        ensures walked { IfOk result (λ b. Walk self.old self.new (placed_base b)) }
+        ensures read { Gives self.old self.new result bare_base (type_at limits.now is_var) }
+        ensures walked { Walks self.old self.new result placed_base }
     {
         if is_var {
             self.base(limits)

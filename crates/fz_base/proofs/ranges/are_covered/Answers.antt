@@ -4,11 +4,9 @@ use Rattle.std.proofs.lemmas.Int.{to_z-of_z}
 use Rattle.std.proofs.lemmas.List.{take_all}
 use Rattle.std.proofs.lemmas.Grind.{common_steps}
 use Rattle.fz_base.specs.declared.ranges.Range.{Range}
+use Rattle.fz_base.proofs.Covers.{nowhere}
 use Rattle.fz_base.proofs.Within.{order_past, lies_in_more, lies_not_in, first_low_fits, first_high_fits}
 use Rattle.fz_base.proofs.ranges.are_covered.Goals as goal
-
-abbrev nowhere : Range
-nowhere = record { lo = pos 0; hi = pos 0 }
 
 pub returns-then-not-have_all : goal.returns-then-not-have_all
 returns-then-not-have_all c = grind (arith, common_steps, get_or, first_low_fits, first_high_fits, to_z-of_z, false≢true, lies_not_in)

@@ -27,9 +27,6 @@ walk-preserved c =
           s.ensures.goes_on c.walk.invariant.a_same c.walk.invariant.b_same c.walk.invariant.c_same s.ensures.a_alike s.ensures.b_alike s.ensures.c_alike c.walk.invariant.agree here x (omega (arith, ints));
     })
 
-pub returns-then-in_c-wanted : goal.returns-then-in_c-wanted
-returns-then-in_c-wanted c = search rules
-
 pub returns-then-end-eq9223372036854775807 : goal.returns-then-end-eq9223372036854775807
 returns-then-end-eq9223372036854775807 c =
     let s = c.common_stretch-in_a in

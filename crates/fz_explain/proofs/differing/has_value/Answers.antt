@@ -3,7 +3,7 @@ use Rattle.std.specs.Option.{option_map_or}
 use Rattle.fz_base.specs.declared.value.Value.TheVariants.{Set}
 use Rattle.fz_judge.specs.of_model.Meaning.{value_at}
 use Rattle.fz_judge.specs.of_model.Names.{literal_value}
-use Rattle.fz_judge.specs.of_model.Relations.{same_value}
+use Rattle.fz_judge.specs.of_model.States.{same_value}
 use Rattle.fz_judge.specs.of_model.Slots.{scalar_term}
 use Rattle.fz_judge.specs.of_syntax.View.{bare_literal}
 use Rattle.fz_judge.proofs.Printing.{sets_same, tests_same}

@@ -1,26 +1,15 @@
-use Rattle.std.proofs.Common.{◌≡◌, pos, get_or, arith}
-use Rattle.std.proofs.lemmas.Int.{ints as numerals}
-use Rattle.std.proofs.lemmas.Option.{slice_get-get_or}
+use Rattle.std.proofs.Common.{◌≡◌, pos, get_or, length, ◌∙◌, arith, rules}
 use Rattle.fz_kernel.specs.of_meaning.Relations.{◌=ℤ◌}
 use Rattle.fz_kernel.specs.Views.{ints}
-use Rattle.fz_globals.proofs.Compared.{is_equal, is_other}
-use Rattle.fz_globals.proofs.Each.{still_same, not_same}
+use Rattle.fz_kernel.proofs.Between.{both_of, read_at, same_both}
+use Rattle.fz_kernel.proofs.Read.{ints_counted}
 use Rattle.fz_globals.proofs.order.are_elements.Goals as goal
 
-pub returns-then-numbers-place : goal.returns-then-numbers-place
-returns-then-numbers-place c =
-    let ns = c.args.numbers.now in
-    let i = c.loop-place.place in
-    let x = get_or ns i (pos 0) in
-    let y = c.int.result in
-    let other : ¬ (x ≡ y) = λ same. omega (arith, numerals) in
-    not_same ◌=ℤ◌ ns (ints c.args.elements.now) i c.loop-place.invariant x y (slice_get-get_or ns i (pos 0) (omega arith)) c.int.ensures.read (is_other x y other)
-
-pub loop-place-preserved : goal.loop-place-preserved
-loop-place-preserved c =
-    let ns = c.args.numbers.now in
-    let i = c.loop-place.place in
-    let x = get_or ns i (pos 0) in
-    let y = c.int.result in
-    let same : x ≡ y = omega (arith, numerals) in
-    still_same ◌=ℤ◌ ns (ints c.args.elements.now) i c.loop-place.invariant x y (slice_get-get_or ns i (pos 0) (omega arith)) c.int.ensures.read (is_equal x y same)
+pub returns : goal.returns
+returns c =
+    let xs = c.args.numbers.now in
+    let ys = ints c.args.elements.now in
+    let counted : c.len.result ≡ length ys = ints_counted c.args.elements.now c.len.result c.len.ensures.counted in
+    let alike : length xs ≡ length ys = omega arith in
+    c.all_between.ensures.exact (λ k. get_or xs k (pos 0) =ℤ get_or ys k (pos 0)) (λ k b from below r. search (rules, read_at))
+    ∙ both_of ◌=ℤ◌ xs ys (pos 0) (pos 0) _ (omega arith) ∙ same_both ◌=ℤ◌ xs ys alike

@@ -1,6 +1,6 @@
 use Rattle.std.proofs.Common.{sym, ap, ◌∙◌}
 use Rattle.fz_base.specs.declared.value.Value.TheVariants.{Set}
-use Rattle.fz_search.specs.of_model.Relations.{same_value}
+use Rattle.fz_search.specs.of_model.States.{same_value}
 use Rattle.fz_judge.proofs.Printing.{sets_same}
 use Rattle.fz_judge.proofs.values.is_set.Goals as goal
 

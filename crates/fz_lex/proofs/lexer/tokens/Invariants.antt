@@ -1,6 +1,5 @@
 use Rattle.std.proofs.Common.{◌≡◌, ◌-◌, length}
-use Rattle.fz_lex.specs.Lexing.{CutUpTo, AreWithinLimit}
-use Rattle.fz_lex.specs.View.{all_spanned, TextsAreSlices}
+use Rattle.fz_lex.specs.View.{all_spanned, TextsAreSlices, CutUpTo, AreWithinLimit}
 use Rattle.fz_lex.proofs.lexer.tokens.Given as goal
 
 abbrev pub invariant-loop-tokens : goal.invariant-loop-tokens

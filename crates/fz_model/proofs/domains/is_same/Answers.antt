@@ -1,5 +1,5 @@
 use Rattle.std.proofs.Common.{◌≡◌, ap, ◌∙◌}
-use Rattle.fz_builtins.specs.of_meaning.Relations.{same_value}
+use Rattle.fz_builtins.specs.of_meaning.States.{same_value}
 use Rattle.fz_builtins.proofs.of_meaning.Values.{same_truth, same_value_is, value_itself}
 use Rattle.fz_model.proofs.domains.is_same.Goals as goal
 

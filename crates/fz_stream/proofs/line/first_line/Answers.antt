@@ -2,7 +2,8 @@ use Rattle.std.proofs.Common.{◌≡◌, ◌∷◌, [], ◌++◌, ℕ, List, ◌
 use Rattle.std.proofs.lemmas.Bool.{eqb-true}
 use Rattle.std.proofs.lemmas.List.{drop_all, length-take-le, take_all, take_more}
 use Rattle.memchr.specs.Find.{IsFirstByte, is_byte}
-use Rattle.fz_stream.specs.Parts.{lines_of, EndsWithFeed, HasNoFeed}
+use Rattle.fz_stream.specs.Parts.{lines_of}
+use Rattle.fz_stream.specs.Splitting.{EndsWithFeed, HasNoFeed}
 use Rattle.fz_stream.proofs.SplitLemmas.{first_whole, no_feed_to, one_line}
 use Rattle.fz_stream.proofs.line.first_line.Goals as goal
 

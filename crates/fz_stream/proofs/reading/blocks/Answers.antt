@@ -1,24 +1,17 @@
-use Rattle.std.proofs.Common.{refl, length, ◌≡◌, ◌≢◌, ℕ, List, Result, Ok, Err, IfErr, sym, ap, ◌∙◌, subst, arith}
+use Rattle.std.proofs.Common.{refl, length, map, ◌≡◌, sym, ap, ◌∙◌, subst, arith}
 use Rattle.std.proofs.lemmas.List.{map_push, length-map, take_rest}
-use Rattle.std.proofs.lemmas.Result.{err_from_is_err_and}
+use Rattle.std.proofs.lemmas.Result.{err_from_is_err_and, IfErr-weaker}
 use Rattle.fz_syntax.specs.Lexing.{standard_limits}
 use Rattle.fz_syntax.specs.View.{bare_items}
-use Rattle.fz_stream.specs.Found.{block_of, HasPlaces, EndsWithin}
+use Rattle.fz_stream.specs.Found.{block_of, HasPlaces, EndsWithin, IsStreamText}
 use Rattle.fz_stream.proofs.PartLemmas.{every_append}
 use Rattle.fz_stream.proofs.SoFar.{start_so_far, so_far_goes_on, so_far_block, so_far_claim, so_far_read, so_far_stops_at_block, so_far_stops_at_claim, so_far_stops_at_end, so_far_text_within, read_in_order, read_before_markers}
 use Rattle.fz_stream.proofs.OnePartLemmas.{stops_no_text}
-use Rattle.fz_stream.specs.Broken.{StopsAfter}
-use Rattle.fz_stream.specs.Parts.{StreamPart, IsBlockText, IsStreamText}
-use Rattle.fz_stream.specs.declared.line.ClaimKind.{ClaimKind}
-use Rattle.fz_stream.specs.declared.reading.Claim.{Claim}
+use Rattle.fz_stream.specs.Parts.{IsBlockText}
 use Rattle.fz_stream.specs.Step.{step_of, IsLineFault}
-use Rattle.fz_stream.specs.declared.error.StreamError.{StreamError}
-use Rattle.fz_stream.specs.declared.error.StreamError.TheVariants.{TooLong, Memory}
+use Rattle.fz_stream.specs.declared.error.StreamError.TheVariants.{TooLong}
 use Rattle.fz_stream.proofs.reading.blocks.Goals as goal
 use Rattle.fz_stream.proofs.reading.blocks.Goals.{in-GoesOn, in-EndsBlock+in_ok-block-in-EndsBlock+in_ok-push-in-EndsBlock, in-Claims+in_ok-push-in-Claims}
-
-abbrev claim_at : ℕ → ClaimKind → Claim
-claim_at n k = record { after = n; kind = k }
 
 pub loop-at-init : goal.loop-at-init
 loop-at-init c = record {
@@ -64,7 +57,8 @@ loop-at-preserved c =
         so_far = rw (w.begun-is, w.blocks-is, w.claims-is, w.in_ok-push-in-Claims.ensures.items) (
             so_far_claim _ _ _ _ _ c.loop-at.invariant.so_far _ (take_rest c.args.stream.now c.loop-at.at) c.first_line-line.result.now c.first_line-line.ensures.within c.first_line-line.ensures.cut w.in-Claims.kind
             (ap (step_of _ _) (sym c.line_kind.ensures) ∙ sym w.in-Claims.ensures) _
-            (ap (λ (n : ℕ). claim_at n w.in-Claims.kind) (w.len-after.ensures ∙ c.loop-at.blocks.ok.0 ∙ sym (length-map c.loop-at.blocks.items block_of))));
+            (let after : w.len-after.result ≡ length (map block_of c.loop-at.blocks.items) = w.len-after.ensures ∙ c.loop-at.blocks.ok.0 ∙ sym (length-map c.loop-at.blocks.items block_of) in
+            λ i. record { after = after i; kind = w.in-Claims.kind }));
         places = rw w.blocks-is c.loop-at.invariant.places;
         within = rw w.blocks-is c.loop-at.invariant.within;
       }
@@ -104,15 +98,9 @@ returns-in-Some-clause-stops c _ _ =
     (_, so_far_stops_at_end c.args.stream.now c.loop-at.at _ _ (omega (arith, c.loop-at-test.false)) c.loop-at.begun c.loop-at.invariant.so_far c.in-Some.start c.in-Some.is _ refl refl)
 
 -- where it stops, no parts are there
-refused : {X : Type 0} (bytes : List ℕ) (r : Result X StreamError)
-    → IfErr r (λ e. e ≢ Memory → e ≢ TooLong → (parts : List StreamPart) × StopsAfter bytes parts e)
-    → IfErr r (λ e. e ≢ Memory → e ≢ TooLong → (parts : List StreamPart) → IsStreamText bytes parts → ⊥)
-refused bytes (Ok x) h = tt
-refused bytes (Err e) h = λ known long. (let s = h known long in stops_no_text _ bytes _ e s.1.1)
-
 pub returns-in_err-block-in-EndsBlock-clause-refused :
     goal.returns-in_err-block-in-EndsBlock-clause-refused
-returns-in_err-block-in-EndsBlock-clause-refused c = refused _ c.from_residual.result (returns-in_err-block-in-EndsBlock-clause-stops c)
+returns-in_err-block-in-EndsBlock-clause-refused c = IfErr-weaker c.from_residual.result _ _ (λ e stops known long. let s = stops known long in stops_no_text _ _ _ e s.1.1) (returns-in_err-block-in-EndsBlock-clause-stops c)
 
 pub returns-in-Breaks-clause-refused : goal.returns-in-Breaks-clause-refused
 returns-in-Breaks-clause-refused c known long = (let s = returns-in-Breaks-clause-stops c known long in stops_no_text _ _ _ _ s.1.1)

@@ -1,8 +1,7 @@
-use Rattle.std.proofs.Common.{Ok}
 use Rattle.fz_tree.specs.View.{bare}
 use Rattle.fz_syntax.specs.Offering.{IsTextOfAllWithin, items_of_tree}
 use Rattle.fz_tree.specs.declared.tree.Ast.{Ast}
-use Rattle.fz_syntax.proofs.More.{same_of_tree, one_tree}
+use Rattle.fz_syntax.proofs.More.{one_tree, same_tree}
 use Rattle.fz_syntax.proofs.parser.parse_within.Goals as goal
 
 abbrev tree_given : goal.In_ok-constraints → Ast
@@ -16,7 +15,7 @@ pub returns-clause-only : goal.returns-clause-only
 returns-clause-only c = λ t text. one_tree c.args.limits c.args.limits c.args.source.now (bare (tree_given c)) t (text_given c).text text
 
 pub returns-clause-same : goal.returns-clause-same
-returns-clause-same c = same_of_tree bare c.args.limits c.args.source.now (Ok (tree_given c)) (text_given c).text
+returns-clause-same c = λ any t is. same_tree any c.args.limits t (bare (tree_given c)) is.shape (text_given c).text.of_grammar.shape
 
 pub returns-clause-stands : goal.returns-clause-stands
 returns-clause-stands c = (text_given c).stands

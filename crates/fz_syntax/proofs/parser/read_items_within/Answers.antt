@@ -6,7 +6,7 @@ use Rattle.fz_tree.specs.of_lex.Ahead.{tokens_ahead}
 use Rattle.fz_tree.specs.of_lex.Lexing.{LexesWithin}
 use Rattle.fz_syntax.specs.Placed.{placed_items}
 use Rattle.fz_syntax.proofs.Parsed.{items_found, items_only, empty_of_only}
-use Rattle.fz_syntax.proofs.More.{same_of_items}
+use Rattle.fz_syntax.proofs.More.{same_items}
 use Rattle.fz_syntax.proofs.Whole.{grammar_refuses, lexer_refuses}
 use Rattle.fz_syntax.proofs.Standing.{placed_in, stands_of}
 use Rattle.fz_syntax.proofs.parser.read_items_within.Goals as goal
@@ -22,7 +22,7 @@ pub returns-in-Ok-clause-only : goal.returns-in-Ok-clause-only
 returns-in-Ok-clause-only c = items_only c.args.limits c.args.source.now c.new-parser.result c.new-parser.ensures.all (Ok c.in-Ok.items) c.in-Ok.ensures.whole
 
 pub returns-in-Ok-clause-same : goal.returns-in-Ok-clause-same
-returns-in-Ok-clause-same c = same_of_items (λ (v : Vec Printed Global). bare_items v.items) c.args.limits c.args.source.now (Ok c.in-Ok.items) (returns-in-Ok-clause-found c)
+returns-in-Ok-clause-same c = λ any others are. same_items any c.args.limits others (bare_items c.in-Ok.items.items) are (returns-in-Ok-clause-found c).of_grammar
 
 pub returns-in-Ok-clause-in_place : goal.returns-in-Ok-clause-in_place
 returns-in-Ok-clause-in_place c =

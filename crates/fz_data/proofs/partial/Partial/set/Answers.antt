@@ -1,7 +1,8 @@
 use Rattle.std.proofs.Common.{◌≡◌, ℕ, ◌<◌, FitsSigned, List, Option, None, Some, arith, length, rules, slice_set, subst, subst₂, suc, sym, true, w64}
 use Rattle.std.proofs.lemmas.Int.{to_z-of_z}
 use Rattle.fz_base.specs.declared.value.Value.{Value}
-use Rattle.fz_names.specs.of_meaning.Meaning.{give, value_at}
+use Rattle.fz_names.specs.of_meaning.Meaning.{value_at}
+use Rattle.fz_names.specs.of_meaning.Steps.{give}
 use Rattle.fz_data.specs.Partial.{IsTabled, unset_count}
 use Rattle.fz_data.proofs.Tabled.{one_unset_less, still_tabled}
 use Rattle.fz_data.proofs.partial.Partial.set.Goals as goal

@@ -1,13 +1,11 @@
-use Rattle.std.proofs.Common.{true, false, sym, ap, ◌∙◌, rules}
-use Rattle.std.specs.List.{list_all}
+use Rattle.std.proofs.Common.{◌≡◌, true, get_or, length, ◌∙◌, rules}
 use Rattle.fz_kernel.specs.Views.{bools}
-use Rattle.fz_kernel.proofs.Left.{next_is}
+use Rattle.fz_kernel.proofs.Between.{every_of, read_at}
+use Rattle.fz_kernel.proofs.Read.{bools_counted}
 use Rattle.fz_kernel.proofs.arrays.truths.all_true.Goals as goal
 
-pub returns-then-not-truth : goal.returns-then-not-truth
-returns-then-not-truth c = record {
-  exact = sym (c.loop-place.invariant ∙ ap (list_all (λ x. x)) (next_is (bools c.args.elements.now) c.loop-place.place c.truth.result false c.truth.ensures.read (search rules)));
-}
-
-pub loop-place-preserved : goal.loop-place-preserved
-loop-place-preserved c = c.loop-place.invariant ∙ ap (list_all (λ x. x)) (next_is (bools c.args.elements.now) c.loop-place.place c.truth.result true c.truth.ensures.read (search rules))
+pub returns : goal.returns
+returns c =
+    let bs = bools c.args.elements.now in
+    let counted : c.len.result ≡ length bs = bools_counted c.args.elements.now c.len.result c.len.ensures.counted in
+    record { exact = c.all_between.ensures.exact (λ k. get_or bs k true) (λ k b from below r. search (rules, read_at)) ∙ every_of bs true (λ x. x) c.len.result counted }

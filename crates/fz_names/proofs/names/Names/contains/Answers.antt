@@ -7,7 +7,8 @@ use Rattle.fz_names.proofs.names.Names.contains.Goals as goal
 pub returns-else-is_some : goal.returns-else-is_some
 returns-else-is_some c =
     let n = c.self.inside in
-    let same = unseated c.args.name.now n.listed.items n.others.keys n.numbered.shapes.items n.numbered.places.items n.numbered.seats.items c.self.invariant.2 (ap is_some (sym c.get.ensures) ∙ sym c.is_some.ensures ∙ c.if-is_some.false) in
+    let x = c.args.name.now in
+    let same = unseated x n.listed.items n.others.keys n.numbered c.self.invariant.2 (ap is_some (sym c.get.ensures) ∙ sym c.is_some.ensures ∙ c.if-is_some.false) in
     record {
-      declared = c.contains.ensures ∙ any_found c.args.name.now n.others.keys ∙ ap is_some same ∙ sym (declared_as n.parameters.items c.args.name.now n.listed.items) ∙ ap (λ m. is_some (lookup (has_text c.args.name.now) m)) c.self.view_is;
+      declared = c.contains.ensures ∙ any_found x n.others.keys ∙ ap is_some same ∙ sym (declared_as n.parameters.items x n.listed.items) ∙ ap (λ m. is_some (lookup (has_text x) m)) c.self.view_is;
     }

@@ -12,13 +12,13 @@ returns-then-not-next_word c = record { offers = (none_took constraint_kind from
 
 pub invariant_of-result : goal.invariant_of-result
 invariant_of-result c =
-    let reads : Reads constraint_kind c.args.self.rest c.constraint.new.self c.in-Ok.item = record { end = c.in-Ok.ensures.end; begun = sym c.next_word.ensures ∙ c.if-not-next_word.false; found = c.in-Ok.ensures.read; walked = c.in-Ok.ensures.walked } in
+    let reads : Reads constraint_kind c.args.self.rest c.constraint.new.self c.in-Ok.item = record { end = c.in-Ok.ensures.walked.on.end; begun = sym c.next_word.ensures ∙ c.if-not-next_word.false; found = c.in-Ok.ensures.read; walked = c.in-Ok.ensures.walked } in
     record { within = item_within constraint_kind from_solve c.in-Ok.item c.args.self.rest c.constraint.new.self (constraints_shrink _) reads c.args.self.within }
 
 pub returns-in-Ok : goal.returns-in-Ok
 returns-in-Ok c =
-    let reads : Reads constraint_kind c.args.self.rest c.constraint.new.self c.in-Ok.item = record { end = c.in-Ok.ensures.end; begun = sym c.next_word.ensures ∙ c.if-not-next_word.false; found = c.in-Ok.ensures.read; walked = c.in-Ok.ensures.walked } in
+    let reads : Reads constraint_kind c.args.self.rest c.constraint.new.self c.in-Ok.item = record { end = c.in-Ok.ensures.walked.on.end; begun = sym c.next_word.ensures ∙ c.if-not-next_word.false; found = c.in-Ok.ensures.read; walked = c.in-Ok.ensures.walked } in
     record { offers = item_took constraint_kind from_solve c.in-Ok.item c.args.self.rest c.constraint.new.self (constraints_shrink _) reads }
 
 pub returns : goal.returns
-returns c = record { offers = item_refused constraint_kind from_solve c.args.self.rest c.in-Err.refusal c.refused.result (sym c.next_word.ensures ∙ c.if-not-next_word.false) c.in-Err.ensures.read c.args.self.within (c.refused.ensures c.args.self.within.short (c.in-Err.ensures.end ∙ c.args.self.within.ends)) }
+returns c = record { offers = item_refused constraint_kind from_solve c.args.self.rest c.in-Err.refusal c.refused.result (sym c.next_word.ensures ∙ c.if-not-next_word.false) c.in-Err.ensures.read c.args.self.within (c.refused.ensures c.args.self.within.short (c.in-Err.ensures.walked.end ∙ c.args.self.within.ends)) }

@@ -7,13 +7,13 @@ use Rattle.fz_syntax.proofs.Offers.{left_refused, lexer_refused, more_refused, s
 use Rattle.fz_syntax.proofs.reader.Rest.solve.Goals as goal
 
 pub returns-in-Err-clause-refused : goal.returns-in-Err-clause-refused
-returns-in-Err-clause-refused c = left_refused from_solve c.args.self c.in-Err.refusal c.refused.result c.requires c.in-Err.ensures.read (c.refused.ensures c.requires.short (c.in-Err.ensures.end ∙ c.requires.ends))
+returns-in-Err-clause-refused c = left_refused from_solve c.args.self c.in-Err.refusal c.refused.result c.requires c.in-Err.ensures.read (c.refused.ensures c.requires.short (c.in-Err.ensures.walked.end ∙ c.requires.ends))
 
 pub returns-then-is_some-clause-refused : goal.returns-then-is_some-clause-refused
 returns-then-is_some-clause-refused c =
     more_refused c.in-Ok.item c.args.self c.unexpected.result c.refused-then-is_some.result _ c.in-Ok.ensures.read
     (some_left c.first.result c.solve.new.self (sym c.is_some.ensures ∙ c.if-is_some.true) c.first.ensures.some) c.requires
-    (c.refused-then-is_some.ensures c.requires.short (c.in-Ok.ensures.end ∙ c.requires.ends))
+    (c.refused-then-is_some.ensures c.requires.short (c.in-Ok.ensures.walked.on.end ∙ c.requires.ends))
 
 pub returns-clause-left : goal.returns-clause-left
 returns-clause-left c =

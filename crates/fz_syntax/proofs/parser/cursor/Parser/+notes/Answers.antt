@@ -9,7 +9,9 @@ use Rattle.fz_tree.specs.View.{bare_arg, bare_basic}
 use Rattle.fz_syntax.specs.Reading.{any_number, at_most, note_at, note_arg_at, note_basic_at}
 use Rattle.fz_syntax.proofs.Separated.{separated_fails}
 use Rattle.fz_syntax.proofs.Running.{separated_init, keeps_on, stops, is_whole_list, grown, length_seen}
-use Rattle.fz_syntax.proofs.NoteLaws.{note_list_shrinks, note_args_shrink}
+use Rattle.fz_syntax.proofs.ListLaws.{bounded, unbounded}
+use Rattle.fz_syntax.proofs.ExprLaws.{same}
+use Rattle.fz_syntax.proofs.NoteLaws.{note_law, note_basic_law, note_arg_law}
 use Rattle.fz_syntax.proofs.parser.cursor.Parser.+notes.Goals as goal
 
 pub separated_note_args-returns-in_err-note_arg-clause-read : goal.separated_note_args-returns-in_err-note_arg-clause-read
@@ -20,9 +22,7 @@ separated_note_args-returns-in_err-note_arg-clause-read t c =
 pub separated_note_args-more_args-init : goal.separated_note_args-more_args-init
 separated_note_args-more_args-init t c = record {
   continues = separated_init (any_number (note_arg_at c.args.limits.now c.args.depth (note_at c.args.limits.now c.args.depth))) _ _ _ _ _ (ap (map bare_arg) c.list-arguments.ensures) (grown bare_arg _ _ _ c.in_ok-push.ensures.items) c.in_ok-note_arg.ensures.read;
-  shorter = omega arith;
-  same_end = omega arith;
-  walked = separated_first placed_arg _ _ _ c.list-arguments.ensures c.in_ok-push.ensures.items (walk_as refl refl c.in_ok-note_arg.ensures.walked);
+  walked = separated_first placed_arg _ _ _ c.list-arguments.ensures c.in_ok-push.ensures.items (walk_as refl refl refl c.in_ok-note_arg.ensures.walked);
   some = some_pushed _ _ _ c.in_ok-push.ensures.items;
 }
 
@@ -33,9 +33,7 @@ separated_note_args-returns-in_err-arg-clause-read t c =
 
 pub separated_note_args-more_args-preserved : goal.separated_note_args-more_args-preserved
 separated_note_args-more_args-preserved t c = record {
-  continues = keeps_on Comma (any_number (note_arg_at c.args.limits.now c.args.depth (note_at c.args.limits.now c.args.depth))) (note_args_shrink c.args.limits.now c.args.depth) _ _ _ _ _ _ _ _ refl (grown bare_arg _ _ _ c.in_ok-push-2.ensures.items) _ c.more_args-test.true c.eat.ensures.found c.eat.ensures.left c.in_ok-arg.ensures.read c.more_args.invariant.continues;
-  shorter = omega arith;
-  same_end = omega arith;
+  continues = keeps_on Comma (any_number (note_arg_at c.args.limits.now c.args.depth (note_at c.args.limits.now c.args.depth))) (unbounded (note_arg_law _ _ (same c.args.limits.now) _ _ _ (note_law _ _ (same c.args.limits.now) c.args.depth c.args.depth (omega arith))) 0).shrinks _ _ _ _ _ _ _ _ refl (grown bare_arg _ _ _ c.in_ok-push-2.ensures.items) _ c.more_args-test.true c.eat.ensures.found c.eat.ensures.left c.in_ok-arg.ensures.read c.more_args.invariant.continues;
   walked = separated_more placed_arg _ _ _ c.more_args.invariant.some c.in_ok-push-2.ensures.items c.more_args.invariant.walked (ate Comma _ c.more_args-test.true c.eat.ensures.found c.eat.ensures.left c.eat.ensures.walked) c.in_ok-arg.ensures.walked;
   some = some_pushed _ _ _ c.in_ok-push-2.ensures.items;
 }
@@ -51,8 +49,6 @@ separated_note_basics-returns-in_err-listed_note_basic-clause-read t c =
 pub separated_note_basics-more_basics-init : goal.separated_note_basics-more_basics-init
 separated_note_basics-more_basics-init t c = record {
   continues = separated_init (at_most c.args.limits.now.elements (note_basic_at c.args.limits.now (note_at c.args.limits.now c.args.depth))) _ _ _ _ _ (ap (map bare_basic) c.new-basics.ensures.items) (grown bare_basic _ _ _ c.in_ok-push.ensures.items) c.in_ok-listed_note_basic.ensures.read;
-  shorter = omega arith;
-  same_end = omega arith;
   walked = separated_first placed_note_basic _ _ _ c.new-basics.ensures.items c.in_ok-push.ensures.items c.in_ok-listed_note_basic.ensures.walked;
   some = some_pushed _ _ _ c.in_ok-push.ensures.items;
 }
@@ -64,9 +60,7 @@ separated_note_basics-returns-in_err-basic-clause-read t c =
 
 pub separated_note_basics-more_basics-preserved : goal.separated_note_basics-more_basics-preserved
 separated_note_basics-more_basics-preserved t c = record {
-  continues = keeps_on Comma (at_most c.args.limits.now.elements (note_basic_at c.args.limits.now (note_at c.args.limits.now c.args.depth))) (note_list_shrinks c.args.limits.now c.args.depth) _ _ _ _ _ _ _ _ (c.len.ensures ∙ c.more_basics.basics.ok.0 ∙ length_seen bare_basic c.more_basics.basics.items) (grown bare_basic _ _ _ c.in_ok-push-2.ensures.items) _ c.more_basics-test.true c.eat.ensures.found c.eat.ensures.left c.in_ok-basic.ensures.read c.more_basics.invariant.continues;
-  shorter = omega arith;
-  same_end = omega arith;
+  continues = keeps_on Comma (at_most c.args.limits.now.elements (note_basic_at c.args.limits.now (note_at c.args.limits.now c.args.depth))) (bounded (note_basic_law _ _ (same c.args.limits.now) _ _ _ (note_law _ _ (same c.args.limits.now) c.args.depth c.args.depth (omega arith))) _).shrinks _ _ _ _ _ _ _ _ (c.len.ensures ∙ c.more_basics.basics.ok.0 ∙ length_seen bare_basic c.more_basics.basics.items) (grown bare_basic _ _ _ c.in_ok-push-2.ensures.items) _ c.more_basics-test.true c.eat.ensures.found c.eat.ensures.left c.in_ok-basic.ensures.read c.more_basics.invariant.continues;
   walked = separated_more placed_note_basic _ _ _ c.more_basics.invariant.some c.in_ok-push-2.ensures.items c.more_basics.invariant.walked (ate Comma _ c.more_basics-test.true c.eat.ensures.found c.eat.ensures.left c.eat.ensures.walked) c.in_ok-basic.ensures.walked;
   some = some_pushed _ _ _ c.in_ok-push-2.ensures.items;
 }
@@ -75,7 +69,7 @@ pub separated_note_basics-returns-clause-read : goal.separated_note_basics-retur
 separated_note_basics-returns-clause-read t c = rw c.trimmed.ensures (is_whole_list Comma (at_most c.args.limits.now.elements (note_basic_at c.args.limits.now (note_at c.args.limits.now c.args.depth))) _ _ _ _ _ c.more_basics-test.false c.eat.ensures.found c.eat.ensures.left c.more_basics.invariant.continues)
 
 pub separated_note_args-returns-clause-walked : goal.separated_note_args-returns-clause-walked
-separated_note_args-returns-clause-walked t c = rw c.filled.ensures (walk_end (walk_kept _ c.more_args-test.false c.eat.ensures.kept c.more_args.invariant.walked) (walk_still _ _ refl refl refl))
+separated_note_args-returns-clause-walked t c = rw c.filled.ensures (walk_end (walk_kept _ c.more_args-test.false c.eat.ensures.kept c.more_args.invariant.walked) (walk_still _ _ refl refl refl refl))
 
 pub separated_note_basics-returns-clause-walked : goal.separated_note_basics-returns-clause-walked
 separated_note_basics-returns-clause-walked t c = rw c.trimmed.ensures (walk_kept _ c.more_basics-test.false c.eat.ensures.kept c.more_basics.invariant.walked)

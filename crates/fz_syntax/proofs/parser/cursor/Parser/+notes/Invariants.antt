@@ -1,4 +1,4 @@
-use Rattle.std.proofs.Common.{◌≡◌, ◌≤◌, ◌<◌, ◌+◌, ◌*◌, length, map}
+use Rattle.std.proofs.Common.{◌<◌, ◌+◌, ◌*◌, length, map}
 use Rattle.fz_tree.specs.of_lex.declared.token.Mark.TheVariants.{Comma}
 use Rattle.fz_syntax.specs.Walk.{Walk, lexemes}
 use Rattle.fz_syntax.specs.Placed.{placed_separated, placed_arg, placed_note_basic}
@@ -37,8 +37,6 @@ invariant-separated_note_args-more_args l = record {
   continues : Continues Comma (any_number (note_arg_at l.limits l.depth
       (note_at l.limits l.depth))) (map bare_arg l.arguments.items) (lexemes l.self)
       (separated_at (any_number (note_arg_at l.limits l.fn.depth (note_at l.limits l.fn.depth))) (lexemes l.fn.self));
-  shorter : length (lexemes l.self) ≤ length (lexemes l.fn.self);
-  same_end : l.self.end ≡ l.fn.self.end;
   walked : Walk l.fn.self l.self (placed_separated placed_arg l.arguments.items);
   some : 0 < length l.arguments.items;
 }
@@ -52,8 +50,6 @@ invariant-separated_note_basics-more_basics l = record {
       (note_basic_at l.limits (note_at l.limits l.depth))) (map bare_basic l.basics.items)
       (lexemes l.self)
       (separated_at (at_most l.limits.elements (note_basic_at l.limits (note_at l.limits l.fn.depth))) (lexemes l.fn.self));
-  shorter : length (lexemes l.self) ≤ length (lexemes l.fn.self);
-  same_end : l.self.end ≡ l.fn.self.end;
   walked : Walk l.fn.self l.self (placed_separated placed_note_basic l.basics.items);
   some : 0 < length l.basics.items;
 }

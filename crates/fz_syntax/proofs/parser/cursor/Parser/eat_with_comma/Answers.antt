@@ -11,4 +11,4 @@ invariant_of-self c =
     record { within = rw behind (All-drop (λ t. (t.start ≤ t.end) × (t.end ≤ p.end)) 2 (left p.tokens) p.within) }
 
 pub returns-in-Some-clause-walked : goal.returns-in-Some-clause-walked
-returns-in-Some-clause-walked c = listed_pair _ _ c.in-Some.listed c.in-Some.ensures.taken refl c.in-Some.ensures.source
+returns-in-Some-clause-walked c = listed_pair _ _ c.in-Some.listed c.in-Some.ensures.taken refl c.in-Some.ensures.source refl

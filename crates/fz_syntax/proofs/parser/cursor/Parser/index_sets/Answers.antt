@@ -10,8 +10,6 @@ use Rattle.fz_syntax.proofs.parser.cursor.Parser.index_sets.Goals as goal
 pub loop-self-init : goal.loop-self-init
 loop-self-init c = record {
   counts = counts_begin c.args.limits.now _ _ _ _ (ap (map bare_literal) c.new-sets.ensures.items) (omega (arith, ap length c.new-sets.ensures.items));
-  shorter = omega arith;
-  same_end = omega arith;
   walked = walk_zero (with_comma placed_literal) _ c.new-sets.ensures.items;
 }
 
@@ -27,13 +25,8 @@ loop-self-preserved c =
     let longer = ap length c.in_ok-push.ensures.items ∙ length-append c.loop-self.sets.items (c.in_ok-set.set ∷ []) in
     record {
       counts = counts_on c.args.limits.now _ _ _ _ _ _ _ _ (omega (arith, c.loop-self-test.true, at, longer)) (grown bare_literal _ _ _ c.in_ok-push.ensures.items) c.in_ok-set.ensures.read c.loop-self.invariant.counts;
-      shorter = omega arith;
-      same_end = omega arith;
       walked = walk_more (with_comma placed_literal) _ _ _ c.in_ok-push.ensures.items c.loop-self.invariant.walked c.in_ok-set.ensures.walked;
     }
 
 pub returns-clause-read : goal.returns-clause-read
 returns-clause-read c = (counts_all c.args.limits.now _ _ _ _ (omega (arith, c.loop-self-test.false, c.len.ensures ∙ c.loop-self.sets.ok.0)) c.loop-self.invariant.counts)
-
-pub returns-clause-walked : goal.returns-clause-walked
-returns-clause-walked c = (c.loop-self.invariant.walked)

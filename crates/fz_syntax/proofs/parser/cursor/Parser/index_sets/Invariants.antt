@@ -1,4 +1,4 @@
-use Rattle.std.proofs.Common.{◌≡◌, ◌≤◌, ◌-◌, length, map}
+use Rattle.std.proofs.Common.{◌-◌, length, map}
 use Rattle.fz_syntax.specs.Walk.{Walk, lexemes}
 use Rattle.fz_syntax.specs.Placed.{placed_indexes}
 use Rattle.fz_tree.specs.View.{bare_literal}
@@ -10,8 +10,6 @@ abbrev pub invariant-loop-self : goal.invariant-loop-self
 invariant-loop-self l = record {
   counts : Counts l.limits (l.fn.count - length l.sets.items) (map bare_literal l.sets.items)
       (lexemes l.self) (index_sets_at l.limits l.fn.count (lexemes l.fn.self));
-  shorter : length (lexemes l.self) ≤ length (lexemes l.fn.self);
-  same_end : l.self.end ≡ l.fn.self.end;
   walked : Walk l.fn.self l.self (placed_indexes l.sets.items);
 }
 

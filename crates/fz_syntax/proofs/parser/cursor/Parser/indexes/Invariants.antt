@@ -1,17 +1,14 @@
-use Rattle.std.proofs.Common.{◌≡◌, ◌≤◌, length}
+use Rattle.std.proofs.Common.{length}
 use Rattle.fz_tree.specs.of_lex.declared.token.Mark.TheVariants.{Comma}
 use Rattle.fz_syntax.specs.Walk.{Passed, lexemes}
-use Rattle.fz_syntax.specs.Reading.{indexes_at}
-use Rattle.fz_syntax.proofs.TypeLaws.{listed_index}
+use Rattle.fz_syntax.specs.Reading.{listed_index, separated_at}
 use Rattle.fz_syntax.proofs.Running.{Continues}
 use Rattle.fz_syntax.proofs.parser.cursor.Parser.indexes.Given as goal
 
 abbrev pub invariant-loop-self : goal.invariant-loop-self
 invariant-loop-self l = record {
   continues : Continues Comma (listed_index l.limits) l.indexes.items (lexemes l.self)
-      (indexes_at l.limits (lexemes l.fn.self));
-  shorter : length (lexemes l.self) ≤ length (lexemes l.fn.self);
-  same_end : l.self.end ≡ l.fn.self.end;
+      (separated_at (listed_index l.limits) (lexemes l.fn.self));
   walked : Passed l.fn.self l.self;
 }
 

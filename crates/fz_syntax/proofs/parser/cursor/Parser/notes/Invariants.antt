@@ -1,4 +1,4 @@
-use Rattle.std.proofs.Common.{◌≡◌, ◌≤◌, length}
+use Rattle.std.proofs.Common.{length}
 use Rattle.fz_tree.specs.of_lex.declared.token.Mark.TheVariants.{ColonColon}
 use Rattle.fz_syntax.specs.Walk.{Walk, lexemes}
 use Rattle.fz_syntax.specs.Placed.{placed_notes}
@@ -11,8 +11,6 @@ abbrev pub invariant-loop-self : goal.invariant-loop-self
 invariant-loop-self l = record {
   continues : Continues ColonColon (any_number (note_at l.limits l.limits.depth)) (bare_notes l.notes.items)
       (lexemes l.self) (notes_at l.limits (lexemes l.fn.self));
-  shorter : length (lexemes l.self) ≤ length (lexemes l.fn.self);
-  same_end : l.self.end ≡ l.fn.self.end;
   walked : Walk l.fn.self l.self (placed_notes l.notes.items);
 }
 

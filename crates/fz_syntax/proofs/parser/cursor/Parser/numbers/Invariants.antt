@@ -1,4 +1,4 @@
-use Rattle.std.proofs.Common.{◌≡◌, ◌≤◌, length}
+use Rattle.std.proofs.Common.{◌≤◌, length}
 use Rattle.fz_syntax.specs.Walk.{Passed, lexemes}
 use Rattle.fz_syntax.specs.Reading.{at_most, separated_at, whole_at}
 use Rattle.fz_syntax.proofs.Running.{Wants}
@@ -8,8 +8,6 @@ abbrev pub invariant-numbers : goal.invariant-numbers
 invariant-numbers l = record {
   wants : Wants (at_most l.limits.elements whole_at) l.numbers.items (lexemes l.self)
       (separated_at (at_most l.limits.elements whole_at) (lexemes l.fn.self));
-  shorter : length (lexemes l.self) ≤ length (lexemes l.fn.self);
-  same_end : l.self.end ≡ l.fn.self.end;
   walked : Passed l.fn.self l.self;
 }
 
@@ -21,7 +19,6 @@ invariant-listed l = record {
   wants : Wants (at_most l.limits.elements whole_at) l.numbers.items (lexemes l.self)
       (separated_at (at_most l.limits.elements whole_at) (lexemes l.fn.self));
   shorter : length (lexemes l.self) ≤ length (lexemes l.initial.self);
-  same_end : l.self.end ≡ l.fn.self.end;
   walked : Passed l.fn.self l.self;
 }
 

@@ -2,7 +2,9 @@ use Rattle.std.proofs.Common.{refl}
 use Rattle.std.specs.Prelude.{codes}
 use Rattle.fz_tree.specs.of_lex.declared.token.Mark.TheVariants.{OpenParen, Semicolon}
 use Rattle.fz_syntax.proofs.Walks.{mark_walk, word_walk, walk_then}
-use Rattle.fz_syntax.proofs.ItemLaws.{params_shrink}
+use Rattle.fz_syntax.proofs.ListLaws.{unbounded}
+use Rattle.fz_syntax.proofs.ExprLaws.{same}
+use Rattle.fz_syntax.proofs.ItemLaws.{param_law}
 use Rattle.fz_syntax.proofs.parser.cursor.Parser.predicate.Goals as goal
 
 pub returns-clause-walked : goal.returns-clause-walked
@@ -10,4 +12,4 @@ returns-clause-walked c =
     walk_then (walk_then (walk_then (word_walk (codes "predicate") c.in_ok-expect_word.ensures.walked c.in_ok-expect_word.ensures.read) c.in_ok-name.ensures.walked) (walk_then (mark_walk OpenParen c.in_ok-expect.ensures.walked c.in_ok-expect.ensures.read) c.in_ok-params.ensures.walked)) (mark_walk Semicolon c.in_ok-expect-2.ensures.walked c.in_ok-expect-2.ensures.read)
 
 pub list-requires : goal.list-requires
-list-requires c = λ k. ((refl, tt), params_shrink c.args.limits.now)
+list-requires c = λ k. ((refl, tt), (unbounded (param_law _ _ (same c.args.limits.now)) 0).shrinks)

@@ -1,4 +1,4 @@
-use Rattle.std.proofs.Common.{◌≡◌, ◌≤◌, length, map}
+use Rattle.std.proofs.Common.{length, map}
 use Rattle.fz_syntax.specs.Walk.{Walk, lexemes}
 use Rattle.std.specs.List.{flat_map}
 use Rattle.fz_syntax.specs.Placed.{placed_printed}
@@ -12,8 +12,6 @@ abbrev pub invariant-loop-self : goal.invariant-loop-self
 invariant-loop-self l = record {
   gathers : Gathers is_name (any_number (printed_at l.limits)) (map bare_printed l.items.items)
       (lexemes l.self) (many_at is_name (any_number (printed_at l.limits)) 0 (lexemes l.fn.self));
-  shorter : length (lexemes l.self) ≤ length (lexemes l.fn.self);
-  same_end : l.self.end ≡ l.fn.self.end;
   walked : Walk l.fn.self l.self (flat_map placed_printed l.items.items);
 }
 

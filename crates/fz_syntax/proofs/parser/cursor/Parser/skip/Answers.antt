@@ -10,4 +10,4 @@ invariant_of-self c =
     record { within = rw c.advance.ensures.left (All-drop (λ t. (t.start ≤ t.end) × (t.end ≤ p.end)) 1 (left p.tokens) p.within) }
 
 pub returns-in-Some-clause-walked : goal.returns-in-Some-clause-walked
-returns-in-Some-clause-walked c = skip_passed _ _ _ _ c.in-Some.ensures.some c.advance.ensures.left refl c.advance.ensures.source
+returns-in-Some-clause-walked c = skip_passed _ _ _ _ c.in-Some.ensures.some c.advance.ensures.left refl c.advance.ensures.source refl
