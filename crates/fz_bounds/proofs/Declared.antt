@@ -3,22 +3,22 @@ use Rattle.std.proofs.Common.{◌≡◌, ℕ, zero, suc, ℤ, ◌≤ℤ◌, true
 use Rattle.std.proofs.lemmas.Option.{same_Some}
 use Rattle.std.specs.FinSet.{contains}
 use Rattle.std.specs.List.{AllByRecursion}
-use Rattle.fz_base.specs.Sets.{NumberSet}
-use Rattle.fz_base.specs.Elements.{LiesWithin}
-use Rattle.fz_base.specs.declared.value.Value.{Value}
-use Rattle.fz_model.specs.declared.Kind.{Kind}
-use Rattle.fz_model.specs.declared.Kind.TheVariants.{Int as IntKind, Bool as BoolKind, Set as SetKind}
-use Rattle.fz_model.specs.declared.Domain.{Domain}
-use Rattle.fz_model.specs.declared.Term.{Term}
-use Rattle.fz_model.specs.declared.Term.TheVariants.{Fixed, Var}
-use Rattle.fz_model.specs.Meaning.{Assignment, Partial, Variable, admits, inside, value, value_at, values, whole}
-use Rattle.fz_model.specs.Meaning.Point.{ArrayPoint, DefinitionPoint, DomainPoint}
-use Rattle.fz_model.proofs.of_builtins.of_meaning.States.{intro}
-use Rattle.fz_model.proofs.Steps.{option_cons_parts, some_of}
-use Rattle.fz_model.proofs.Values.{no'}
+use Rattle.fz_index.specs.of_model.of_base.Sets.{NumberSet}
+use Rattle.fz_index.specs.of_model.of_base.Elements.{LiesWithin}
+use Rattle.fz_index.specs.of_model.of_base.declared.value.Value.{Value}
+use Rattle.fz_index.specs.of_model.declared.Kind.{Kind}
+use Rattle.fz_index.specs.of_model.declared.Kind.TheVariants.{Int as IntKind, Bool as BoolKind, Set as SetKind}
+use Rattle.fz_index.specs.of_model.declared.Domain.{Domain}
+use Rattle.fz_index.specs.of_model.declared.Term.{Term}
+use Rattle.fz_index.specs.of_model.declared.Term.TheVariants.{Fixed, Var}
+use Rattle.fz_index.specs.of_model.Meaning.{Assignment, Partial, Variable, admits, inside, value, value_at, values, whole}
+use Rattle.fz_index.specs.of_model.Meaning.Point.{ArrayPoint, DefinitionPoint, DomainPoint}
+use Rattle.fz_index.proofs.of_model.States.{intro}
+use Rattle.fz_index.proofs.of_model.Steps.{option_cons_parts, some_of}
+use Rattle.fz_index.proofs.of_model.Values.{no'}
 use Rattle.fz_bounds.specs.Bounds.{IsInside, NeverHolds, Ranges, is_at_most, number_as}
 use Rattle.fz_bounds.specs.Ends.{AreEnds, AreEndsAt, LiesAt}
-use Rattle.fz_bounds.specs.declared.ends.Ends.{Ends}
+use Rattle.fz_bounds.specs.declared.ends.KindEnds.{KindEnds}
 use Rattle.fz_bounds.proofs.Inside.{at_most_itself}
 use Rattle.fz_bounds.proofs.Numbers.{number_between, value_between}
 
@@ -38,7 +38,7 @@ domain_never B x n h A inside' holds =
     let (v, is, lies) = some_of (λ v. IsTrue (inside x.domain v)) (value_at (whole A) n) holds in
     no' (sym lies ∙ h A inside' v is)
 
-pub definition_never : (B : Ranges) (x : Variable) (n : ℕ) (t : Term) (e f : Ends)
+pub definition_never : (B : Ranges) (x : Variable) (n : ℕ) (t : Term) (e f : KindEnds)
     → LiesAt B (Var n) e → LiesAt B t f
     → ((a b : ℤ) → e.low ≤ℤ a → a ≤ℤ e.high → f.low ≤ℤ b → b ≤ℤ f.high → number_as e.kind a ≡ number_as f.kind b → ⊥)
     → NeverHolds B (DefinitionPoint x n t)
@@ -85,10 +85,10 @@ pub if_some : {A : Type 0} (P Q : A → Type 0) (o : Option A) → ((x : A) → 
 if_some P Q None f h = tt
 if_some P Q (Some x) f h = f x h
 
-pub variable_at : (B : Ranges) (n : ℕ) (e : Ends) → AreEndsAt B n e → LiesAt B (Var n) e
+pub variable_at : (B : Ranges) (n : ℕ) (e : KindEnds) → AreEndsAt B n e → LiesAt B (Var n) e
 variable_at B n e at A inside' = value_between B n e at A inside'
 
-pub fixed_at : (B : Ranges) (v : Value) (e : Ends) → AreEnds v v e → LiesAt B (Fixed v) e
+pub fixed_at : (B : Ranges) (v : Value) (e : KindEnds) → AreEnds v v e → LiesAt B (Fixed v) e
 fixed_at B v e at A inside' = number_between e.low e.high e.kind (Some v) at.low_told at.high_told
     (subst (λ z. is_at_most z v ≡ true) at.low_is (at_most_itself v), subst (λ z. is_at_most v z ≡ true) at.high_is (at_most_itself v))
 

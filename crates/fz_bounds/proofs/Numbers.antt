@@ -2,21 +2,21 @@
 use Rattle.std.proofs.Common.{◌≡◌, ℕ, ℤ, pos, ◌≤ℤ◌, ◌+ℤ◌, ◌-ℤ◌, true, false, not, ◌||◌, Option, Some, None, refl, sym, ap, subst, subst₂, ◌∙◌, arith, int_lt, inl, inr, slice_get, ◌<ℤ◌, Result, Ok, Err, IfOk, IsTrue}
 use Rattle.std.proofs.lemmas.Int.{clamps, ints}
 use Rattle.std.specs.Int.{int_max, int_min}
-use Rattle.fz_base.proofs.Covers.{apart}
-use Rattle.fz_base.specs.declared.value.Value.{Value}
-use Rattle.fz_base.specs.declared.value.Value.TheVariants.{Int, Bool as Truth}
-use Rattle.fz_model.specs.declared.Kind.{Kind}
-use Rattle.fz_model.specs.declared.Kind.TheVariants.{Int as IntKind, Bool as BoolKind, Set as SetKind}
-use Rattle.fz_model.specs.Meaning.{Assignment, Model, Point, inside as is_within, points, value_at, whole}
-use Rattle.fz_model.specs.States.{HoldsIfKnown}
-use Rattle.fz_model.specs.declared.Domain.{Domain}
-use Rattle.fz_model.specs.Relations.{kind_of, same_kind}
-use Rattle.fz_model.proofs.Steps.{some_of}
-use Rattle.fz_model.proofs.Values.{no}
+use Rattle.fz_index.proofs.of_model.of_base.Covers.{apart}
+use Rattle.fz_index.specs.of_model.of_base.declared.value.Value.{Value}
+use Rattle.fz_index.specs.of_model.of_base.declared.value.Value.TheVariants.{Int, Bool as Truth}
+use Rattle.fz_index.specs.of_model.declared.Kind.{Kind}
+use Rattle.fz_index.specs.of_model.declared.Kind.TheVariants.{Int as IntKind, Bool as BoolKind, Set as SetKind}
+use Rattle.fz_index.specs.of_model.Meaning.{Assignment, Model, Point, inside as is_within, points, value_at, whole}
+use Rattle.fz_index.specs.of_model.States.{HoldsIfKnown}
+use Rattle.fz_index.specs.of_model.declared.Domain.{Domain}
+use Rattle.fz_index.specs.of_model.Relations.{kind_of, same_kind}
+use Rattle.fz_index.proofs.of_model.Steps.{some_of}
+use Rattle.fz_index.proofs.of_model.Values.{no}
 use Rattle.fz_bounds.proofs.Giving.{given_back}
 use Rattle.fz_bounds.specs.Bounds.{IsInside, LiesBetween, LiesIn, NumberNeverHolds, Ranges, is_at_most, narrowed, number_as}
 use Rattle.fz_bounds.specs.Ends.{AreEndsAt, Excludes, IsTold}
-use Rattle.fz_bounds.specs.declared.ends.Ends.{Ends}
+use Rattle.fz_bounds.specs.declared.ends.KindEnds.{KindEnds}
 use Rattle.fz_bounds.proofs.Inside.{at_most_itself, inside_narrowed, narrowed_inside, numbers_in_order}
 
 -- a value between two numbers is a number between them
@@ -48,7 +48,7 @@ still_inside B C A n k a l h c is low high inside =
     subst (LiesBetween (Some (number_as k l)) (Some (number_as k h))) (sym is) (numbers_in_order k l a low, numbers_in_order k a h high) in
     subst (λ D. IsInside D A) (sym c) (inside_narrowed B A n (number_as k l) (number_as k h) inside lies)
 
-module _ (B : Ranges) (n : ℕ) (e : Ends) (at : AreEndsAt B n e) where
+module _ (B : Ranges) (n : ℕ) (e : KindEnds) (at : AreEndsAt B n e) where
   pub value_between : (A : Assignment) → IsInside B A
       → (a : ℤ) × (value_at (whole A) n ≡ Some (number_as e.kind a)) × (e.low ≤ℤ a) × (a ≤ℤ e.high)
   value_between A inside =
@@ -153,7 +153,7 @@ module _ (m : Model) (k : ℕ) (B : Ranges) (n : ℕ) (kind : Kind) where
   excluded_there {C} {y} {z} e h = subst (λ D. Excludes m k D n kind y z) e h
 
 -- the numbers that a point leaves
-pub left_between : (m : Model) (k : ℕ) (B : Ranges) (n : ℕ) (e : Ends) (low high : ℤ)
+pub left_between : (m : Model) (k : ℕ) (B : Ranges) (n : ℕ) (e : KindEnds) (low high : ℤ)
     → AreEndsAt B n e → Excludes m k B n e.kind e.low (int_min e.high (low -ℤ pos 1))
     → Excludes m k B n e.kind (int_max e.low (high +ℤ pos 1)) e.high → (p : Point)
     → slice_get (points m) k ≡ Some p → (A : Assignment) → IsInside B A
@@ -180,7 +180,7 @@ left_between m k B n e low high at below above p here A inside holds =
     ]
 
 -- where they leave none
-pub nothing_left : (m : Model) (k : ℕ) (B : Ranges) (n : ℕ) (e : Ends) (low high : ℤ)
+pub nothing_left : (m : Model) (k : ℕ) (B : Ranges) (n : ℕ) (e : KindEnds) (low high : ℤ)
     → AreEndsAt B n e → Excludes m k B n e.kind e.low (int_min e.high (low -ℤ pos 1))
     → Excludes m k B n e.kind (int_max e.low (high +ℤ pos 1)) e.high
     → int_min high e.high <ℤ int_max low e.low → NumberNeverHolds m k B
@@ -189,7 +189,7 @@ nothing_left m k B n e low high at below above none p here A inside holds =
     absurd (omega (arith, ints))
 
 -- bounds of what they leave
-pub left_inside : (m : Model) (k : ℕ) (B C : Ranges) (n : ℕ) (e : Ends) (low high l h : ℤ)
+pub left_inside : (m : Model) (k : ℕ) (B C : Ranges) (n : ℕ) (e : KindEnds) (low high l h : ℤ)
     → AreEndsAt B n e → Excludes m k B n e.kind e.low (int_min e.high (low -ℤ pos 1))
     → Excludes m k B n e.kind (int_max e.low (high +ℤ pos 1)) e.high
     → C ≡ narrowed B n (number_as e.kind l) (number_as e.kind h) → l ≡ int_max low e.low

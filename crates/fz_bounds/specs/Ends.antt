@@ -1,13 +1,13 @@
 -- Bounds of a variable as numbers.
 use Rattle.std.specs.Prelude.{◌≡◌, ℕ, ℤ, pos, ◌≤ℤ◌, Some, ⊤, slice_get}
-use Rattle.fz_base.specs.declared.value.Value.{Value}
-use Rattle.fz_model.specs.declared.Kind.{Kind}
-use Rattle.fz_model.specs.declared.Kind.TheVariants.{Int as IntKind, Bool as BoolKind, Set as SetKind}
-use Rattle.fz_model.specs.Meaning.{Assignment, Model, Point, points, value, value_at, whole}
-use Rattle.fz_model.specs.declared.Term.{Term}
-use Rattle.fz_model.specs.States.{HoldsIfKnown}
+use Rattle.fz_index.specs.of_model.of_base.declared.value.Value.{Value}
+use Rattle.fz_index.specs.of_model.declared.Kind.{Kind}
+use Rattle.fz_index.specs.of_model.declared.Kind.TheVariants.{Int as IntKind, Bool as BoolKind, Set as SetKind}
+use Rattle.fz_index.specs.of_model.Meaning.{Assignment, Model, Point, points, value, value_at, whole}
+use Rattle.fz_index.specs.of_model.declared.Term.{Term}
+use Rattle.fz_index.specs.of_model.States.{HoldsIfKnown}
 use Rattle.fz_bounds.specs.Bounds.{IsInside, Ranges, number_as}
-use Rattle.fz_bounds.specs.declared.ends.Ends.{Ends}
+use Rattle.fz_bounds.specs.declared.ends.KindEnds.{KindEnds}
 
 -- a number that a value of the kind is told as: of a Boolean, 0 or 1
 abbrev pub IsTold : Kind → ℤ → Type 0
@@ -16,21 +16,21 @@ IsTold IntKind n = ⊤
 IsTold SetKind n = ⊤
 
 -- the two values are these numbers
-pub record AreEnds (low high : Value) (e : Ends) : Type 0 where
+pub record AreEnds (low high : Value) (e : KindEnds) : Type 0 where
   pub low_is : low ≡ number_as e.kind e.low
   pub high_is : high ≡ number_as e.kind e.high
   pub low_told : IsTold e.kind e.low
   pub high_told : IsTold e.kind e.high
 
 -- the variable has these bounds
-pub record AreEndsAt (B : Ranges) (n : ℕ) (e : Ends) : Type 0 where
+pub record AreEndsAt (B : Ranges) (n : ℕ) (e : KindEnds) : Type 0 where
   pub low_is : value_at B.lowest n ≡ Some (number_as e.kind e.low)
   pub high_is : value_at B.highest n ≡ Some (number_as e.kind e.high)
   pub low_told : IsTold e.kind e.low
   pub high_told : IsTold e.kind e.high
 
 -- an assignment inside the bounds gives the scalar one of these numbers
-abbrev pub LiesAt : Ranges → Term → Ends → Type 0
+abbrev pub LiesAt : Ranges → Term → KindEnds → Type 0
 LiesAt B t e = (A : Assignment) → IsInside B A → (a : ℤ)
     × (value (whole A) t ≡ Some (number_as e.kind a)) × (e.low ≤ℤ a) × (a ≤ℤ e.high)
 

@@ -2,20 +2,19 @@
 
 ghost use Rattle.std.specs.Prelude.{◌≡◌, ◌≤ℤ◌, ◌&&◌, ℕ, ℤ, List, IfSome, IsTrue, Some, false, int_le};
 ghost use Rattle.std.specs.FinSet.{contains};
-ghost use Rattle.fz_base.specs.declared.value.Value.{Value as Held};
-ghost use Rattle.fz_model.specs.Meaning.{Assignment, Variable, admits, inside, value, value_at, whole};
-ghost use Rattle.fz_model.specs.Meaning.Point.{ArrayPoint, DefinitionPoint};
-ghost use Rattle.fz_model.specs.Shown.{scalar_terms};
-ghost use Rattle.fz_model.specs.of_builtins.of_data.Slots.{scalar_term};
+ghost use Rattle.fz_index.specs.of_model.of_base.declared.value.Value.{Value as Held};
+ghost use Rattle.fz_index.specs.of_model.Meaning.{Assignment, Variable, admits, inside, value, value_at, whole};
+ghost use Rattle.fz_index.specs.of_model.Meaning.Point.{ArrayPoint, DefinitionPoint};
+ghost use Rattle.fz_index.specs.of_model.Shown.{scalar_terms};
+ghost use Rattle.fz_index.specs.of_model.Slots.{scalar_term};
 ghost use Rattle.fz_bounds.specs.Bounds.{IsInside, NeverHolds, number_as};
 ghost use Rattle.fz_bounds.specs.Decided.{Decides};
 ghost use Rattle.fz_bounds.specs.Ends.{LiesAt};
 
 use crate::bounds::Bounds;
-use crate::ends::{Ends, ends_between};
+use crate::ends::{KindEnds, ends_between};
 use crate::outlook::Outlook;
-use fz_base::IntSet;
-use fz_model::{Domain, Kind, Scalar, Scalars, Term, same_kind};
+use fz_index::{Domain, IntSet, Kind, Scalar, Scalars, Term, same_kind};
 
 /// So many numbers of a range are looked for in a set with gaps.
 const TRIED: usize = 1_000;
@@ -121,7 +120,7 @@ pub(crate) fn lies_outside(domain: &Domain, number: usize, bounds: &Bounds) -> b
 }
 
 /// The bounds of a scalar, where they are numbers or Booleans.
-fn ends_of_term(term: &Term, bounds: &Bounds) -> Option<Ends>
+fn ends_of_term(term: &Term, bounds: &Bounds) -> Option<KindEnds>
     ensures { IfSome result (LiesAt bounds.now term.now) }
 {
     match term {
@@ -131,7 +130,7 @@ fn ends_of_term(term: &Term, bounds: &Bounds) -> Option<Ends>
 }
 
 /// Whether no integer lies within both.
-fn are_apart(one: Ends, other: Ends) -> bool
+fn are_apart(one: KindEnds, other: KindEnds) -> bool
     ensures { IsTrue result → (a b : ℤ) → one.low ≤ℤ a → a ≤ℤ one.high → other.low ≤ℤ b
         → b ≤ℤ other.high → number_as one.kind a ≡ number_as other.kind b → ⊥ }
 {

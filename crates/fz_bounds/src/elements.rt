@@ -2,9 +2,9 @@
 
 ghost use Rattle.std.specs.Prelude.{◌≡◌, ◌<◌, ℤ, Bool, IfSome, Some, int_le, length, slice_get};
 ghost use Rattle.std.specs.List.{list_all};
-ghost use Rattle.fz_model.specs.Meaning.{Partial as Values};
-ghost use Rattle.fz_model.specs.Relations.{◌=ℤ◌, ◌=ᴮ◌, count_of, is_among, is_element, products, total, where_true};
-ghost use Rattle.fz_model.specs.of_builtins.of_kernel.Given.{bool_at, bools_at, int_at, ints_at, slots_at};
+ghost use Rattle.fz_index.specs.of_model.Meaning.{Partial as Values};
+ghost use Rattle.fz_index.specs.of_model.Relations.{◌=ℤ◌, ◌=ᴮ◌, count_of, is_among, is_element, products, total, where_true};
+ghost use Rattle.fz_index.specs.of_model.of_builtins.of_kernel.Given.{bool_at, bools_at, int_at, ints_at, slots_at};
 ghost use Rattle.fz_bounds.specs.Decided.{Decides, LiesIn};
 ghost use Rattle.fz_bounds.specs.Within.{NumberLies, NumbersLie, TruthLies, TruthsLie, given};
 

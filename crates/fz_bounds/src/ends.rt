@@ -4,12 +4,11 @@ ghost use Rattle.std.specs.Prelude.{◌≡◌, IfSome};
 ghost use Rattle.fz_bounds.specs.Bounds.{number_as};
 ghost use Rattle.fz_bounds.specs.Ends.{AreEnds};
 
-use fz_base::Value;
-use fz_model::Kind;
+use fz_index::{Kind, Value};
 
 /// The bounds of a variable as numbers: of a Boolean, 0 is false and 1 is true.
 #[derive(Clone, Copy)]
-pub struct Ends {
+pub struct KindEnds {
     pub kind: Kind,
     pub low: i64,
     pub high: i64,
@@ -28,16 +27,16 @@ pub(crate) fn number_as(kind: Kind, number: i64) -> Value
 }
 
 /// The numbers that two bounds are.
-pub(crate) fn ends_between(low: &Value, high: &Value) -> Option<Ends>
+pub(crate) fn ends_between(low: &Value, high: &Value) -> Option<KindEnds>
     ensures { IfSome result (AreEnds low.now high.now) }
 {
     match (low, high) {
-        (Value::Int(low), Value::Int(high)) => Some(Ends {
+        (Value::Int(low), Value::Int(high)) => Some(KindEnds {
             kind: Kind::Int,
             low: *low,
             high: *high,
         }),
-        (Value::Bool(low), Value::Bool(high)) => Some(Ends {
+        (Value::Bool(low), Value::Bool(high)) => Some(KindEnds {
             kind: Kind::Bool,
             low: i64::from(*low),
             high: i64::from(*high),

@@ -29,13 +29,11 @@ mod tasks;
 mod tightening;
 
 pub use bounds::Bounds;
-pub use ends::Ends;
-pub use fz_model::{
-    Argument, Builtin, ConstraintParts, Domain, Form, Goal, Kind, Known, LoadError, Model,
-    ModelError, Opening, Overview, Partial, Point, PointParts, Posted, Scalar, Scalars, Slot,
-    State, Term, Variable, What, Wide, all_hold, forced, forced_any, is_held, kind_of,
-    literal_kind, literal_value, load, load_text, only_number, opening_of, part, same_kind,
-    scalar_at, state,
+pub use ends::KindEnds;
+pub use fz_index::{
+    Claim, Domain, End, Ends, Goal, IntSet, Kind, Left, Model, Narrower, Narrowing, Overview,
+    Partial, PointParts, Product, Refutation, Relation, Row, Rule, Scalars, Search, Slot, State,
+    Sums, Term, Value, forced_any, kind_of, known_of, same_kind, state,
 };
 pub use refuting::cannot_hold;
 pub use tightening::Tightened;

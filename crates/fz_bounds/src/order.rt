@@ -1,9 +1,9 @@
 //! Order within bounds.
 
 ghost use Rattle.std.specs.Prelude.{◌≡◌, ◌||◌, ℤ, Bool, not, pos};
-ghost use Rattle.fz_model.specs.Meaning.{Partial as Values};
-ghost use Rattle.fz_model.specs.Relations.{all_neighbours, precedes, rises_by_one};
-ghost use Rattle.fz_model.specs.of_builtins.of_kernel.Given.{bools_at, ints_at};
+ghost use Rattle.fz_index.specs.of_model.Meaning.{Partial as Values};
+ghost use Rattle.fz_index.specs.of_model.Relations.{all_neighbours, precedes, rises_by_one};
+ghost use Rattle.fz_index.specs.of_model.of_builtins.of_kernel.Given.{bools_at, ints_at};
 ghost use Rattle.fz_bounds.specs.Decided.{Decides, LiesIn, in_order};
 ghost use Rattle.fz_bounds.specs.Within.{NumbersLie, TruthsLie, given};
 

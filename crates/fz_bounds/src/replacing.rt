@@ -1,10 +1,9 @@
 //! Another value for a variable.
 
 ghost use Rattle.std.specs.Prelude.{◌≡◌};
-ghost use Rattle.fz_model.specs.Steps.{give};
+ghost use Rattle.fz_index.specs.of_model.Steps.{give};
 
-use fz_base::Value;
-use fz_model::Partial;
+use fz_index::{Partial, Value};
 
 /// Gives a variable a value, whatever value it had, and changes nothing else.
 #[tactic(auto, using(crate::proofs::Giving::given_anew, crate::proofs::Giving::none_to_give))]

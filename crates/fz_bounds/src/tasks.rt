@@ -3,9 +3,9 @@
 
 ghost use Rattle.std.specs.Prelude.{◌≡◌, ◌&&◌, ◌<◌, ◌+ℤ◌, ℤ, IsTrue, Some, false, int_le, length, pos, slice_get};
 ghost use Rattle.std.specs.List.{zip};
-ghost use Rattle.fz_model.specs.Meaning.{Partial as Values};
-ghost use Rattle.fz_model.specs.Relations.{◌=ℤ◌, all_pairs, is_cumulative, last_naturally, runs_at, used_at};
-ghost use Rattle.fz_model.specs.of_builtins.of_kernel.Given.{int_at, ints_at, slots_at};
+ghost use Rattle.fz_index.specs.of_model.Meaning.{Partial as Values};
+ghost use Rattle.fz_index.specs.of_model.Relations.{◌=ℤ◌, all_pairs, is_cumulative, last_naturally, runs_at, used_at};
+ghost use Rattle.fz_index.specs.of_model.of_builtins.of_kernel.Given.{int_at, ints_at, slots_at};
 ghost use Rattle.fz_bounds.specs.Decided.{Decides, LiesIn};
 ghost use Rattle.fz_bounds.specs.Spans.{keep_apart};
 ghost use Rattle.fz_bounds.specs.Within.{NumberLies, NumbersLie, given};

@@ -2,16 +2,16 @@
 
 ghost use Rattle.std.specs.Prelude.{◌≡◌, ◌<◌, pos, ◌+ℤ◌, ◌-ℤ◌, IfOk, IsTrue, OnErr, Some, length, slice_get};
 ghost use Rattle.std.specs.Int.{int_max, int_min};
-ghost use Rattle.fz_model.specs.Meaning.{Assignment, Point, points, whole};
-ghost use Rattle.fz_model.specs.States.{HoldsIfKnown};
+ghost use Rattle.fz_index.specs.of_model.Meaning.{Assignment, Point, points, whole};
+ghost use Rattle.fz_index.specs.of_model.States.{HoldsIfKnown};
 ghost use Rattle.fz_bounds.specs.Bounds.{IsInside, NumberNeverHolds, narrowed, number_as};
 ghost use Rattle.fz_bounds.specs.Ends.{AreEndsAt, Excludes};
 ghost use Rattle.fz_bounds.specs.declared.tightening.Tightened.TheVariants.{Empty, Unshown};
 
 use crate::bounds::Bounds;
-use crate::ends::Ends;
+use crate::ends::KindEnds;
 use crate::refuting::cannot_hold;
-use fz_model::{Kind, Model, same_kind};
+use fz_index::{Kind, Model, same_kind};
 use std::alloc::{AllocError, Global};
 
 /// So many numbers of a variable are tried one by one.
@@ -34,7 +34,7 @@ struct Asked<'m, 'a> {
     model: &'m Model<'a>,
     point: usize,
     variable: usize,
-    ends: Ends,
+    ends: KindEnds,
 }
 
 impl Bounds {

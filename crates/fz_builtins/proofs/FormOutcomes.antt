@@ -2,7 +2,7 @@
 use Rattle.std.proofs.Common.{◌≡◌, ℕ, suc, ◌+◌, Bool, true, false, cond, not, ◌||◌, List, [], ◌∷◌, ◌++◌, length, refl, sym, ap, ◌∙◌, arith}
 use Rattle.std.specs.Prelude.{IsSome}
 use Rattle.std.specs.List.{list_any}
-use Rattle.fz_base.specs.declared.value.Value.TheVariants.{Bool as BoolValue}
+use Rattle.fz_globals.specs.of_meaning.of_base.declared.value.Value.TheVariants.{Bool as BoolValue}
 use Rattle.fz_builtins.specs.of_meaning.Relations.{◌=ᴮ◌}
 use Rattle.fz_builtins.specs.of_meaning.Builtins.{Shape, Row, implied, reified, with_bool, read}
 use Rattle.fz_builtins.specs.of_meaning.declared.known.Form.{Form}

@@ -6,9 +6,8 @@ ghost use Rattle.fz_globals.specs.of_meaning.Relations.{◌=ℤ◌, all_differen
 ghost use Rattle.fz_builtins.specs.Readings.{int, ints, sets_of, truths};
 ghost use Rattle.fz_builtins.specs.Said.{is_result};
 
-use fz_base::IntSet;
 use fz_globals::{
-    ArgumentView, all_elements_different, all_true, any_false, any_true, maximum, minimum,
+    ArgumentView, IntSet, all_elements_different, all_true, any_false, any_true, maximum, minimum,
     odd_number_true, sum_where_true,
 };
 use std::alloc::{AllocError, Global};

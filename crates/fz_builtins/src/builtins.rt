@@ -14,8 +14,9 @@ use crate::said::Said::{Boolean, Given, Number, Set, Whether};
 use crate::said::{Said, outcome_of};
 use crate::scalars::{implies, is_below};
 use crate::{arrays, counting, covers, flags, ordering, places, scalars, scheduling, sums};
-use fz_base::SetError;
-use fz_globals::{ArgumentView, Builtin, absolute, product, quotient, remainder, same_set, sum};
+use fz_globals::{
+    ArgumentView, Builtin, SetError, absolute, product, quotient, remainder, same_set, sum,
+};
 use std::alloc::{AllocError, Global};
 
 /// The outcome of a builtin's row at the values that the argument view gives. It refuses only where

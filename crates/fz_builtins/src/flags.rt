@@ -9,13 +9,12 @@ ghost use Rattle.fz_builtins.specs.Readings.{int, ints, numbers, sets_of, truths
 ghost use Rattle.fz_builtins.specs.Said.{IsSaid};
 
 use crate::said::Said;
-use fz_base::SetError;
 use fz_globals::channels::are_channelled;
 use fz_globals::chosen::{are_inverse_sets, union_of_chosen};
 use fz_globals::convex::is_convex;
 use fz_globals::flags::is_flagged;
 use fz_globals::partition::{are_disjoint, is_partition};
-use fz_globals::{ArgumentView, are_indices};
+use fz_globals::{ArgumentView, SetError, are_indices};
 use std::alloc::{AllocError, Global};
 
 /// Whether the set is that of the indices whose Booleans are true.

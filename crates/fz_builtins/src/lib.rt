@@ -31,11 +31,11 @@ pub use fz_globals::tables::{is_bool_row, is_int_row};
 pub use fz_globals::tours::{count_moved, first_moved};
 pub use fz_globals::{
     Argument, ArgumentView, Builtin, ConstraintParts, Domain, Elements, Filled, Form, Found, Goal,
-    Kind, Known, LoadError, Model, ModelError, Partial, Point, PointParts, Posted, Readiness,
-    Scalar, Scalars, Slot, State, Term, Variable, What, Wide, all_true, any_false, any_true, has,
-    index_at, int_element_at, item_at, kind_of, literal_kind, literal_value, load, load_text,
-    number_of_truth, numbers_in_order, numbers_of, odd_number_true, part, place_from, same_kind,
-    same_set, scalar_at, set_element, sum, sum_of_products, sum_where_true,
+    IntSet, Kind, Known, Model, ModelError, Partial, Point, PointParts, Posted, Readiness, Scalar,
+    Scalars, SetError, Slot, State, Term, Value, Variable, What, Wide, all_true, any_false,
+    any_true, has, index_at, int_element_at, item_at, kind_of, number_of_truth, numbers_in_order,
+    numbers_of, odd_number_true, part, place_from, same_kind, same_set, scalar_at, set_element,
+    sum, sum_of_products, sum_where_true,
 };
 pub use fz_scheduling::bins::load_of;
 pub use fz_scheduling::runs_at;

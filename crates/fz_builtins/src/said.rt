@@ -8,8 +8,7 @@ ghost use Rattle.fz_builtins.specs.Outcomes.{row_outcome};
 ghost use Rattle.fz_builtins.specs.Said.{IsSaid, is_result};
 
 use crate::outcome::Outcome;
-use fz_base::IntSet;
-use fz_globals::{ArgumentView, same_set};
+use fz_globals::{ArgumentView, IntSet, same_set};
 
 /// What a row says by the values of its arguments. Where it has a result, the argument at the index
 /// that comes with it, that argument isn't looked at: the row holds where its value is the one that

@@ -6,8 +6,7 @@ ghost use Rattle.fz_globals.specs.of_meaning.Relations.{◌=ℤ◌, all_pairs, a
 ghost use Rattle.fz_builtins.specs.Readings.{int, ints, numbers};
 ghost use Rattle.fz_builtins.specs.Said.{is_result};
 
-use fz_base::SetError;
-use fz_globals::ArgumentView;
+use fz_globals::{ArgumentView, SetError};
 use fz_scheduling::bins::{loads_are_given, loads_are_within};
 use fz_scheduling::boxes::{overlap_in_no_area, overlap_nowhere};
 use fz_scheduling::slides::slides_between;

@@ -7,15 +7,15 @@ use Rattle.std.specs.Option.{option_or}
 use Rattle.fz_judge.specs.of_model.Meaning.{Aim, Model, objective, whole}
 use Rattle.fz_judge.specs.of_stream.declared.line.ClaimKind.{ClaimKind}
 use Rattle.fz_judge.specs.of_stream.Parts.{blocks_in, SolutionBlock, StreamPart, BlockPart, ClaimPart}
-use Rattle.fz_judge.specs.declared.completion.Completion.{Completion}
-use Rattle.fz_judge.specs.declared.completion.Completion.TheVariants.{Off, On}
-use Rattle.fz_judge.specs.Judged.{JudgeState, IsJudged}
-use Rattle.fz_judge.specs.Solutions.{Block}
-use Rattle.fz_judge.specs.Verdict.{Answer, Verdict, verdict}
-use Rattle.fz_judge.specs.Verdict.Answer.{Accepted, Rejected, UndecidedAt, NoBlocks, ClaimRejected}
-use Rattle.fz_judge.specs.Verdict.Verdict.{Satisfied, Violated, Undecided}
-use Rattle.fz_judge.proofs.Accepted.{satisfied_solves}
-use Rattle.fz_judge.proofs.Completing.{compared, satisfied_under}
+use Rattle.fz_judge.specs.of_filling.declared.completion.Completion.{Completion}
+use Rattle.fz_judge.specs.of_filling.declared.completion.Completion.TheVariants.{Off, On}
+use Rattle.fz_judge.specs.of_filling.Judged.{JudgeState, IsJudged}
+use Rattle.fz_judge.specs.of_filling.Solutions.{Block}
+use Rattle.fz_judge.specs.of_filling.Verdict.{Answer, Verdict, verdict}
+use Rattle.fz_judge.specs.of_filling.Verdict.Answer.{Accepted, Rejected, UndecidedAt, NoBlocks, ClaimRejected}
+use Rattle.fz_judge.specs.of_filling.Verdict.Verdict.{Satisfied, Violated, Undecided}
+use Rattle.fz_judge.proofs.of_filling.Accepted.{satisfied_solves}
+use Rattle.fz_judge.proofs.of_filling.Completing.{compared, satisfied_under}
 use Rattle.fz_check.specs.declared.claims.Saying.{Saying}
 use Rattle.fz_check.specs.declared.claims.Saying.TheVariants.{Nothing, NoSolution, NoneBetter}
 use Rattle.fz_check.specs.declared.claims.Statement.{Statement}

@@ -4,7 +4,7 @@ use Rattle.std.proofs.lemmas.Bool.{ne_eqb, eq-eqb, cases_eq, false≢true}
 use Rattle.std.specs.List.{AllByRecursion, onto_first}
 use Rattle.std.specs.Prelude.{IfErr}
 use Rattle.std.specs.Io.KnownBytes.{IsAtEnd}
-use Rattle.fz_base.specs.declared.span.Span.{Span}
+use Rattle.fz_judge.specs.of_syntax.Span.{Span}
 use Rattle.fz_judge.specs.of_stream.declared.error.StreamError.{StreamError}
 use Rattle.fz_judge.specs.of_stream.declared.error.StreamError.TheVariants as stream
 use Rattle.fz_judge.specs.of_stream.declared.line.LineKind.{LineKind}

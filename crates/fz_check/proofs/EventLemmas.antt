@@ -3,7 +3,7 @@ use Rattle.std.proofs.Common.{◌≡◌, ℕ, suc, ◌+◌, List, [], ◌∷◌,
 use Rattle.std.proofs.lemmas.Grind.{flat_map-append}
 use Rattle.fz_judge.specs.of_stream.declared.line.ClaimKind.{ClaimKind}
 use Rattle.fz_judge.specs.of_stream.Parts.{blocks_in, SolutionBlock, StreamPart, BlockPart, ClaimPart}
-use Rattle.fz_judge.specs.Verdict.{Verdict}
+use Rattle.fz_judge.specs.of_filling.Verdict.{Verdict}
 use Rattle.fz_check.specs.Report.{Event, events_of, text_of}
 use Rattle.fz_check.specs.Report.Event.{Judged, Claimed}
 

@@ -10,14 +10,14 @@ use Rattle.fz_judge.specs.of_stream.declared.line.ClaimKind.{ClaimKind}
 use Rattle.fz_judge.specs.of_stream.Found.{EndsWithin, HasPlaces, block_of}
 use Rattle.fz_judge.specs.of_stream.Parts.{blocks_in, StreamPart, BlockPart, ClaimPart}
 use Rattle.fz_judge.proofs.of_stream.PartLemmas.{every_append}
-use Rattle.fz_judge.specs.BlockView.{located_block}
-use Rattle.fz_judge.specs.Solutions.{Block}
-use Rattle.fz_judge.specs.declared.completion.Completion.{Completion}
-use Rattle.fz_judge.specs.Completed.{AreTold, IsToldBy}
-use Rattle.fz_judge.specs.Verdict.{Answer, Verdict, verdict, IsFilled, answer_by, answer_of, is_violated, is_undecided, first_number}
-use Rattle.fz_judge.proofs.Completing.{told_lengths}
-use Rattle.fz_judge.proofs.Loops.{GoesOn, goes_on_after, goes_on_judged, blocks_with_block, blocks_with_claim, first_number_more}
-use Rattle.fz_judge.specs.Judged.{JudgeState, IsJudged, IsBlockRefusal}
+use Rattle.fz_judge.specs.of_filling.BlockView.{located_block}
+use Rattle.fz_judge.specs.of_filling.Solutions.{Block}
+use Rattle.fz_judge.specs.of_filling.declared.completion.Completion.{Completion}
+use Rattle.fz_judge.specs.of_filling.Completed.{AreTold, IsToldBy}
+use Rattle.fz_judge.specs.of_filling.Verdict.{Answer, Verdict, verdict, IsFilled, answer_by, answer_of, is_violated, is_undecided, first_number}
+use Rattle.fz_judge.proofs.of_filling.Completing.{told_lengths}
+use Rattle.fz_judge.proofs.of_filling.Loops.{GoesOn, goes_on_after, goes_on_judged, blocks_with_block, blocks_with_claim, first_number_more}
+use Rattle.fz_judge.specs.of_filling.Judged.{JudgeState, IsJudged, IsBlockRefusal}
 use Rattle.fz_check.specs.declared.error.CheckError.{CheckError}
 use Rattle.fz_check.specs.declared.error.CheckError.TheVariants as errors
 use Rattle.fz_check.specs.declared.jury.Jury.{Jury}

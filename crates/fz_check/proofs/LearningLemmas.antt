@@ -4,11 +4,11 @@ use Rattle.std.specs.Io.KnownBytes.{Consumes, IsAtEnd}
 use Rattle.fz_judge.specs.of_model.Meaning.{Aim, Model}
 use Rattle.fz_judge.specs.of_stream.Parts.{StreamPart, Frame}
 use Rattle.fz_judge.specs.of_syntax.Limits.{Limits}
-use Rattle.fz_judge.specs.declared.completion.Completion.{Completion}
-use Rattle.fz_judge.specs.Judged.{JudgeState, IsJudged}
-use Rattle.fz_judge.specs.Solutions.{Block}
-use Rattle.fz_judge.specs.Verdict.{Verdict}
-use Rattle.fz_judge.specs.Verdict.Verdict.{Satisfied}
+use Rattle.fz_judge.specs.of_filling.declared.completion.Completion.{Completion}
+use Rattle.fz_judge.specs.of_filling.Judged.{JudgeState, IsJudged}
+use Rattle.fz_judge.specs.of_filling.Solutions.{Block}
+use Rattle.fz_judge.specs.of_filling.Verdict.{Verdict}
+use Rattle.fz_judge.specs.of_filling.Verdict.Verdict.{Satisfied}
 use Rattle.fz_check.specs.declared.claims.Source.{Source}
 use Rattle.fz_check.specs.declared.claims.Known.{Known}
 use Rattle.fz_check.specs.Claims.{HasSolutionWith, Knows, known_with}

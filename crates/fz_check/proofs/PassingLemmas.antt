@@ -8,18 +8,18 @@ use Rattle.fz_judge.specs.of_stream.declared.line.ClaimKind.{ClaimKind}
 use Rattle.fz_judge.specs.of_stream.declared.reading.Claim.{Claim}
 use Rattle.fz_judge.specs.of_stream.Found.{EndsWithin, HasPlaces, IsReadAs, block_of, claims_in}
 use Rattle.fz_judge.specs.of_stream.Parts.{blocks_in, SolutionBlock, StreamPart, BlockPart, ClaimPart}
-use Rattle.fz_judge.specs.Solutions.{Block}
-use Rattle.fz_judge.specs.BlockFaults.{block_fault}
-use Rattle.fz_judge.specs.declared.completion.Completion.{Completion}
-use Rattle.fz_judge.specs.declared.completion.Completion.TheVariants.{Off}
-use Rattle.fz_judge.specs.Completed.{AreTold}
-use Rattle.fz_judge.specs.Completed.AreTold.{NoneLeft, OneMore}
-use Rattle.fz_judge.specs.Verdict.{Answer, Verdict, answer_by}
-use Rattle.fz_judge.specs.BlockView.{located_block}
-use Rattle.fz_judge.proofs.Loops.{goes_on_judged}
-use Rattle.fz_judge.specs.Judged.{IsBlockRefusal}
-use Rattle.fz_judge.specs.View.{verdict_view}
-use Rattle.fz_judge.specs.declared.verdict.Verdict as the_verdict
+use Rattle.fz_judge.specs.of_filling.Solutions.{Block}
+use Rattle.fz_judge.specs.of_filling.BlockFaults.{block_fault}
+use Rattle.fz_judge.specs.of_filling.declared.completion.Completion.{Completion}
+use Rattle.fz_judge.specs.of_filling.declared.completion.Completion.TheVariants.{Off}
+use Rattle.fz_judge.specs.of_filling.Completed.{AreTold}
+use Rattle.fz_judge.specs.of_filling.Completed.AreTold.{NoneLeft, OneMore}
+use Rattle.fz_judge.specs.of_filling.Verdict.{Answer, Verdict, answer_by}
+use Rattle.fz_judge.specs.of_filling.BlockView.{located_block}
+use Rattle.fz_judge.proofs.of_filling.Loops.{goes_on_judged}
+use Rattle.fz_judge.specs.of_filling.Judged.{IsBlockRefusal}
+use Rattle.fz_judge.specs.of_filling.View.{verdict_view}
+use Rattle.fz_judge.specs.of_filling.declared.verdict.Verdict as the_verdict
 use Rattle.fz_check.specs.declared.error.CheckError.{CheckError}
 use Rattle.fz_check.specs.declared.error.CheckError.TheVariants as errors
 use Rattle.fz_check.specs.declared.jury.Jury.{Jury}

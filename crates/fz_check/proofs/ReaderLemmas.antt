@@ -13,7 +13,7 @@ use Rattle.fz_judge.specs.of_stream.Parts.{StreamPart, BlockPart, ClaimPart, Fra
 use Rattle.fz_judge.specs.of_stream.Splitting.{SplitterState, Holds, Fits, PassesLimit, EndsLast, EndsWith, IsPartOfItems, frames_in, most_taken}
 use Rattle.fz_judge.specs.of_syntax.Limits.{Limits}
 use Rattle.fz_judge.proofs.of_stream.PartLemmas.{every_append, into_frames}
-use Rattle.fz_base.specs.declared.span.Span.{Span}
+use Rattle.fz_judge.specs.of_syntax.Span.{Span}
 use Rattle.fz_check.specs.declared.ending.Ending.{Ending}
 use Rattle.fz_check.specs.declared.ending.Ending.TheVariants.{Whole, Cut}
 use Rattle.fz_check.specs.declared.reader.Step.TheVariants.{Part, End}

@@ -7,17 +7,17 @@ use Rattle.fz_judge.specs.of_model.Names.{HasNoFault, model_of}
 use Rattle.fz_judge.specs.of_model.Texts.{IsLoadedFromWithin}
 use Rattle.fz_judge.specs.of_syntax.Limits.{Limits}
 use Rattle.fz_judge.proofs.of_model.Scope.{sound_aims}
-use Rattle.fz_judge.specs.Solutions.{Block}
-use Rattle.fz_judge.specs.declared.completion.Completion.{Completion}
-use Rattle.fz_judge.specs.Completed.{AreVerdicts}
-use Rattle.fz_judge.specs.Verdict.{Answer, Verdict, answer_of}
-use Rattle.fz_judge.specs.Verdict.Answer.{Accepted}
-use Rattle.fz_judge.specs.Verdict.Verdict.{Violated}
-use Rattle.fz_judge.specs.BlockView.{located_block}
-use Rattle.fz_judge.proofs.Accepted.{accepted_solves}
-use Rattle.fz_judge.proofs.Completing.{accepted_judged}
-use Rattle.fz_judge.proofs.Each.{each_satisfied, each_violated, each_not_better}
-use Rattle.fz_judge.proofs.Places.{blocks_are_bare}
+use Rattle.fz_judge.specs.of_filling.Solutions.{Block}
+use Rattle.fz_judge.specs.of_filling.declared.completion.Completion.{Completion}
+use Rattle.fz_judge.specs.of_filling.Completed.{AreVerdicts}
+use Rattle.fz_judge.specs.of_filling.Verdict.{Answer, Verdict, answer_of}
+use Rattle.fz_judge.specs.of_filling.Verdict.Answer.{Accepted}
+use Rattle.fz_judge.specs.of_filling.Verdict.Verdict.{Violated}
+use Rattle.fz_judge.specs.of_filling.BlockView.{located_block}
+use Rattle.fz_judge.proofs.of_filling.Accepted.{accepted_solves}
+use Rattle.fz_judge.proofs.of_filling.Completing.{accepted_judged}
+use Rattle.fz_judge.proofs.of_filling.Each.{each_satisfied, each_violated, each_not_better}
+use Rattle.fz_judge.proofs.of_filling.Places.{blocks_are_bare}
 use Rattle.fz_check.specs.Headline.{HasSolutionsWithin}
 use Rattle.fz_check.specs.declared.claims.Claims.{Claims}
 use Rattle.fz_check.specs.Claims.{HasReportWith, IsReportWith, IsTrueOf, ledger, no_ledger, verdicts_of}

@@ -8,12 +8,12 @@ use Rattle.fz_judge.specs.of_model.Meaning.{Model}
 use Rattle.fz_judge.specs.of_model.Texts.{IsLoadedFromWithin}
 use Rattle.fz_judge.specs.of_stream.declared.splitter.Stage.TheVariants.{Running, Finished}
 use Rattle.fz_judge.specs.of_stream.Parts.{StreamPart, Frame, IsStreamTextWithin}
-use Rattle.fz_judge.specs.BlockView.{located_block}
-use Rattle.fz_judge.specs.declared.completion.Completion.{Completion}
-use Rattle.fz_judge.specs.Verdict.{answer_by}
-use Rattle.fz_judge.specs.Judged.{JudgeState}
+use Rattle.fz_judge.specs.of_filling.BlockView.{located_block}
+use Rattle.fz_judge.specs.of_filling.declared.completion.Completion.{Completion}
+use Rattle.fz_judge.specs.of_filling.Verdict.{answer_by}
+use Rattle.fz_judge.specs.of_filling.Judged.{JudgeState}
 use Rattle.fz_judge.specs.of_syntax.Limits.{Limits}
-use Rattle.fz_base.specs.declared.span.Span.{Span}
+use Rattle.fz_judge.specs.of_syntax.Span.{Span}
 use Rattle.fz_check.specs.declared.ending.Ending.{Ending}
 use Rattle.fz_check.specs.declared.error.CheckError.{CheckError}
 use Rattle.fz_check.specs.declared.error.CheckError.TheVariants as errors

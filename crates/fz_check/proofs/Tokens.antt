@@ -7,7 +7,7 @@ use Rattle.fz_judge.specs.of_syntax.Lexing.{IsTokenWithinLimit}
 use Rattle.fz_judge.specs.of_syntax.Mark.TheVariants.{Colon, ColonColon, Semicolon}
 use Rattle.fz_judge.specs.of_syntax.Print.{CanBeWritten}
 use Rattle.fz_judge.specs.of_syntax.Tree as tree
-use Rattle.fz_judge.specs.of_syntax.Tokens.{decl_toks, predicate_toks, constraint_toks, solve_toks, notes_toks, note_toks, value_toks, prefix_toks, toks, var_toks, base_toks, word as name_toks, mark}
+use Rattle.fz_judge.specs.of_syntax.Tokens.{decl_toks, predicate_toks, constraint_toks, solve_toks, notes_toks, note_toks, value_toks, prefix_toks, toks, var_toks, base_toks, word, mark}
 use Rattle.fz_judge.specs.of_model.Located.{Decl, LocatedTree, bare_decl, bare_constraint, bare_solve, bare_of}
 use Rattle.fz_judge.proofs.of_model.Lists.{all_append}
 use Rattle.fz_check.specs.Outputs.{output_var, is_unprinted, printed_decl, with_all_printed}
@@ -33,10 +33,10 @@ in_front : {X : Type 0} (P : X → Type 0) (xs ys zs : List X)
 in_front P xs ys zs turn h = let parts = split P xs zs h in all_append P ys zs (turn parts.left) parts.right
 
 -- a property that the annotation's two tokens have
-module _ (P : TokenValue → Type 0) (colons : P (Marked ColonColon)) (word : P (Word (codes "output_var"))) where
+module _ (P : TokenValue → Type 0) (colons : P (Marked ColonColon)) (named : P (Word (codes "output_var"))) where
   notes_kept : (notes : List tree.Note) → AllByRecursion P (notes_toks notes)
       → AllByRecursion P (notes_toks (notes ++ output_var ∷ []))
-  notes_kept [] h = (colons, (word, tt))
+  notes_kept [] h = (colons, (named, tt))
   notes_kept (n ∷ notes) h =
       let parts = split P (Marked ColonColon ∷ note_toks n) (notes_toks notes) h in
       all_append P (Marked ColonColon ∷ note_toks n) (notes_toks (notes ++ output_var ∷ [])) parts.left (notes_kept notes parts.right)
@@ -51,7 +51,7 @@ module _ (P : TokenValue → Type 0) (colons : P (Marked ColonColon)) (word : P 
   decl_kept : (d : Decl) → AllByRecursion P (decl_toks (bare_decl d))
       → AllByRecursion P (decl_toks (bare_decl (printed_decl d)))
   decl_kept d =
-      let front = prefix_toks d.array_length ++ var_toks d.is_var ++ base_toks d.base ++ mark Colon ++ name_toks d.name.text in
+      let front = prefix_toks d.array_length ++ var_toks d.is_var ++ base_toks d.base ++ mark Colon ++ word d.name.text in
       in_front P _ _ (mark Semicolon)
       (in_front P _ _ (value_toks (bare_decl d).value) (behind P front (notes_toks d.notes) (notes_toks (printed_decl d).notes) (noted_kept d)))
 

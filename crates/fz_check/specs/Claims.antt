@@ -11,14 +11,14 @@ use Rattle.fz_judge.specs.of_model.Meaning.Aim.{Satisfy, Minimize, Maximize}
 use Rattle.fz_judge.specs.of_stream.declared.line.ClaimKind.{ClaimKind}
 use Rattle.fz_judge.specs.of_stream.declared.line.ClaimKind.TheVariants.{Complete, Unsatisfiable}
 use Rattle.fz_judge.specs.of_stream.Parts.{StreamPart, BlockPart, ClaimPart, IsStreamTextWithin}
-use Rattle.fz_judge.specs.BlockView.{located_block}
-use Rattle.fz_judge.specs.Solutions.{Block, Extends}
-use Rattle.fz_judge.specs.declared.completion.Completion.{Completion}
-use Rattle.fz_judge.specs.declared.completion.Completion.TheVariants.{Off}
-use Rattle.fz_judge.specs.Completed.{IsToldBy}
-use Rattle.fz_judge.specs.Verdict.{Verdict, Answer, IsFilled, answer_of, verdict}
-use Rattle.fz_judge.specs.Verdict.Verdict.{Satisfied}
-use Rattle.fz_judge.specs.Verdict.Answer.{Rejected, ClaimRejected}
+use Rattle.fz_judge.specs.of_filling.BlockView.{located_block}
+use Rattle.fz_judge.specs.of_filling.Solutions.{Block, Extends}
+use Rattle.fz_judge.specs.of_filling.declared.completion.Completion.{Completion}
+use Rattle.fz_judge.specs.of_filling.declared.completion.Completion.TheVariants.{Off}
+use Rattle.fz_judge.specs.of_filling.Completed.{IsToldBy}
+use Rattle.fz_judge.specs.of_filling.Verdict.{Verdict, Answer, IsFilled, answer_of, verdict}
+use Rattle.fz_judge.specs.of_filling.Verdict.Verdict.{Satisfied}
+use Rattle.fz_judge.specs.of_filling.Verdict.Answer.{Rejected, ClaimRejected}
 use Rattle.fz_check.specs.declared.claims.Saying.{Saying}
 use Rattle.fz_check.specs.declared.claims.Saying.TheVariants.{Nothing, NoSolution, NoneBetter}
 use Rattle.fz_check.specs.declared.claims.Statement.{Statement}

@@ -5,7 +5,7 @@ use Rattle.fz_judge.specs.of_syntax.Text.{IsTextOfTreeWithin}
 use Rattle.fz_judge.specs.of_stream.Parts.{StreamPart, IsStreamTextWithin, blocks_in}
 use Rattle.fz_judge.specs.of_model.Located.{LocatedTree, bare_of}
 use Rattle.fz_judge.specs.of_model.Names.{HasNoFault}
-use Rattle.fz_judge.specs.Solutions.{Block, bare_of_block, HaveSolutions}
+use Rattle.fz_judge.specs.of_filling.Solutions.{Block, bare_of_block, HaveSolutions}
 use Rattle.std.specs.Io.KnownBytes.{Consumes, IsAtEnd}
 
 -- The reader gave these bytes up to its end, and this holds of them.

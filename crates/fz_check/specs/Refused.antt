@@ -21,11 +21,11 @@ use Rattle.fz_judge.specs.of_model.Meaning.{Model}
 use Rattle.fz_judge.specs.of_model.Texts.{IsNameFaultWithin}
 use Rattle.fz_judge.specs.of_model.declared.ModelError.{ModelError}
 use Rattle.fz_judge.specs.of_model.declared.ModelError.TheVariants.{Memory as NameMemory}
-use Rattle.fz_judge.specs.BlockFaults.{block_fault}
-use Rattle.fz_judge.specs.BlockView.{located_block}
-use Rattle.fz_judge.specs.Judged.{IsBlockRefusal}
-use Rattle.fz_judge.specs.declared.error.BlockError.{BlockError}
-use Rattle.fz_judge.specs.declared.error.BlockError.TheVariants.{Memory as BlockMemory}
+use Rattle.fz_judge.specs.of_filling.BlockFaults.{block_fault}
+use Rattle.fz_judge.specs.of_filling.BlockView.{located_block}
+use Rattle.fz_judge.specs.of_filling.Judged.{IsBlockRefusal}
+use Rattle.fz_judge.specs.of_filling.declared.error.BlockError.{BlockError}
+use Rattle.fz_judge.specs.of_filling.declared.error.BlockError.TheVariants.{Memory as BlockMemory}
 use Rattle.fz_check.specs.declared.error.CheckError.{CheckError}
 use Rattle.fz_check.specs.declared.error.CheckError.TheVariants as errors
 use Rattle.fz_check.specs.Reported.{HoldsOfModel}

@@ -3,7 +3,7 @@
 use Rattle.std.specs.Prelude.{◌≡◌, ℕ, suc, List, [], ◌∷◌, ◌++◌, cond, map, codes, decimal, flat_map}
 use Rattle.std.specs.List.{AllByRecursion}
 use Rattle.std.specs.Fmt.{signed_decimal}
-use Rattle.fz_base.specs.declared.span.Span.{Span}
+use Rattle.fz_judge.specs.of_syntax.Span.{Span}
 use Rattle.fz_judge.specs.of_syntax.Limits.{Limits}
 use Rattle.fz_judge.specs.of_syntax.Lexing.{standard_limits}
 use Rattle.fz_judge.specs.of_model.Meaning.{Model}
@@ -12,14 +12,14 @@ use Rattle.fz_judge.specs.of_stream.declared.line.ClaimKind.{ClaimKind}
 use Rattle.fz_judge.specs.of_stream.declared.line.ClaimKind.TheVariants.{Complete, Unsatisfiable, Unknown, Unbounded, UnsatOrUnbounded, Error}
 use Rattle.fz_judge.specs.of_stream.Found.{HasPlaces, block_of}
 use Rattle.fz_judge.specs.of_stream.Parts.{blocks_in, StreamPart, BlockPart, ClaimPart, IsStreamTextWithin}
-use Rattle.fz_judge.specs.BlockView.{located_block}
-use Rattle.fz_judge.specs.declared.completion.Completion.{Completion}
-use Rattle.fz_judge.specs.Completed.{AreVerdicts}
-use Rattle.fz_judge.specs.Verdict.{Fault, Reason, Verdict, Answer, answer_of}
-use Rattle.fz_judge.specs.Verdict.Fault.{PrintedFault, DomainFault, DefinitionFault, ConstraintFault, NotBetter}
-use Rattle.fz_judge.specs.Verdict.Reason.{NoValueFor, NotKnown, NotShownBetter, SumTooLarge}
-use Rattle.fz_judge.specs.Verdict.Verdict.{Satisfied, Violated, Undecided}
-use Rattle.fz_judge.specs.Verdict.Answer.{Accepted, Rejected, UndecidedAt, NoBlocks, ClaimRejected}
+use Rattle.fz_judge.specs.of_filling.BlockView.{located_block}
+use Rattle.fz_judge.specs.of_filling.declared.completion.Completion.{Completion}
+use Rattle.fz_judge.specs.of_filling.Completed.{AreVerdicts}
+use Rattle.fz_judge.specs.of_filling.Verdict.{Fault, Reason, Verdict, Answer, answer_of}
+use Rattle.fz_judge.specs.of_filling.Verdict.Fault.{PrintedFault, DomainFault, DefinitionFault, ConstraintFault, NotBetter}
+use Rattle.fz_judge.specs.of_filling.Verdict.Reason.{NoValueFor, NotKnown, NotShownBetter, SumTooLarge}
+use Rattle.fz_judge.specs.of_filling.Verdict.Verdict.{Satisfied, Violated, Undecided}
+use Rattle.fz_judge.specs.of_filling.Verdict.Answer.{Accepted, Rejected, UndecidedAt, NoBlocks, ClaimRejected}
 use Rattle.fz_check.specs.declared.claims.Refutation.{Refutation}
 use Rattle.fz_check.specs.declared.claims.Refuter.{Refuter}
 use Rattle.fz_check.specs.declared.claims.Refuter.TheVariants as refuters

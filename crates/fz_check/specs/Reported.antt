@@ -6,12 +6,12 @@ use Rattle.fz_judge.specs.of_syntax.Limits.{Limits}
 use Rattle.fz_judge.specs.of_model.Meaning.{Model, Assignment, IsSolution}
 use Rattle.fz_judge.specs.of_model.States.{IsKnownSolution}
 use Rattle.fz_judge.specs.of_model.Texts.{IsLoadedFromWithin}
-use Rattle.fz_judge.specs.declared.completion.Completion.{Completion}
-use Rattle.fz_judge.specs.Solutions.{Block, Extends, Improves}
-use Rattle.fz_judge.specs.Verdict.{Answer, Verdict, Fault}
-use Rattle.fz_judge.specs.BlockView.{located_block}
-use Rattle.fz_judge.specs.Verdict.Verdict.{Satisfied, Violated}
-use Rattle.fz_judge.specs.Verdict.Fault.{NotBetter}
+use Rattle.fz_judge.specs.of_filling.declared.completion.Completion.{Completion}
+use Rattle.fz_judge.specs.of_filling.Solutions.{Block, Extends, Improves}
+use Rattle.fz_judge.specs.of_filling.Verdict.{Answer, Verdict, Fault}
+use Rattle.fz_judge.specs.of_filling.BlockView.{located_block}
+use Rattle.fz_judge.specs.of_filling.Verdict.Verdict.{Satisfied, Violated}
+use Rattle.fz_judge.specs.of_filling.Verdict.Fault.{NotBetter}
 use Rattle.fz_check.specs.Headline.{HasSolutionsWithin}
 use Rattle.fz_check.specs.Report.{Event, IsReportWithin}
 

@@ -11,12 +11,12 @@ use Rattle.fz_judge.specs.of_stream.declared.error.StreamError.TheVariants.{Memo
 use Rattle.fz_judge.specs.of_stream.Faults.{IsStreamFault}
 use Rattle.fz_judge.specs.of_stream.Found.{HasPlaces, block_of}
 use Rattle.fz_judge.specs.of_stream.Parts.{blocks_in, StreamPart, BlockPart, IsStreamTextWithin}
-use Rattle.fz_judge.specs.BlockView.{located_block}
-use Rattle.fz_judge.specs.declared.completion.Completion.{Completion}
-use Rattle.fz_judge.specs.Verdict.{Answer}
-use Rattle.fz_judge.specs.declared.error.BlockError.{BlockError}
-use Rattle.fz_judge.specs.declared.error.BlockError.TheVariants.{Memory}
-use Rattle.fz_judge.specs.Judged.{IsBlockRefusal}
+use Rattle.fz_judge.specs.of_filling.BlockView.{located_block}
+use Rattle.fz_judge.specs.of_filling.declared.completion.Completion.{Completion}
+use Rattle.fz_judge.specs.of_filling.Verdict.{Answer}
+use Rattle.fz_judge.specs.of_filling.declared.error.BlockError.{BlockError}
+use Rattle.fz_judge.specs.of_filling.declared.error.BlockError.TheVariants.{Memory}
+use Rattle.fz_judge.specs.of_filling.Judged.{IsBlockRefusal}
 use Rattle.fz_check.specs.declared.ending.Ending.{Ending}
 use Rattle.fz_check.specs.declared.ending.Ending.TheVariants.{Whole}
 use Rattle.fz_check.specs.declared.error.CheckError.{CheckError}

@@ -12,15 +12,15 @@ use Rattle.fz_judge.specs.of_stream.declared.error.StreamError.TheVariants.{Memo
 use Rattle.fz_judge.specs.of_stream.Faults.{IsStreamFault}
 use Rattle.fz_judge.specs.of_stream.Found.{EndsWithin, HasPlaces, block_of}
 use Rattle.fz_judge.specs.of_stream.Parts.{blocks_in, StreamPart, BlockPart, Frame, IsStreamTextWithin}
-use Rattle.fz_judge.specs.Solutions.{Block}
-use Rattle.fz_judge.specs.BlockView.{located_block}
-use Rattle.fz_judge.specs.declared.completion.Completion.{Completion}
-use Rattle.fz_judge.specs.Completed.{AreTold, AreVerdicts}
-use Rattle.fz_judge.specs.Verdict.{Answer, Verdict, first_number, is_undecided, is_violated}
-use Rattle.fz_judge.specs.declared.error.BlockError.{BlockError}
-use Rattle.fz_judge.specs.declared.error.BlockError.TheVariants.{Memory}
-use Rattle.fz_judge.specs.Judged.{IsBlockRefusal}
-use Rattle.fz_base.specs.declared.span.Span.{Span}
+use Rattle.fz_judge.specs.of_filling.Solutions.{Block}
+use Rattle.fz_judge.specs.of_filling.BlockView.{located_block}
+use Rattle.fz_judge.specs.of_filling.declared.completion.Completion.{Completion}
+use Rattle.fz_judge.specs.of_filling.Completed.{AreTold, AreVerdicts}
+use Rattle.fz_judge.specs.of_filling.Verdict.{Answer, Verdict, first_number, is_undecided, is_violated}
+use Rattle.fz_judge.specs.of_filling.declared.error.BlockError.{BlockError}
+use Rattle.fz_judge.specs.of_filling.declared.error.BlockError.TheVariants.{Memory}
+use Rattle.fz_judge.specs.of_filling.Judged.{IsBlockRefusal}
+use Rattle.fz_judge.specs.of_syntax.Span.{Span}
 use Rattle.fz_check.specs.declared.ending.Ending.{Ending}
 use Rattle.fz_check.specs.declared.ending.Ending.TheVariants.{Whole, Cut}
 use Rattle.fz_check.specs.declared.error.CheckError.{CheckError}

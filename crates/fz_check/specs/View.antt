@@ -1,7 +1,7 @@
 -- What the code tells and answers, as definitions have it.
 use Rattle.std.specs.Prelude.{List, [], ◌∷◌, ◌++◌, map}
-use Rattle.fz_judge.specs.Verdict as plain
-use Rattle.fz_judge.specs.View.{verdict_view}
+use Rattle.fz_judge.specs.of_filling.Verdict as plain
+use Rattle.fz_judge.specs.of_filling.View.{verdict_view}
 use Rattle.fz_check.specs.declared.tally.Answer.{Answer}
 use Rattle.fz_check.specs.declared.tally.Answer.TheVariants as answers
 use Rattle.fz_check.specs.declared.event.Event as the_event

@@ -7,8 +7,7 @@ ghost use Rattle.fz_check.specs.View.{event_view};
 use crate::claims::Refutation;
 use crate::line::{push_answer, push_block, push_claim, push_cut, push_refutation};
 use crate::tally::Answer;
-use fz_base::Span;
-use fz_judge::{Block, ClaimKind, Model, Refutation as BoundsRefutation, Verdict};
+use fz_judge::{Block, ClaimKind, Model, Refutation as BoundsRefutation, Span, Verdict};
 use std::alloc::AllocError;
 
 /// A block that was judged.

@@ -1,9 +1,9 @@
 //! The verdicts on blocks, one after another, and the answer on all of them.
 
 ghost use Rattle.std.specs.Prelude.{◌≡◌, ◌+◌, ◌<◌, None, IfOk, IfErr, OnOk};
-ghost use Rattle.fz_judge.specs.Verdict.{answer_by};
-ghost use Rattle.fz_judge.specs.BlockView.{located_block};
-ghost use Rattle.fz_judge.specs.View.{verdict_view};
+ghost use Rattle.fz_judge.specs.of_filling.Verdict.{answer_by};
+ghost use Rattle.fz_judge.specs.of_filling.BlockView.{located_block};
+ghost use Rattle.fz_judge.specs.of_filling.View.{verdict_view};
 ghost use Rattle.fz_check.specs.Claims.{IsOutcome, answer_with, behind_block, behind_claim, claim_refutation, is_satisfied, late_refuted, no_ledger};
 ghost use Rattle.fz_check.specs.Telling.{IsUnjudged, JudgesOneMore};
 ghost use Rattle.fz_check.specs.View.{answer_view};

@@ -33,9 +33,8 @@ pub use claims::{Best, Claims, Known, Refutation, Refuter, Saying, Source, State
 pub use ending::Ending;
 pub use error::CheckError;
 pub use event::{Event, Judged, Taker, TextTaker};
-pub use fz_base::Span;
 pub use fz_judge::{
-    BlockError, ClaimKind, Completion, Fault, Judge, Limits, Model, ModelError, Reason,
+    BlockError, ClaimKind, Completion, Fault, Judge, Limits, Model, ModelError, Reason, Span,
     StreamError, SyntaxError, Verdict, fill, fill_with_steps,
 };
 pub use learning::{Listener, learn};

@@ -3,14 +3,13 @@
 ghost use Rattle.std.specs.Prelude.{◌≡◌, ◌++◌, ◌∷◌, [], IfOk, OnOk, codes, decimal};
 ghost use Rattle.fz_check.specs.Report.{claim_text, event_line, place_text, refuter_text, verdict_text};
 ghost use Rattle.fz_check.specs.Report.Event.{Answered, Claimed, CutOff, Judged, Refuted};
-ghost use Rattle.fz_judge.specs.View.{verdict_view};
+ghost use Rattle.fz_judge.specs.of_filling.View.{verdict_view};
 ghost use Rattle.fz_check.specs.View.{answer_view};
 
 use crate::claims::{Refutation, Refuter};
 use crate::tally::Answer;
 use crate::text::{push_bytes, push_count, push_fault, push_reason};
-use fz_base::Span;
-use fz_judge::{ClaimKind, Verdict};
+use fz_judge::{ClaimKind, Span, Verdict};
 use std::alloc::{AllocError, Global};
 
 /// A claim's line in a stream, without blanks at its ends.

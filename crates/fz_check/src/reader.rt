@@ -9,8 +9,7 @@ ghost use Rattle.fz_check.specs.Telling.{IsEndOf, IsUnread, broken_end};
 use crate::ending::Ending;
 use crate::error::{CheckError, stream_refusal};
 use crate::pieces::{Pieces, ReadFailed};
-use fz_base::Span;
-use fz_judge::{Limits, Part, Splitter, StreamError};
+use fz_judge::{Limits, Part, Span, Splitter, StreamError};
 use std::alloc::Global;
 use std::io::Read;
 use std::marker::Model;
@@ -61,7 +60,7 @@ impl Model for PartReader {
 }
 
 impl PartReader {
-    ghost use Rattle.fz_base.specs.declared.span.Span.{Span as SpanData};
+    ghost use Rattle.fz_judge.specs.of_syntax.Span.{Span as SpanData};
     ghost use Rattle.fz_check.specs.declared.ending.Ending.{Ending};
     ghost use Rattle.fz_judge.specs.of_stream.declared.splitter.Stage.TheVariants.{Running, Finished};
     ghost use Rattle.fz_judge.specs.of_stream.Lending.{part_of, HasPlacesOfItems, PartEndsWithin};

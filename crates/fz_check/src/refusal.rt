@@ -6,8 +6,7 @@ ghost use Rattle.fz_check.specs.Refusal.{block_fault, model_fault, named, named_
 use crate::error::CheckError;
 use crate::tally::Answer;
 use crate::text::{push_bytes, push_count};
-use fz_base::Span;
-use fz_judge::{BlockError, ModelError, StreamError, SyntaxError};
+use fz_judge::{BlockError, ModelError, Span, StreamError, SyntaxError};
 use std::alloc::{AllocError, Global};
 
 /// The name of a fault, and its byte range where it has one.

@@ -1,7 +1,7 @@
 ghost use Rattle.std.specs.Prelude.{◌≡◌, ◌+◌, ◌<◌, [], cond, Some, None};
 ghost use Rattle.std.specs.Option.{option_or};
-ghost use Rattle.fz_judge.specs.Verdict.{answer_by, is_undecided, is_violated};
-ghost use Rattle.fz_judge.specs.View.{verdict_view};
+ghost use Rattle.fz_judge.specs.of_filling.Verdict.{answer_by, is_undecided, is_violated};
+ghost use Rattle.fz_judge.specs.of_filling.View.{verdict_view};
 ghost use Rattle.fz_check.specs.Claims.{answer_with, is_satisfied};
 ghost use Rattle.fz_check.specs.View.{answer_view};
 

@@ -4,29 +4,29 @@ use Rattle.std.specs.List.{AllByRecursion}
 use Rattle.std.specs.Option.{option_map_or}
 use Rattle.std.proofs.lemmas.Bool.{and_right, cond-true, cond-false}
 use Rattle.std.proofs.lemmas.Option.{slice_get_within}
-use Rattle.fz_names.proofs.of_meaning.Points.{slice_get_at}
-use Rattle.fz_base.specs.declared.value.Value.{Value}
-use Rattle.fz_names.specs.of_meaning.declared.kind.Kind.{Kind}
-use Rattle.fz_names.specs.of_meaning.declared.term.Term.{Term}
-use Rattle.fz_names.specs.of_meaning.declared.term.Term.TheVariants.{Var, Fixed}
-use Rattle.fz_names.specs.of_meaning.declared.term.Domain.{Domain}
-use Rattle.fz_names.specs.of_meaning.declared.term.Domain.TheVariants.{All, Within, Among}
-use Rattle.fz_names.specs.of_meaning.Relations.{kind_of, same_kind}
-use Rattle.fz_names.specs.of_meaning.Located.{Decl}
-use Rattle.fz_names.specs.of_meaning.Meaning.{Place, declared_points, definition_points, admits_all}
-use Rattle.fz_names.specs.of_meaning.Meaning.Place.{Scalar, Array}
-use Rattle.fz_names.specs.of_meaning.Meaning.Declared.{Parameter, ScalarVariable, ArrayOfVariables}
-use Rattle.fz_names.specs.of_meaning.Meaning.Point.{DomainPoint, ArrayPoint}
-use Rattle.fz_names.specs.of_meaning.Names.{kind_of_base, domain_of, is_scalar, is_scalar_variable, number_of, literal_of, scalars, declared_elements, place_of_declared, definition_of, declared_of, variable_declared}
-use Rattle.fz_names.proofs.of_meaning.Scope.{same_kind_is}
-use Rattle.fz_names.proofs.of_meaning.KnownNames.{declares, next_number, number_here}
-use Rattle.fz_data.specs.declared.parts.Array as the_array
-use Rattle.fz_names.specs.Naming.{Declared as declarations}
-use Rattle.fz_data.specs.declared.parts.DeclaredPoint.TheVariants as points
-use Rattle.fz_data.specs.declared.parts.Variable.{Variable}
-use Rattle.fz_data.specs.Parts.{variable_view, no_variable, variable_at, definition_at, array_view, declared_point, definition_point, elements_point, no_array, elements_of}
-use Rattle.fz_data.specs.Declarations.{array_declared}
-use Rattle.fz_data.specs.Layout.{IsPlaced}
+use Rattle.fz_store.proofs.of_meaning.Points.{slice_get_at}
+use Rattle.fz_tree.specs.of_lex.of_base.declared.value.Value.{Value}
+use Rattle.fz_store.specs.of_meaning.declared.kind.Kind.{Kind}
+use Rattle.fz_store.specs.of_meaning.declared.term.Term.{Term}
+use Rattle.fz_store.specs.of_meaning.declared.term.Term.TheVariants.{Var, Fixed}
+use Rattle.fz_store.specs.of_meaning.declared.term.Domain.{Domain}
+use Rattle.fz_store.specs.of_meaning.declared.term.Domain.TheVariants.{All, Within, Among}
+use Rattle.fz_store.specs.of_meaning.Relations.{kind_of, same_kind}
+use Rattle.fz_store.specs.of_meaning.Located.{Decl}
+use Rattle.fz_store.specs.of_meaning.Meaning.{Place, declared_points, definition_points, admits_all}
+use Rattle.fz_store.specs.of_meaning.Meaning.Place.{Scalar, Array}
+use Rattle.fz_store.specs.of_meaning.Meaning.Declared.{Parameter, ScalarVariable, ArrayOfVariables}
+use Rattle.fz_store.specs.of_meaning.Meaning.Point.{DomainPoint, ArrayPoint}
+use Rattle.fz_store.specs.of_meaning.Names.{kind_of_base, domain_of, is_scalar, is_scalar_variable, number_of, literal_of, scalars, declared_elements, place_of_declared, definition_of, declared_of, variable_declared}
+use Rattle.fz_store.proofs.of_meaning.Scope.{same_kind_is}
+use Rattle.fz_store.proofs.of_meaning.KnownNames.{declares, next_number, number_here}
+use Rattle.fz_store.specs.declared.parts.Array as the_array
+use Rattle.fz_store.specs.of_names.Naming.{Declared as declarations}
+use Rattle.fz_store.specs.declared.parts.DeclaredPoint.TheVariants as points
+use Rattle.fz_store.specs.declared.parts.Variable.{Variable}
+use Rattle.fz_store.specs.Parts.{variable_view, no_variable, variable_at, definition_at, array_view, declared_point, definition_point, elements_point, no_array, elements_of}
+use Rattle.fz_store.specs.Declarations.{array_declared}
+use Rattle.fz_store.specs.Layout.{IsPlaced}
 use Rattle.fz_data.specs.Scope.{has_elements_point}
 use Rattle.fz_data.proofs.Stands.{Adds}
 

@@ -5,25 +5,25 @@ use Rattle.std.specs.List.{list_all}
 use Rattle.std.proofs.lemmas.Bool.{false≢true, and_parts, and_right}
 use Rattle.std.proofs.lemmas.List.{at_drop_more, at_drop_all, length-map}
 use Rattle.std.proofs.lemmas.List.Folds.{list_all-map}
-use Rattle.fz_names.specs.of_meaning.Builtins.{Row, Shape as Kinds}
-use Rattle.fz_names.specs.of_meaning.Builtins.Shape.{ScalarOf, ArrayOf}
-use Rattle.fz_names.specs.of_meaning.Relations.{same_kind}
-use Rattle.fz_names.specs.of_meaning.Meaning as meaning
-use Rattle.fz_names.specs.of_meaning.declared.kind.Kind.{Kind}
-use Rattle.fz_names.specs.of_meaning.declared.kind.Kind.TheVariants.{Int as IntKind}
-use Rattle.fz_names.specs.of_meaning.declared.row.Shape.{Shape}
-use Rattle.fz_names.specs.of_meaning.declared.row.Matrix.{Matrix}
-use Rattle.fz_names.specs.of_meaning.declared.row.Matrix.TheVariants.{Absent, RowsLike, RowsBy}
-use Rattle.fz_names.specs.of_meaning.Known.{shape_of}
-use Rattle.fz_data.specs.declared.parts.Variable.{Variable}
-use Rattle.fz_data.specs.declared.parts.Array.{Array}
-use Rattle.fz_data.specs.declared.store.Slot.{Slot}
-use Rattle.fz_data.specs.declared.store.Slot.TheVariants as slots
-use Rattle.fz_data.specs.declared.store.Argument.{Argument}
-use Rattle.fz_data.specs.declared.store.Argument.TheVariants as arguments
-use Rattle.fz_data.specs.declared.store.Store.{Store}
-use Rattle.fz_data.specs.Slots.{slot_term, segment}
-use Rattle.fz_data.specs.Parts.{argument_view, place_view, array_view, no_array}
+use Rattle.fz_store.specs.of_meaning.Builtins.{Row, Shape as Kinds}
+use Rattle.fz_store.specs.of_meaning.Builtins.Shape.{ScalarOf, ArrayOf}
+use Rattle.fz_store.specs.of_meaning.Relations.{same_kind}
+use Rattle.fz_store.specs.of_meaning.Meaning as meaning
+use Rattle.fz_store.specs.of_meaning.declared.kind.Kind.{Kind}
+use Rattle.fz_store.specs.of_meaning.declared.kind.Kind.TheVariants.{Int as IntKind}
+use Rattle.fz_store.specs.of_meaning.declared.row.Shape.{Shape}
+use Rattle.fz_store.specs.of_meaning.declared.row.Matrix.{Matrix}
+use Rattle.fz_store.specs.of_meaning.declared.row.Matrix.TheVariants.{Absent, RowsLike, RowsBy}
+use Rattle.fz_store.specs.of_meaning.Known.{shape_of}
+use Rattle.fz_store.specs.declared.parts.Variable.{Variable}
+use Rattle.fz_store.specs.declared.parts.Array.{Array}
+use Rattle.fz_store.specs.declared.store.Slot.{Slot}
+use Rattle.fz_store.specs.declared.store.Slot.TheVariants as slots
+use Rattle.fz_store.specs.declared.store.Argument.{Argument}
+use Rattle.fz_store.specs.declared.store.Argument.TheVariants as arguments
+use Rattle.fz_store.specs.declared.store.Store.{Store}
+use Rattle.fz_store.specs.Slots.{slot_term, segment}
+use Rattle.fz_store.specs.Parts.{argument_view, place_view, array_view, no_array}
 use Rattle.fz_data.specs.Fitting.{is_of_kind, is_scalar_of, is_array_slot, is_array_of, slot_length, length_of, length_at, are_equally_long, number_of, number_at, stands_in_rows, have_lengths}
 
 list_all-same : {A : Type 0} (f g : A → Bool) → ((x : A) → f x ≡ g x) → (xs : List A)

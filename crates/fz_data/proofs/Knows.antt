@@ -3,20 +3,20 @@ use Rattle.std.proofs.Common.{◌≡◌, ℕ, true, false, cond, List, [], ◌�
 use Rattle.std.specs.Option.{option_map_or, option_or}
 use Rattle.std.proofs.lemmas.List.{append-nil}
 use Rattle.std.specs.Str.{bytes_eq}
-use Rattle.fz_names.specs.of_meaning.declared.kind.Kind.{Kind}
-use Rattle.fz_names.specs.of_meaning.declared.kind.Kind.TheVariants.{Int as IntKind}
-use Rattle.fz_names.specs.of_meaning.Located.{Basic, Expr, Decl}
-use Rattle.fz_names.specs.of_meaning.Located.Basic.{Lit, Named}
-use Rattle.fz_names.specs.of_meaning.Located.Expr.{One, Several}
-use Rattle.fz_names.specs.of_meaning.Meaning.{first_some}
-use Rattle.fz_names.specs.of_meaning.Meaning.Place.{Array}
-use Rattle.fz_names.specs.of_meaning.Names.{parts, kind_of_base, is_scalar, named_as, declaration, scalar_place, declared_elements, place_of_declared, scalar_kind, scalars, kinds, term_at, term_of, definition_of, part_fault, parts_fault}
-use Rattle.fz_names.proofs.of_meaning.KnownNames.{clean_name, found_stays, term_found, term_placed}
-use Rattle.fz_names.proofs.of_meaning.ScanSteps.{first_none, second_none}
-use Rattle.fz_data.specs.declared.scope.Scope.{Scope}
+use Rattle.fz_store.specs.of_meaning.declared.kind.Kind.{Kind}
+use Rattle.fz_store.specs.of_meaning.declared.kind.Kind.TheVariants.{Int as IntKind}
+use Rattle.fz_store.specs.of_meaning.Located.{Basic, Expr, Decl}
+use Rattle.fz_store.specs.of_meaning.Located.Basic.{Lit, Named}
+use Rattle.fz_store.specs.of_meaning.Located.Expr.{One, Several}
+use Rattle.fz_store.specs.of_meaning.Meaning.{first_some}
+use Rattle.fz_store.specs.of_meaning.Meaning.Place.{Array}
+use Rattle.fz_store.specs.of_meaning.Names.{parts, kind_of_base, is_scalar, named_as, declaration, scalar_place, declared_elements, place_of_declared, scalar_kind, scalars, kinds, term_at, term_of, definition_of, part_fault, parts_fault}
+use Rattle.fz_store.proofs.of_meaning.KnownNames.{clean_name, found_stays, term_found, term_placed}
+use Rattle.fz_store.proofs.of_meaning.ScanSteps.{first_none, second_none}
+use Rattle.fz_store.specs.declared.scope.Scope.{Scope}
 use Rattle.fz_data.specs.Scope.{place_in, place_kind, kinds_in}
 use Rattle.fz_data.specs.Stands.{StandsFor, entry_place, declared_pair}
-use Rattle.fz_data.proofs.Finds.{by_name, first_entry, or_else}
+use Rattle.fz_store.proofs.Finds.{by_name, first_entry, or_else}
 
 first_pair : (all ds : List Decl) (x : List ℕ) → first_some (by_name x) (map (declared_pair all) ds)
     ≡ option_map (place_of_declared all) (find (named_as x) ds)

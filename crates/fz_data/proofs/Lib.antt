@@ -1,6 +1,3 @@
-pub mod Finds
-pub mod Points
-pub mod FindsKinds
 pub mod Fitting
 pub mod Tells
 pub mod Stands
@@ -10,9 +7,9 @@ pub mod Loops
 pub mod Next
 pub mod OneMore
 pub mod OwnKinds
-pub mod Tabled
 pub mod Loaded
 pub mod RestOfText
 pub mod Grown
 pub mod Flat
-pub use Rattle.fz_names.proofs.of_meaning
+pub use Rattle.fz_store.proofs.of_meaning
+pub use Rattle.fz_store.proofs as of_store

@@ -2,27 +2,27 @@
 use Rattle.std.proofs.Common.{◌≡◌, List, [], ◌∷◌, ◌++◌, map, Vec, Global, None, Some, refl, sym, ap, subst, ◌∙◌, flat_map, append_assoc}
 use Rattle.std.specs.List.{AllByRecursion}
 use Rattle.std.proofs.lemmas.List.{append-nil}
-use Rattle.fz_names.specs.of_meaning.declared.error.ModelError.{ModelError}
-use Rattle.fz_names.specs.of_meaning.Located.{Decl, LocatedTree}
-use Rattle.fz_names.specs.of_meaning.Meaning.{declared_points, numbered_from, place_named, variable_of, first_some, find_name, row_of}
-use Rattle.fz_names.specs.of_meaning.Names.{kinds, places, number_of, place_of_declared, declared_of, posted_of, aim_of, model_of, decls_fault, constraint_fault, goal_fault, first_fault}
-use Rattle.fz_names.proofs.of_meaning.NamedKinds.{name_fits}
-use Rattle.fz_names.proofs.of_meaning.Scope.{literal_is_of, variables_are}
-use Rattle.fz_data.specs.Kinds.{PlaceFits, PostedFits}
-use Rattle.fz_names.specs.of_meaning.View.{Tells}
-use Rattle.fz_names.proofs.of_meaning.KnownNames.{next_number, number_here}
-use Rattle.fz_names.proofs.of_meaning.Names.{AreNew, are_new, declared_name, numbered_after, numbered_is, place_named_is}
-use Rattle.fz_data.specs.declared.model.Model.TheInside.{Inside}
-use Rattle.fz_data.specs.declared.parts.Goal as the_goal
-use Rattle.fz_data.specs.declared.parts.Posted as the_posted
-use Rattle.fz_data.specs.declared.scope.Scope.{Scope}
-use Rattle.fz_data.specs.declared.store.Store.{Store}
-use Rattle.fz_data.specs.Parts.{posted_view, kept_row, goal_view, declared_point}
-use Rattle.fz_data.specs.Layout.{model_view, named_place, IsLaidOut, IsPlaced}
+use Rattle.fz_store.specs.of_meaning.declared.error.ModelError.{ModelError}
+use Rattle.fz_store.specs.of_meaning.Located.{Decl, LocatedTree}
+use Rattle.fz_store.specs.of_meaning.Meaning.{declared_points, numbered_from, place_named, variable_of, first_some, find_name, row_of}
+use Rattle.fz_store.specs.of_meaning.Names.{kinds, places, number_of, place_of_declared, declared_of, posted_of, aim_of, model_of, decls_fault, constraint_fault, goal_fault, first_fault}
+use Rattle.fz_store.proofs.of_meaning.NamedKinds.{name_fits}
+use Rattle.fz_store.proofs.of_meaning.Scope.{literal_is_of, variables_are}
+use Rattle.fz_store.specs.Kinds.{PlaceFits, PostedFits}
+use Rattle.fz_store.specs.of_meaning.View.{Tells}
+use Rattle.fz_store.proofs.of_meaning.KnownNames.{next_number, number_here}
+use Rattle.fz_store.proofs.of_meaning.Names.{AreNew, are_new, declared_name, numbered_after, numbered_is, place_named_is}
+use Rattle.fz_store.specs.declared.model.Model.TheInside.{Inside}
+use Rattle.fz_store.specs.declared.parts.Goal as the_goal
+use Rattle.fz_store.specs.declared.parts.Posted as the_posted
+use Rattle.fz_store.specs.declared.scope.Scope.{Scope}
+use Rattle.fz_store.specs.declared.store.Store.{Store}
+use Rattle.fz_store.specs.Parts.{posted_view, kept_row, goal_view, declared_point}
+use Rattle.fz_store.specs.Layout.{model_view, named_place, IsLaidOut, IsPlaced}
 use Rattle.fz_data.specs.Scope.{constraint_fault_in, kinds_in, place_in}
 use Rattle.fz_data.specs.Posting.{Posts}
 use Rattle.fz_data.specs.Stands.{Declares, StandsFor, entry_view, is_kept, declared_pair}
-use Rattle.fz_names.proofs.of_meaning.ScanSteps.{in_constraints, in_goal, nowhere}
+use Rattle.fz_store.proofs.of_meaning.ScanSteps.{in_constraints, in_goal, nowhere}
 use Rattle.fz_data.proofs.Grown.{longer_none}
 use Rattle.fz_data.proofs.OwnKinds.{HasKind, HasOwnKind, own_kinds, posted_fit}
 use Rattle.fz_data.proofs.Tells.{tells_further}

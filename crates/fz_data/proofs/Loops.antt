@@ -1,16 +1,12 @@
 -- Loops over parts of the tree: what was found so far, and the first answer.
-use Rattle.std.proofs.Common.{◌≡◌, ℕ, ◌+◌, ◌<◌, ◌≤◌, true, false, cond, List, [], ◌∷◌, ◌++◌, map, length, take, get_or, Option, Some, None, option_map, is_some, refl, sym, ap, subst, ◌∙◌, arith}
-use Rattle.std.specs.List.{AllByRecursion}
-use Rattle.std.specs.Map.{lookup}
+use Rattle.std.proofs.Common.{◌≡◌, ℕ, ◌+◌, ◌<◌, ◌≤◌, true, false, List, [], ◌∷◌, ◌++◌, map, length, take, get_or, Option, Some, None, option_map, is_some, refl, sym, ap, ◌∙◌, arith}
 use Rattle.std.proofs.lemmas.List.{map-append}
-use Rattle.std.proofs.lemmas.Slice.Eq.{bytes_eq-Decides}
-use Rattle.fz_names.specs.of_meaning.Meaning.{first_some}
-use Rattle.fz_names.proofs.of_meaning.ScanSteps.{first_stops, take_one_more, first_more}
-use Rattle.fz_names.specs.Naming.{has_text}
+use Rattle.fz_store.specs.of_meaning.Meaning.{first_some}
+use Rattle.fz_store.proofs.of_meaning.ScanSteps.{first_stops, take_one_more, first_more}
 use Rattle.fz_tree.specs.Tree as tree
 use Rattle.fz_tree.specs.View.{arg_list, bare_arg}
 use Rattle.fz_tree.specs.declared.tree.NoteArg.{NoteArg}
-use Rattle.fz_names.specs.of_meaning.Names.{only_arg}
+use Rattle.fz_store.specs.of_meaning.Names.{only_arg}
 
 pub two_more : {A B C : Type 0} (f : B → C) (g : A → B) (xs : List A) (i : ℕ) (x : A)
     → i < length xs → x ≡ get_or xs i x
@@ -38,19 +34,6 @@ pub answer_found : {A B C : Type 0} (f : B → Option C) (g : A → B) (xs : Lis
 answer_found f g xs i x o lt at none is some =
     let (y, found) = some_answer o some in
     found ∙ sym (first_stops f g xs i x y lt at none (sym is ∙ found))
-
--- what holds of each entry holds of the one that is found
-pub found_entry : {D : Type 0} (P : List ℕ → D → Type 0) (x : List ℕ) (es : List (List ℕ × D))
-    (d : D) → AllByRecursion (λ e. P e.0 e.1) es → Some d ≡ lookup (has_text x) es → P x d
-found_entry P x [] d h e = cc
-found_entry {D} P x (y ∷ es) d h e =
-    (elim (has_text x y.0) as (λ b. has_text x y.0 ≡ b → Some d ≡ cond b (Some y.1) (lookup (has_text x) es) → P x d) [
-      | true ↦ λ passes e.
-          let same : y.1 ≡ d = cc in
-          let text : y.0 ≡ x = sym ((bytes_eq-Decides x y.0).0 passes) in
-          subst (λ z. P z d) text (subst (P y.0) same h.0)
-      | false ↦ λ _ later. found_entry P x es d h.1 later
-    ]) refl e
 
 pub not_only : (args : List NoteArg) → 2 ≤ length args → ◌≡◌ {A = Option tree.NoteArg} None (only_arg (arg_list (map bare_arg args)))
 not_only (a ∷ b ∷ args) h = refl

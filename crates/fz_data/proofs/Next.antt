@@ -2,17 +2,17 @@
 use Rattle.std.proofs.Common.{◌≡◌, ℕ, true, cond, List, [], ◌∷◌, ◌++◌, length, Option, Some, None, is_some, is_none, option_map, refl, sym, ap, ◌∙◌}
 use Rattle.std.specs.Map.{lookup}
 use Rattle.std.proofs.lemmas.List.{length-map}
-use Rattle.fz_names.specs.of_meaning.Located.{Decl}
-use Rattle.fz_names.specs.of_meaning.Names.{parts, kind_of_base, variable_declared, Fault, name_fault, fault_at_decl, decl_fault}
-use Rattle.fz_names.specs.of_meaning.Laws.{scalar_variables}
-use Rattle.fz_names.proofs.of_meaning.KnownNames.{is_new, parts_clean, next_number}
-use Rattle.fz_names.proofs.of_meaning.ScanSteps.{first_none}
+use Rattle.fz_store.specs.of_meaning.Located.{Decl}
+use Rattle.fz_store.specs.of_meaning.Names.{parts, kind_of_base, variable_declared, Fault, name_fault, fault_at_decl, decl_fault}
+use Rattle.fz_store.specs.of_meaning.Laws.{scalar_variables}
+use Rattle.fz_store.proofs.of_meaning.KnownNames.{is_new, parts_clean, next_number}
+use Rattle.fz_store.proofs.of_meaning.ScanSteps.{first_none}
 use Rattle.fz_data.specs.declared.scope.Item.{Item}
 use Rattle.fz_data.specs.declared.scope.Item.TheVariants as items
-use Rattle.fz_data.specs.declared.scope.Scope.{Scope}
-use Rattle.fz_data.specs.Parts.{variable_view}
-use Rattle.fz_data.specs.Declarations.{declared_place}
-use Rattle.fz_names.specs.Naming.{has_text}
+use Rattle.fz_store.specs.declared.scope.Scope.{Scope}
+use Rattle.fz_store.specs.Parts.{variable_view}
+use Rattle.fz_store.specs.Declarations.{declared_place}
+use Rattle.fz_store.specs.of_names.Naming.{has_text}
 use Rattle.fz_data.specs.Scope.{IsNewName, IsAdded, IsItem, place_kind, kinds_in, kept_with, new_variables, new_arrays, new_points}
 use Rattle.fz_data.specs.Stands.{StandsFor}
 use Rattle.fz_data.proofs.Stands.{Adds, stands_more}

@@ -1,22 +1,22 @@
 -- One more declaration is taken in, and one more constraint.
 use Rattle.std.proofs.Common.{◌≡◌, List, [], ◌∷◌, ◌++◌, None, map, refl, sym, ap, subst, ◌∙◌, append_assoc}
-use Rattle.fz_names.specs.of_meaning.Located.{Decl}
-use Rattle.fz_names.specs.of_meaning.Names.{decl_fault, fault_at_decl, posted_of}
-use Rattle.fz_names.proofs.of_meaning.ScanSteps.{decls_one_more}
+use Rattle.fz_store.specs.of_meaning.Located.{Decl}
+use Rattle.fz_store.specs.of_meaning.Names.{decl_fault, fault_at_decl, posted_of}
+use Rattle.fz_store.proofs.of_meaning.ScanSteps.{decls_one_more}
 use Rattle.fz_data.specs.declared.scope.Item.{Item}
-use Rattle.fz_data.specs.declared.scope.Scope.{Scope}
+use Rattle.fz_store.specs.declared.scope.Scope.{Scope}
 use Rattle.fz_data.specs.Scope.{IsAdded, IsItem, constraint_fault_in, kinds_in, place_in}
 use Rattle.fz_data.specs.Stands.{StandsFor, Declares}
 use Rattle.fz_data.proofs.Knows.{same_kinds}
 use Rattle.fz_data.proofs.Next.{stands_next}
 use Rattle.fz_data.proofs.Stands.{stands_none}
 use Rattle.std.proofs.lemmas.List.{map-append}
-use Rattle.fz_names.specs.of_meaning.Located.{Constraint}
-use Rattle.fz_names.specs.of_meaning.Meaning.{first_some, row_of}
-use Rattle.fz_names.proofs.of_meaning.ScanSteps.{first_append, both_none}
-use Rattle.fz_data.specs.declared.parts.Posted.{Posted}
-use Rattle.fz_data.specs.declared.store.Store.{Store}
-use Rattle.fz_data.specs.Parts.{posted_view, kept_row}
+use Rattle.fz_store.specs.of_meaning.Located.{Constraint}
+use Rattle.fz_store.specs.of_meaning.Meaning.{first_some, row_of}
+use Rattle.fz_store.proofs.of_meaning.ScanSteps.{first_append, both_none}
+use Rattle.fz_store.specs.declared.parts.Posted.{Posted}
+use Rattle.fz_store.specs.declared.store.Store.{Store}
+use Rattle.fz_store.specs.Parts.{posted_view, kept_row}
 use Rattle.fz_data.specs.Posting.{IsLonger, IsPostedOf, Posts}
 use Rattle.fz_data.proofs.Grown.{longer_more}
 

@@ -2,21 +2,21 @@
 use Rattle.std.proofs.Common.{◌≡◌, ℕ, List, [], ◌∷◌, ◌++◌, map, None, refl, ap, subst, ◌∙◌, inl, inr}
 use Rattle.std.specs.Prelude.{◌≢◌, ◌⊎◌}
 use Rattle.std.proofs.lemmas.List.{map-append}
-use Rattle.fz_names.specs.of_meaning.of_syntax.Offering.{TreeItems, IsTextOfAllWithin, all_items}
-use Rattle.fz_names.specs.of_meaning.of_syntax.Limits.{Limits}
-use Rattle.fz_names.specs.of_meaning.of_syntax.SyntaxError.{SyntaxError}
+use Rattle.fz_store.specs.of_meaning.of_syntax.Offering.{TreeItems, IsTextOfAllWithin, all_items}
+use Rattle.fz_tree.specs.of_lex.declared.limits.Limits.{Limits}
+use Rattle.fz_tree.specs.of_lex.declared.error.SyntaxError.{SyntaxError}
 use Rattle.fz_tree.specs.declared.tree.Decl.{Decl}
 use Rattle.fz_tree.specs.declared.tree.Constraint.{Constraint}
 use Rattle.fz_tree.specs.declared.tree.Solve.{Solve}
-use Rattle.fz_names.specs.of_meaning.Names.{decl_fault, decls_fault, first_fault}
-use Rattle.fz_names.specs.of_meaning.Meaning.{first_some}
-use Rattle.fz_names.specs.of_meaning.View.{Tells, located_all, located_constraint, located_decl}
-use Rattle.fz_names.specs.of_meaning.declared.error.ModelError.{ModelError}
-use Rattle.fz_names.specs.of_meaning.declared.error.ModelError.TheVariants as names
-use Rattle.fz_names.proofs.of_meaning.ScanSteps.{decls_stop, first_append}
+use Rattle.fz_store.specs.of_meaning.Names.{decl_fault, decls_fault, first_fault}
+use Rattle.fz_store.specs.of_meaning.Meaning.{first_some}
+use Rattle.fz_store.specs.of_meaning.View.{Tells, located_all, located_constraint, located_decl}
+use Rattle.fz_store.specs.of_meaning.declared.error.ModelError.{ModelError}
+use Rattle.fz_store.specs.of_meaning.declared.error.ModelError.TheVariants as names
+use Rattle.fz_store.proofs.of_meaning.ScanSteps.{decls_stop, first_append}
 use Rattle.fz_data.specs.declared.error.LoadError.{LoadError}
 use Rattle.fz_data.specs.declared.error.LoadError.TheVariants as errors
-use Rattle.fz_data.specs.declared.scope.Scope.{Scope}
+use Rattle.fz_store.specs.declared.scope.Scope.{Scope}
 use Rattle.fz_data.specs.Scope.{constraint_fault_in}
 use Rattle.fz_data.specs.Stands.{Declares}
 use Rattle.fz_data.specs.Texts.{TellsOf, IsNameFaultWithin, IsLoadRefusal}

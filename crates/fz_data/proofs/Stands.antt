@@ -4,21 +4,21 @@ use Rattle.std.proofs.Common.{◌≡◌, ℕ, suc, ◌+◌, cond, List, [], ◌�
 use Rattle.std.specs.List.{AllByRecursion}
 use Rattle.std.proofs.lemmas.List.{map-append, append-nil, length-map}
 use Rattle.std.proofs.lemmas.Grind.{flat_map-append}
-use Rattle.fz_names.specs.of_meaning.Located.{Decl}
-use Rattle.fz_names.specs.of_meaning.Meaning as meaning
-use Rattle.fz_names.specs.of_meaning.Meaning.{declared_points, numbered_from, variable_of}
-use Rattle.fz_names.specs.of_meaning.Meaning.Declared.{Parameter, ScalarVariable, ArrayOfVariables}
-use Rattle.fz_names.specs.of_meaning.Names.{is_scalar_variable, declared_of, variable_declared}
-use Rattle.fz_names.specs.of_meaning.Laws.{scalar_variables}
-use Rattle.fz_names.proofs.of_meaning.Lists.{all_append}
-use Rattle.fz_names.proofs.of_meaning.KnownNames.{next_number, scalars_more}
-use Rattle.fz_names.proofs.of_meaning.Names.{numbered_decl}
-use Rattle.fz_names.proofs.of_meaning.Scope.{variables_are}
-use Rattle.fz_data.specs.declared.parts.Array as the_array
-use Rattle.fz_data.specs.declared.parts.DeclaredPoint.{DeclaredPoint}
-use Rattle.fz_data.specs.declared.parts.Variable.{Variable}
-use Rattle.fz_data.specs.Parts.{variable_view, declared_point}
-use Rattle.fz_data.specs.Layout.{IsPlaced}
+use Rattle.fz_store.specs.of_meaning.Located.{Decl}
+use Rattle.fz_store.specs.of_meaning.Meaning as meaning
+use Rattle.fz_store.specs.of_meaning.Meaning.{declared_points, numbered_from, variable_of}
+use Rattle.fz_store.specs.of_meaning.Meaning.Declared.{Parameter, ScalarVariable, ArrayOfVariables}
+use Rattle.fz_store.specs.of_meaning.Names.{is_scalar_variable, declared_of, variable_declared}
+use Rattle.fz_store.specs.of_meaning.Laws.{scalar_variables}
+use Rattle.fz_store.proofs.of_meaning.Lists.{all_append}
+use Rattle.fz_store.proofs.of_meaning.KnownNames.{next_number, scalars_more}
+use Rattle.fz_store.proofs.of_meaning.Names.{numbered_decl}
+use Rattle.fz_store.proofs.of_meaning.Scope.{variables_are}
+use Rattle.fz_store.specs.declared.parts.Array as the_array
+use Rattle.fz_store.specs.declared.parts.DeclaredPoint.{DeclaredPoint}
+use Rattle.fz_store.specs.declared.parts.Variable.{Variable}
+use Rattle.fz_store.specs.Parts.{variable_view, declared_point}
+use Rattle.fz_store.specs.Layout.{IsPlaced}
 use Rattle.fz_data.specs.Stands.{Entry, entry_view, entry_place, is_kept, declared_pair, Stands}
 
 -- ---- numbers

@@ -1,11 +1,11 @@
 -- An error tells the same of what has the same fault.
 use Rattle.std.proofs.Common.{◌≡◌, ℕ, ◌<◌, List, map, length, take, get_or, Option, Some, None}
-use Rattle.fz_names.specs.of_meaning.declared.error.ModelError.{ModelError}
-use Rattle.fz_names.specs.of_meaning.declared.error.ModelError.TheVariants as errors
-use Rattle.fz_names.specs.of_meaning.Meaning.{first_some}
-use Rattle.fz_names.specs.of_meaning.Names.{Fault}
-use Rattle.fz_names.specs.of_meaning.View.{Tells}
-use Rattle.fz_names.proofs.of_meaning.ScanSteps.{first_stops}
+use Rattle.fz_store.specs.of_meaning.declared.error.ModelError.{ModelError}
+use Rattle.fz_store.specs.of_meaning.declared.error.ModelError.TheVariants as errors
+use Rattle.fz_store.specs.of_meaning.Meaning.{first_some}
+use Rattle.fz_store.specs.of_meaning.Names.{Fault}
+use Rattle.fz_store.specs.of_meaning.View.{Tells}
+use Rattle.fz_store.proofs.of_meaning.ScanSteps.{first_stops}
 
 -- where the second has the fault that the first has
 pub tells_further : (e : ModelError) (f g : Option Fault) → ((x : Fault) → f ≡ Some x → g ≡ Some x)

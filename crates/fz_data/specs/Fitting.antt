@@ -3,23 +3,23 @@
 use Rattle.std.specs.Prelude.{ℕ, ℤ, Bool, false, true, ◌&&◌, List, [], ◌∷◌, length, map, ◌==◌, Option, Some, None, option_and_then, slice_get}
 use Rattle.std.specs.List.{list_all}
 use Rattle.std.specs.Option.{option_map_or}
-use Rattle.fz_names.specs.of_meaning.Builtins.{Row}
-use Rattle.fz_names.specs.of_meaning.Relations.{same_kind}
-use Rattle.fz_names.specs.of_meaning.Meaning.{are_rows_of, are_whole_rows, as_int}
-use Rattle.fz_names.specs.of_meaning.declared.row.Matrix.{Matrix}
-use Rattle.fz_names.specs.of_meaning.declared.row.Matrix.TheVariants.{Absent, RowsLike, RowsBy}
-use Rattle.fz_names.specs.of_meaning.declared.kind.Kind.{Kind}
-use Rattle.fz_names.specs.of_meaning.declared.kind.Kind.TheVariants.{Int as IntKind}
-use Rattle.fz_data.specs.declared.parts.Variable.{Variable}
-use Rattle.fz_data.specs.declared.parts.Array.{Array}
-use Rattle.fz_base.specs.declared.value.Value.{Value}
-use Rattle.fz_data.specs.declared.store.Slot.{Slot}
-use Rattle.fz_data.specs.declared.store.Slot.TheVariants as slots
-use Rattle.fz_data.specs.declared.store.Argument.{Argument}
-use Rattle.fz_data.specs.declared.store.Argument.TheVariants as arguments
-use Rattle.fz_data.specs.declared.store.Store.{Store}
-use Rattle.fz_data.specs.Slots.{constant_at, slot_term, segment}
-use Rattle.fz_data.specs.Parts.{kind_of_term}
+use Rattle.fz_store.specs.of_meaning.Builtins.{Row}
+use Rattle.fz_store.specs.of_meaning.Relations.{same_kind}
+use Rattle.fz_store.specs.of_meaning.Meaning.{are_rows_of, are_whole_rows, as_int}
+use Rattle.fz_store.specs.of_meaning.declared.row.Matrix.{Matrix}
+use Rattle.fz_store.specs.of_meaning.declared.row.Matrix.TheVariants.{Absent, RowsLike, RowsBy}
+use Rattle.fz_store.specs.of_meaning.declared.kind.Kind.{Kind}
+use Rattle.fz_store.specs.of_meaning.declared.kind.Kind.TheVariants.{Int as IntKind}
+use Rattle.fz_store.specs.declared.parts.Variable.{Variable}
+use Rattle.fz_store.specs.declared.parts.Array.{Array}
+use Rattle.fz_tree.specs.of_lex.of_base.declared.value.Value.{Value}
+use Rattle.fz_store.specs.declared.store.Slot.{Slot}
+use Rattle.fz_store.specs.declared.store.Slot.TheVariants as slots
+use Rattle.fz_store.specs.declared.store.Argument.{Argument}
+use Rattle.fz_store.specs.declared.store.Argument.TheVariants as arguments
+use Rattle.fz_store.specs.declared.store.Store.{Store}
+use Rattle.fz_store.specs.Slots.{constant_at, slot_term, segment}
+use Rattle.fz_store.specs.Parts.{kind_of_term}
 
 -- ---- kinds
 

@@ -1,13 +1,7 @@
-pub mod Parts
-pub mod Declarations
-pub mod Kinds
-pub mod Layout
-pub mod Shown
-pub mod Partial
 pub mod Fitting
 pub mod Scope
 pub mod Posting
 pub mod Stands
 pub mod Texts
-pub mod Slots
-pub use Rattle.fz_names.specs.of_meaning
+pub use Rattle.fz_store.specs.of_meaning
+pub use Rattle.fz_store.specs as of_store

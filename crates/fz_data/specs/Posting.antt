@@ -1,20 +1,20 @@
 -- Only private functions use these: what a store's parts stand for while a model is loaded,
 -- whatever is appended later.
 use Rattle.std.specs.Prelude.{◌≡◌, List, None, map}
-use Rattle.fz_base.specs.declared.value.Value.{Value}
-use Rattle.fz_names.specs.of_meaning.Located.{Constraint}
-use Rattle.fz_names.specs.of_meaning.Meaning as meaning
-use Rattle.fz_names.specs.of_meaning.Meaning.{first_some, row_of}
-use Rattle.fz_data.specs.declared.store.Slot.{Slot}
-use Rattle.fz_data.specs.declared.store.Segment.{Segment}
-use Rattle.fz_data.specs.declared.store.Argument.{Argument}
-use Rattle.fz_data.specs.declared.store.Store.{Store}
-use Rattle.fz_data.specs.declared.parts.Posted.{Posted}
-use Rattle.fz_data.specs.declared.scope.Scope.{Scope}
-use Rattle.fz_names.specs.of_meaning.Names.{posted_of}
+use Rattle.fz_tree.specs.of_lex.of_base.declared.value.Value.{Value}
+use Rattle.fz_store.specs.of_meaning.Located.{Constraint}
+use Rattle.fz_store.specs.of_meaning.Meaning as meaning
+use Rattle.fz_store.specs.of_meaning.Meaning.{first_some, row_of}
+use Rattle.fz_store.specs.declared.store.Slot.{Slot}
+use Rattle.fz_store.specs.declared.store.Segment.{Segment}
+use Rattle.fz_store.specs.declared.store.Argument.{Argument}
+use Rattle.fz_store.specs.declared.store.Store.{Store}
+use Rattle.fz_store.specs.declared.parts.Posted.{Posted}
+use Rattle.fz_store.specs.declared.scope.Scope.{Scope}
+use Rattle.fz_store.specs.of_meaning.Names.{posted_of}
 use Rattle.fz_data.specs.Scope.{constraint_fault_in, place_in}
-use Rattle.fz_data.specs.Slots.{IsGrown, segment}
-use Rattle.fz_data.specs.Parts.{place_view, argument_view, posted_view, kept_row}
+use Rattle.fz_store.specs.Slots.{IsGrown, segment}
+use Rattle.fz_store.specs.Parts.{place_view, argument_view, posted_view, kept_row}
 
 -- more may be appended to each list
 pub record IsLonger (before after : Store) : Type 0 where

@@ -2,25 +2,25 @@
 -- loader stores them.
 use Rattle.std.specs.Prelude.{◌≡◌, ◌++◌, ◌∷◌, ℕ, Bool, true, false, List, [], Option, Some, None, cond, option_map, map, length, is_some, is_none, not, ◌&&◌}
 use Rattle.std.specs.Map.{lookup}
-use Rattle.fz_names.specs.of_meaning.declared.kind.Kind.{Kind}
-use Rattle.fz_names.specs.of_meaning.declared.term.Term.TheVariants.{Var, Fixed}
-use Rattle.fz_names.specs.of_meaning.Relations.{kind_of, same_kind}
-use Rattle.fz_names.specs.of_meaning.Located.{Decl, Constraint}
+use Rattle.fz_store.specs.of_meaning.declared.kind.Kind.{Kind}
+use Rattle.fz_store.specs.of_meaning.declared.term.Term.TheVariants.{Var, Fixed}
+use Rattle.fz_store.specs.of_meaning.Relations.{kind_of, same_kind}
+use Rattle.fz_store.specs.of_meaning.Located.{Decl, Constraint}
 use Rattle.fz_data.specs.Fitting.{kinds_among}
-use Rattle.fz_names.specs.of_meaning.Meaning.{Place, admits_all}
-use Rattle.fz_names.specs.of_meaning.Meaning.Place.{Scalar, Array}
-use Rattle.fz_names.specs.of_meaning.Names.{literal_of, parts, kind_of_base, domain_of, is_scalar, variable_declared, Fault, Kinds, Places, term_of, definition_of, parts_fault, constraint_fault}
-use Rattle.fz_data.specs.declared.scope.Scope.{Scope}
+use Rattle.fz_store.specs.of_meaning.Meaning.{Place, admits_all}
+use Rattle.fz_store.specs.of_meaning.Meaning.Place.{Scalar, Array}
+use Rattle.fz_store.specs.of_meaning.Names.{literal_of, parts, kind_of_base, domain_of, is_scalar, variable_declared, Fault, Kinds, Places, term_of, definition_of, parts_fault, constraint_fault}
+use Rattle.fz_store.specs.declared.scope.Scope.{Scope}
 use Rattle.fz_data.specs.declared.scope.Item.{Item}
 use Rattle.fz_data.specs.declared.scope.Item.TheVariants as items
-use Rattle.fz_data.specs.declared.parts.Array as the_array
-use Rattle.fz_names.specs.Naming as the_declared
-use Rattle.fz_names.specs.Naming.{has_text, Declared as declarations}
-use Rattle.fz_data.specs.declared.parts.DeclaredPoint.{DeclaredPoint}
-use Rattle.fz_data.specs.declared.parts.DeclaredPoint.TheVariants as points
-use Rattle.fz_data.specs.declared.parts.Variable.{Variable}
-use Rattle.fz_data.specs.Parts.{variable_view, elements_of}
-use Rattle.fz_data.specs.Declarations.{declared_place}
+use Rattle.fz_store.specs.declared.parts.Array as the_array
+use Rattle.fz_store.specs.of_names.Naming as the_declared
+use Rattle.fz_store.specs.of_names.Naming.{has_text, Declared as declarations}
+use Rattle.fz_store.specs.declared.parts.DeclaredPoint.{DeclaredPoint}
+use Rattle.fz_store.specs.declared.parts.DeclaredPoint.TheVariants as points
+use Rattle.fz_store.specs.declared.parts.Variable.{Variable}
+use Rattle.fz_store.specs.Parts.{variable_view, elements_of}
+use Rattle.fz_store.specs.Declarations.{declared_place}
 
 -- what a name stands for
 abbrev pub place_in : Scope → Places

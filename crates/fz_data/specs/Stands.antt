@@ -2,19 +2,19 @@
 -- variables and arrays come.
 use Rattle.std.specs.Prelude.{◌≡◌, ℕ, ◌++◌, List, [], None, map, flat_map}
 use Rattle.std.specs.List.{AllByRecursion}
-use Rattle.fz_names.specs.of_meaning.Located.{Decl}
-use Rattle.fz_names.specs.of_meaning.Names.{decls_fault, place_of_declared, declared_of, variable_declared}
-use Rattle.fz_names.specs.of_meaning.Laws.{scalar_variables}
-use Rattle.fz_names.specs.of_meaning.Meaning as meaning
-use Rattle.fz_names.specs.of_meaning.Meaning.{Place, declared_points, numbered_from}
-use Rattle.fz_data.specs.declared.parts.Array as the_array
-use Rattle.fz_names.specs.Naming as the_declared
-use Rattle.fz_data.specs.declared.parts.DeclaredPoint.{DeclaredPoint}
-use Rattle.fz_data.specs.declared.parts.Variable.{Variable}
-use Rattle.fz_data.specs.declared.scope.Scope.{Scope}
-use Rattle.fz_data.specs.Parts.{variable_view, declared_point}
-use Rattle.fz_data.specs.Declarations.{declared_view, declared_place}
-use Rattle.fz_data.specs.Layout.{IsKeptAs, IsPlaced}
+use Rattle.fz_store.specs.of_meaning.Located.{Decl}
+use Rattle.fz_store.specs.of_meaning.Names.{decls_fault, place_of_declared, declared_of, variable_declared}
+use Rattle.fz_store.specs.of_meaning.Laws.{scalar_variables}
+use Rattle.fz_store.specs.of_meaning.Meaning as meaning
+use Rattle.fz_store.specs.of_meaning.Meaning.{Place, declared_points, numbered_from}
+use Rattle.fz_store.specs.declared.parts.Array as the_array
+use Rattle.fz_store.specs.of_names.Naming as the_declared
+use Rattle.fz_store.specs.declared.parts.DeclaredPoint.{DeclaredPoint}
+use Rattle.fz_store.specs.declared.parts.Variable.{Variable}
+use Rattle.fz_store.specs.declared.scope.Scope.{Scope}
+use Rattle.fz_store.specs.Parts.{variable_view, declared_point}
+use Rattle.fz_store.specs.Declarations.{declared_view, declared_place}
+use Rattle.fz_store.specs.Layout.{IsKeptAs, IsPlaced}
 
 abbrev pub Entry : Type 0
 Entry = List ℕ × the_declared.Declared

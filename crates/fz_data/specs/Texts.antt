@@ -1,25 +1,25 @@
 -- What is said of the text of a model that is loaded item by item.
 use Rattle.std.specs.Prelude.{◌≡◌, ◌⊎◌, ℕ, List, map}
-use Rattle.fz_names.specs.of_meaning.of_syntax.Offering.{TreeItems, IsTextOfAllWithin, IsLeft, TookAll, from_decls, from_constraints}
-use Rattle.fz_names.specs.of_meaning.of_syntax.Limits.{Limits}
-use Rattle.fz_names.specs.of_meaning.of_syntax.Lexing.{standard_limits}
-use Rattle.fz_names.specs.of_meaning.of_syntax.SyntaxError.{SyntaxError}
+use Rattle.fz_store.specs.of_meaning.of_syntax.Offering.{TreeItems, IsTextOfAllWithin, IsLeft, TookAll, from_decls, from_constraints}
+use Rattle.fz_tree.specs.of_lex.declared.limits.Limits.{Limits}
+use Rattle.fz_tree.specs.of_lex.Lexing.{standard_limits}
+use Rattle.fz_tree.specs.of_lex.declared.error.SyntaxError.{SyntaxError}
 use Rattle.fz_tree.specs.Text.{IsTextOfTreeWithin}
-use Rattle.fz_names.specs.of_meaning.of_syntax.declared.reader.Rest.{Rest}
+use Rattle.fz_store.specs.of_meaning.of_syntax.declared.reader.Rest.{Rest}
 use Rattle.fz_tree.specs.declared.tree.Solve.{Solve}
 use Rattle.fz_tree.specs.declared.tree.Decl.{Decl}
 use Rattle.fz_tree.specs.declared.tree.Constraint.{Constraint}
-use Rattle.fz_names.specs.of_meaning.Names.{HasNoFault, first_fault, model_of}
-use Rattle.fz_names.specs.of_meaning.Located.{LocatedTree, bare_of}
-use Rattle.fz_names.specs.of_meaning.Meaning.{Model}
-use Rattle.fz_names.specs.of_meaning.View.{Tells, located_all, located_constraint, located_decl}
-use Rattle.fz_names.specs.of_meaning.declared.error.ModelError.{ModelError}
-use Rattle.fz_names.specs.of_meaning.declared.error.ModelError.TheVariants as names
+use Rattle.fz_store.specs.of_meaning.Names.{HasNoFault, first_fault, model_of}
+use Rattle.fz_store.specs.of_meaning.Located.{LocatedTree, bare_of}
+use Rattle.fz_store.specs.of_meaning.Meaning.{Model}
+use Rattle.fz_store.specs.of_meaning.View.{Tells, located_all, located_constraint, located_decl}
+use Rattle.fz_store.specs.of_meaning.declared.error.ModelError.{ModelError}
+use Rattle.fz_store.specs.of_meaning.declared.error.ModelError.TheVariants as names
 use Rattle.fz_data.specs.Posting.{Posts}
 use Rattle.fz_data.specs.Stands.{Declares}
-use Rattle.fz_data.specs.declared.parts.Posted.{Posted}
-use Rattle.fz_data.specs.declared.scope.Scope.{Scope}
-use Rattle.fz_data.specs.declared.store.Store.{Store}
+use Rattle.fz_store.specs.declared.parts.Posted.{Posted}
+use Rattle.fz_store.specs.declared.scope.Scope.{Scope}
+use Rattle.fz_store.specs.declared.store.Store.{Store}
 use Rattle.fz_data.specs.declared.error.LoadError.{LoadError}
 use Rattle.fz_data.specs.declared.error.LoadError.TheVariants as errors
 

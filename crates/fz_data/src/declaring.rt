@@ -1,19 +1,17 @@
 //! What a declaration declares, and whether its name, its length and its value fit.
 
 ghost use Rattle.std.specs.Prelude.{◌≡◌, IfErr, IfOk, None, Some, map, true};
-ghost use Rattle.fz_names.specs.of_meaning.Relations.{kind_of, same_kind};
-ghost use Rattle.fz_names.specs.of_meaning.Names.{definition_of, differs_in_length, fault_at_decl, literal_of, name_fault, part_fault, parts, parts_fault, variable_declared};
-ghost use Rattle.fz_names.specs.of_meaning.Located.Expr.{One};
-ghost use Rattle.fz_data.specs.Parts.{variable_view};
-ghost use Rattle.fz_names.specs.of_meaning.View.{Tells, located_basic, located_decl, located_expr, located_value};
+ghost use Rattle.fz_store.specs.of_meaning.Relations.{kind_of, same_kind};
+ghost use Rattle.fz_store.specs.of_meaning.Names.{definition_of, differs_in_length, fault_at_decl, literal_of, name_fault, part_fault, parts, parts_fault, variable_declared};
+ghost use Rattle.fz_store.specs.of_meaning.Located.Expr.{One};
+ghost use Rattle.fz_store.specs.Parts.{variable_view};
+ghost use Rattle.fz_store.specs.of_meaning.View.{Tells, located_basic, located_decl, located_expr, located_value};
 ghost use Rattle.fz_data.specs.Scope.{HasKinds, IsArrayOf, IsItem, kinds_in, place_in, value_fault_in};
-ghost use Rattle.fz_data.specs.declared.scope.Scope.{Scope};
+ghost use Rattle.fz_store.specs.declared.scope.Scope.{Scope};
 
-use crate::parts::{Array, Variable};
-use crate::scope::{Item, Scope, scalars_of, term_of};
-use crate::values::{base_kind, domain_of, literal_kind, literal_value, same_kind};
-use fz_base::Value;
-use fz_names::{Kind, ModelError, Term};
+use crate::scope::{Item, scalars_of, term_of};
+use crate::values::{base_kind, domain_of, literal_kind, literal_value};
+use fz_store::{Array, Kind, ModelError, Scope, Term, Value, Variable, same_kind};
 use fz_tree::{Basic, Decl, Expr};
 use std::alloc::Global;
 use std::slice;

@@ -3,7 +3,7 @@
 ghost use Rattle.std.specs.Prelude.{◌≡◌};
 ghost use Rattle.fz_data.specs.declared.error.LoadError.TheVariants.{Names, Text};
 
-use fz_names::ModelError;
+use fz_store::ModelError;
 use fz_tree::SyntaxError;
 
 /// Why the text of a model isn't loaded: it is a text of no tree, or the tree's names have a fault.

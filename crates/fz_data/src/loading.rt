@@ -2,19 +2,17 @@
 //! is looked up once.
 
 ghost use Rattle.std.specs.Prelude.{◌≡◌, ◌++◌, ◌∷◌, [], IfErr, IfOk, List, OnOk, map};
-ghost use Rattle.fz_names.specs.of_meaning.Located.{Decl as LocatedDecl};
-ghost use Rattle.fz_names.specs.of_meaning.declared.error.ModelError.TheVariants.{Memory};
-ghost use Rattle.fz_names.specs.of_meaning.Names.{model_of, HasNoFault, decl_fault, decls_fault, first_fault};
-ghost use Rattle.fz_names.specs.of_meaning.View.{Tells, located, located_decl};
+ghost use Rattle.fz_store.specs.of_meaning.Located.{Decl as LocatedDecl};
+ghost use Rattle.fz_store.specs.of_meaning.declared.error.ModelError.TheVariants.{Memory};
+ghost use Rattle.fz_store.specs.of_meaning.Names.{model_of, HasNoFault, decl_fault, decls_fault, first_fault};
+ghost use Rattle.fz_store.specs.of_meaning.View.{Tells, located, located_decl};
 ghost use Rattle.fz_data.specs.Scope.{HasKinds};
 ghost use Rattle.fz_data.specs.Stands.{Declares};
 
 use crate::declaring::item_of;
-use crate::model::Model;
 use crate::posting::{all_posted, goal_of};
-use crate::scope::{Scope, add};
-use crate::store::Store;
-use fz_names::{ModelError, Names};
+use crate::scope::add;
+use fz_store::{Model, ModelError, Names, Scope, Store};
 use fz_tree::{Ast, Decl};
 use std::alloc::Global;
 

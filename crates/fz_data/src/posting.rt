@@ -1,25 +1,25 @@
 //! Constraints and the goal, with their names looked up.
 
 ghost use Rattle.std.specs.Prelude.{◌≡◌, ◌++◌, ◌∷◌, [], IfErr, IfOk, List, None, OnOk, Some, map, option_and_then, option_map};
-ghost use Rattle.fz_names.specs.of_meaning.Located.{Constraint as LocatedConstraint};
-ghost use Rattle.fz_names.specs.of_meaning.Located.Basic.{Named};
-ghost use Rattle.fz_names.specs.of_meaning.Meaning.{first_some, row_of};
-ghost use Rattle.fz_names.specs.of_meaning.Names.{aim_of, argument_fault, argument_of, bare_name_of, defined_by, goal_fault, inner_of, only_arg, part_fault, parts_fault, place_of, posted_of, variable_at};
-ghost use Rattle.fz_names.specs.of_meaning.View.{Tells, located_basic, located_constraint, located_expr, located_goal, located_name};
+ghost use Rattle.fz_store.specs.of_meaning.Located.{Constraint as LocatedConstraint};
+ghost use Rattle.fz_store.specs.of_meaning.Located.Basic.{Named};
+ghost use Rattle.fz_store.specs.of_meaning.Meaning.{first_some, row_of};
+ghost use Rattle.fz_store.specs.of_meaning.Names.{aim_of, argument_fault, argument_of, bare_name_of, defined_by, goal_fault, inner_of, only_arg, part_fault, parts_fault, place_of, posted_of, variable_at};
+ghost use Rattle.fz_store.specs.of_meaning.View.{Tells, located_basic, located_constraint, located_expr, located_goal, located_name};
 ghost use Rattle.fz_tree.specs.View.{arg_list, bare_arg, bare_basic, bare_note, bare_notes};
 ghost use Rattle.fz_tree.specs.Tree.NoteArg.{OneBasic};
-ghost use Rattle.fz_data.specs.Parts.{goal_view, kept_row, posted_view};
+ghost use Rattle.fz_store.specs.Parts.{goal_view, kept_row, posted_view};
 ghost use Rattle.fz_data.specs.Posting.{AreArgumentsOf, ArePlacesOf, IsArgumentOf, IsLonger, IsPlaceOf, IsPostedOf, Posts};
 ghost use Rattle.fz_data.specs.Scope.{HasKinds, constraint_fault_in, kinds_in, place_in};
-ghost use Rattle.fz_data.specs.Slots.{IsGrown};
+ghost use Rattle.fz_store.specs.Slots.{IsGrown};
 
-use crate::parts::{Goal, Posted};
 use crate::rows::row_of;
-use crate::scope::{Scope, term_of};
-use crate::store::{Argument, Segment, Slot, Store, narrow, part, slot_of, value_slot};
+use crate::scope::{cited, term_of};
 use crate::values::{copied, literal_value};
-use fz_base::Value;
-use fz_names::{Kind, ModelError, Standing, Term, same_text};
+use fz_store::{
+    Argument, Goal, Kind, ModelError, Posted, Scope, Segment, Slot, Standing, Store, Term, Value,
+    narrow, part, same_text, slot_of, value_slot,
+};
 use fz_tree::{Basic, Constraint, Expr, Goal as TreeGoal, Name, Note, NoteArg, NoteBasic};
 use std::alloc::Global;
 
@@ -265,7 +265,7 @@ fn posted<'a>(
     let known = row_of(
         name,
         part(&store.arguments, arguments),
-        &scope.cited(),
+        &cited(scope),
         store,
     );
     Ok(Posted {

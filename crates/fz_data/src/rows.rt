@@ -2,19 +2,18 @@
 
 ghost use Rattle.std.specs.Prelude.{◌≡◌, ◌==◌, ℕ, Option, map, option_map};
 ghost use Rattle.std.specs.List.{list_all};
-ghost use Rattle.fz_names.specs.of_meaning.declared.term.Term.TheVariants.{Var};
-ghost use Rattle.fz_names.specs.of_meaning.Meaning.{are_rows_of, are_whole_rows, as_int, fits, has_shape, have_shapes, row_of};
-ghost use Rattle.fz_names.specs.of_meaning.Known.{known_row, shape_of};
-ghost use Rattle.fz_names.specs.of_meaning.Relations.{kind_of};
-ghost use Rattle.fz_data.specs.Parts.{argument_view, kind_of_term};
+ghost use Rattle.fz_store.specs.of_meaning.declared.term.Term.TheVariants.{Var};
+ghost use Rattle.fz_store.specs.of_meaning.Meaning.{are_rows_of, are_whole_rows, as_int, fits, has_shape, have_shapes, row_of};
+ghost use Rattle.fz_store.specs.of_meaning.Known.{known_row, shape_of};
+ghost use Rattle.fz_store.specs.of_meaning.Relations.{kind_of};
+ghost use Rattle.fz_store.specs.Parts.{argument_view, kind_of_term};
 ghost use Rattle.fz_data.specs.Fitting.{are_equally_long, array_kind, have_lengths, is_array_of, is_array_slot, is_of_kind, is_scalar_of, kinds_among, length_at, length_of, number_at, number_of, slot_length, slot_number, stands_in_rows};
-ghost use Rattle.fz_data.specs.Slots.{constant_at};
+ghost use Rattle.fz_store.specs.Slots.{constant_at};
 
-use crate::parts::{Array, Variable};
-use crate::store::{Argument, Slot, Store, part};
-use crate::values::{kind_of, same_kind};
-use fz_base::Value;
-use fz_names::{Kind, Known, Matrix, Shape, Term};
+use fz_store::{
+    Argument, Array, Kind, Known, Matrix, Shape, Slot, Store, Term, Value, Variable, kind_of, part,
+    same_kind,
+};
 
 /// What constraints cite: the variables, their kinds, and the arrays. The kinds have a list of
 /// their own, a byte each, so that they stay in a near cache while constraints are loaded.

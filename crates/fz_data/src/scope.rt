@@ -1,37 +1,25 @@
-//! What was declared so far.
+//! What was declared so far, and how a declaration adds to it.
 
-ghost use Rattle.std.specs.Prelude.{◌≡◌, ◌++◌, ◌∷◌, [], IfErr, IfOk, OnOk, None, Some, cond, is_none, length, map, true};
-ghost use Rattle.fz_names.specs.of_meaning.View.{Tells, located_basic, located_name};
-ghost use Rattle.fz_names.specs.of_meaning.declared.term.Term.TheVariants.{Fixed, Var};
-ghost use Rattle.fz_names.specs.of_meaning.Names.{kind_fault, literal_value, part_fault, parts_fault, term_of};
-ghost use Rattle.fz_names.specs.of_meaning.Located.Basic.{Named};
-ghost use Rattle.fz_names.specs.of_meaning.Relations.{kind_of};
+ghost use Rattle.std.specs.Prelude.{◌≡◌, ◌++◌, ◌∷◌, [], IfErr, IfOk, OnOk, None, Some, cond, map, true};
+ghost use Rattle.fz_store.specs.of_meaning.View.{Tells, located_basic, located_name};
+ghost use Rattle.fz_store.specs.of_meaning.declared.term.Term.TheVariants.{Fixed, Var};
+ghost use Rattle.fz_store.specs.of_meaning.Names.{kind_fault, literal_value, part_fault, parts_fault, term_of};
+ghost use Rattle.fz_store.specs.of_meaning.Located.Basic.{Named};
+ghost use Rattle.fz_store.specs.of_meaning.Relations.{kind_of};
 ghost use Rattle.fz_tree.specs.View.{bare_literal_kind};
-ghost use Rattle.fz_data.specs.Parts.{kind_of_term, terms_of};
+ghost use Rattle.fz_store.specs.Parts.{terms_of};
 ghost use Rattle.fz_data.specs.declared.scope.Item.TheVariants.{Parameter, Variable as item_variable, Array as item_array};
-ghost use Rattle.fz_names.specs.of_meaning.declared.error.ModelError.TheVariants.{Memory};
+ghost use Rattle.fz_store.specs.of_meaning.declared.error.ModelError.TheVariants.{Memory};
 ghost use Rattle.fz_data.specs.Scope.{HasKinds, IsAdded, has_elements_point, IsNewName, kinds_in, place_in};
 
-use crate::parts::{Array, DeclaredPoint, ScalarList, Variable};
 use crate::rows::{Cited, term_kind, variable_kind};
-use crate::store::slot_of;
-use crate::values::{copied, literal_kind, literal_value, same_kind};
-use fz_base::Value;
-use fz_names::{Domain, Kind, ModelError, Names, Standing, Term};
+use crate::values::{copied, literal_kind, literal_value};
+use fz_store::{
+    Array, DeclaredPoint, Domain, Kind, ModelError, ScalarList, Scope, Standing, Term, Value,
+    Variable, same_kind, slot_of,
+};
 use fz_tree::{Basic, Literal, Name};
 use std::alloc::{AllocError, Global};
-
-/// What was declared so far: the names in source order, the variables and arrays by their numbers,
-/// and the points. The kinds of the variables also have a list of their own, a byte each, so that
-/// they stay in a near cache.
-#[derive(Drop)]
-pub(crate) struct Scope<'a> {
-    pub(crate) names: Names<'a>,
-    pub(crate) variables: Vec<Variable<'a>>,
-    pub(crate) kinds: Vec<Kind>,
-    pub(crate) arrays: Vec<Array<'a>>,
-    pub(crate) points: Vec<DeclaredPoint>,
-}
 
 /// What a declaration declares: a parameter with its value, a variable, or an array.
 #[derive(Drop)]
@@ -41,19 +29,17 @@ pub(crate) enum Item<'a> {
     Array(Array<'a>),
 }
 
-impl<'a> Scope<'a> {
-    /// What constraints and definitions cite.
-    #[inline(always)]
-    pub(crate) fn cited(&self) -> Cited<'_, 'a>
-        requires kinds { HasKinds self.now }
-        ensures variables { result.variables.now ≡ self.now.variables.items }
-        ensures arrays { result.arrays.now ≡ self.now.arrays.items }
-    {
-        Cited {
-            variables: &self.variables,
-            kinds: &self.kinds,
-            arrays: &self.arrays,
-        }
+/// What constraints and definitions cite.
+#[inline(always)]
+pub(crate) fn cited<'s, 'a>(scope: &'s Scope<'a>) -> Cited<'s, 'a>
+    requires kinds { HasKinds scope.now }
+    ensures variables { result.variables.now ≡ scope.now.variables.items }
+    ensures arrays { result.arrays.now ≡ scope.now.arrays.items }
+{
+    Cited {
+        variables: &scope.variables,
+        kinds: &scope.kinds,
+        arrays: &scope.arrays,
     }
 }
 
@@ -93,13 +79,13 @@ fn named_term(
         None => Err(ModelError::UnknownName(name.span)),
         Some(Standing::Array(_)) => Err(ModelError::Kind(name.span)),
         Some(Standing::Variable(number)) => {
-            if !same_kind(variable_kind(number, &scope.cited()), wanted) {
+            if !same_kind(variable_kind(number, &cited(scope)), wanted) {
                 return Err(ModelError::Kind(name.span));
             }
             Ok(Term::Var(number))
         }
         Some(Standing::Parameter(term)) => {
-            if !same_kind(term_kind(term, &scope.cited()), wanted) {
+            if !same_kind(term_kind(term, &cited(scope)), wanted) {
                 return Err(ModelError::Kind(name.span));
             }
             Ok(copied(alloc, term)?)

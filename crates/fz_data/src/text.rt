@@ -1,16 +1,16 @@
 //! Loading a text item by item: once one is loaded it gives its lists back, so no tree is held.
 
 ghost use Rattle.std.specs.Prelude.{◌≡◌, ◌≢◌, ◌<◌, ◌↔◌, Err, ◌++◌, ◌∷◌, [], IfErr, IfOk, List, OnOk, length, map};
-ghost use Rattle.fz_names.specs.of_meaning.Located.{Constraint as LocatedConstraint, Decl as LocatedDecl};
-ghost use Rattle.fz_names.specs.of_meaning.of_syntax.Offering.{IsLeft, IsRefusedAt, IsRefusedWithin, IsTextOfAllWithin, Took, TookAll, all_items, from_constraints, from_decls, from_predicates, left_of};
-ghost use Rattle.fz_names.specs.of_meaning.of_syntax.SyntaxError.{SyntaxError as SyntaxFault};
-ghost use Rattle.fz_names.specs.of_meaning.of_syntax.SyntaxError.TheVariants.{TooLong};
+ghost use Rattle.fz_store.specs.of_meaning.Located.{Constraint as LocatedConstraint, Decl as LocatedDecl};
+ghost use Rattle.fz_store.specs.of_meaning.of_syntax.Offering.{IsLeft, IsRefusedAt, IsRefusedWithin, IsTextOfAllWithin, Took, TookAll, all_items, from_constraints, from_decls, from_predicates, left_of};
+ghost use Rattle.fz_tree.specs.of_lex.declared.error.SyntaxError.{SyntaxError as SyntaxFault};
+ghost use Rattle.fz_tree.specs.of_lex.declared.error.SyntaxError.TheVariants.{TooLong};
 ghost use Rattle.fz_tree.specs.declared.tree.Decl as the_decl;
 ghost use Rattle.fz_tree.specs.declared.tree.Predicate as the_predicate;
-ghost use Rattle.fz_names.specs.of_meaning.Names.{decl_fault};
-ghost use Rattle.fz_names.specs.of_meaning.View.{Tells, located_constraint, located_decl};
-ghost use Rattle.fz_names.specs.of_meaning.declared.error.ModelError.{ModelError as NameFault};
-ghost use Rattle.fz_names.specs.of_meaning.declared.error.ModelError.TheVariants.{Memory};
+ghost use Rattle.fz_store.specs.of_meaning.Names.{decl_fault};
+ghost use Rattle.fz_store.specs.of_meaning.View.{Tells, located_constraint, located_decl};
+ghost use Rattle.fz_store.specs.of_meaning.declared.error.ModelError.{ModelError as NameFault};
+ghost use Rattle.fz_store.specs.of_meaning.declared.error.ModelError.TheVariants.{Memory};
 ghost use Rattle.fz_data.specs.Posting.{Posts};
 ghost use Rattle.fz_data.specs.Scope.{HasKinds, constraint_fault_in};
 ghost use Rattle.fz_data.specs.Stands.{Declares};
@@ -18,12 +18,10 @@ ghost use Rattle.fz_data.specs.Texts.{HasDeclared, HasPosted, IsLoadRefusal, IsL
 
 use crate::error::LoadError;
 use crate::loading::{declare, empty};
-use crate::model::Model;
-use crate::parts::Posted;
 use crate::posting::{goal_of, post};
-use crate::scope::Scope;
-use crate::store::Store;
-use fz_names::{ConstraintItems, DeclItems, ModelError, Offer, PredicateItems};
+use fz_store::{
+    ConstraintItems, DeclItems, Model, ModelError, Offer, Posted, PredicateItems, Scope, Store,
+};
 use fz_tree::{Constraint, Decl, Limits, Solve, SyntaxError};
 use std::alloc::Global;
 

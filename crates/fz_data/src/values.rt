@@ -1,35 +1,13 @@
 //! Values, kinds and domains of the tree's literals and types.
 
 ghost use Rattle.std.specs.Prelude.{◌≡◌, IfOk, Some};
-ghost use Rattle.fz_names.specs.of_meaning.Names.{domain_of, domain_of_literal, kind_of_base, literal_value};
-ghost use Rattle.fz_names.specs.of_meaning.Relations.{kind_of, same_kind};
+ghost use Rattle.fz_store.specs.of_meaning.Names.{domain_of, domain_of_literal, kind_of_base, literal_value};
+ghost use Rattle.fz_store.specs.of_meaning.Relations.{kind_of};
 ghost use Rattle.fz_tree.specs.View.{bare_base, bare_bounds, bare_literal_kind};
 
-use fz_base::{IntSet, Value};
-use fz_names::{Domain, Kind, Term};
+use fz_store::{Domain, IntSet, Kind, Term, Value, kind_of};
 use fz_tree::{Base, Literal, LiteralKind};
 use std::alloc::{AllocError, Global};
-
-/// The kind of a value. It takes no memory.
-#[inline]
-pub fn kind_of(value: &Value) -> Kind
-    ensures { result ≡ kind_of value.now }
-{
-    match value {
-        Value::Int(_) => Kind::Int,
-        Value::Bool(_) => Kind::Bool,
-        Value::Set(_) => Kind::Set,
-    }
-}
-
-/// Whether the two kinds are the same. It takes no memory. Their numbers are compared, since a
-/// branch on a kind is predicted wrong where kinds come in any order.
-#[inline]
-pub fn same_kind(left: Kind, right: Kind) -> bool
-    ensures { result ≡ same_kind left right }
-{
-    left as u8 == right as u8
-}
 
 /// The kind of the value that a literal stands for, without making that value. It takes no memory.
 pub fn literal_kind(literal: &LiteralKind) -> Kind

@@ -1,9 +1,9 @@
 -- Variables that are collected part by part.
 use Rattle.std.proofs.Common.{◌≡◌, ◌<◌, ◌≤◌, ◌+◌, ℕ, zero, suc, List, [], ◌∷◌, ◌++◌, map, flat_map, length, drop, slice_index_or, add-one, refl, sym, ap, ◌∙◌, arith}
-use Rattle.fz_judge.specs.of_model.Meaning.{terms_at}
-use Rattle.fz_judge.specs.of_model.Parts.{array_at}
-use Rattle.fz_judge.specs.of_model.of_builtins.of_data.declared.parts.Array.{Array}
-use Rattle.fz_judge.specs.of_model.declared.Term.{Term}
+use Rattle.fz_filling.specs.of_model.Meaning.{terms_at}
+use Rattle.fz_filling.specs.of_model.Parts.{array_at}
+use Rattle.fz_filling.specs.of_model.of_builtins.of_store.declared.parts.Array.{Array}
+use Rattle.fz_filling.specs.of_model.declared.Term.{Term}
 use Rattle.fz_explain.specs.Sources.{with_term, with_terms}
 
 with_both : (ns : List ℕ) (ts us : List Term)

@@ -1,8 +1,8 @@
 -- Points that are looked for from the first on.
 use Rattle.std.proofs.Common.{◌≡◌, ◌<◌, ◌≤◌, ◌+◌, ℕ, zero, suc, List, [], ◌∷◌, Some, length, slice_get, subst, arith, inl, inr}
 use Rattle.std.proofs.lemmas.Bool.{cases_lt}
-use Rattle.fz_judge.specs.of_model.Meaning.{Model, Point, points}
-use Rattle.fz_judge.proofs.of_model.Lists.{there_is}
+use Rattle.fz_filling.specs.of_model.Meaning.{Model, Point, points}
+use Rattle.fz_filling.proofs.of_model.Lists.{there_is}
 use Rattle.fz_explain.specs.Firsts.{IsFirst, NoPoint, NoneBefore}
 
 within : {A : Type 0} (xs : List A) (k : ℕ) (x : A) → slice_get xs k ≡ Some x → k < length xs

@@ -1,10 +1,10 @@
 -- Products of two lists, of which one has ended.
 use Rattle.std.proofs.Common.{◌≡◌, ◌≤◌, ℕ, zero, suc, List, [], ◌∷◌, drop, length, map, min, refl, arith}
-use Rattle.fz_judge.specs.of_model.Meaning.{Partial}
-use Rattle.fz_judge.specs.of_model.States.{known_products}
-use Rattle.fz_judge.specs.of_model.Slots.{scalar_term}
-use Rattle.fz_judge.specs.of_model.declared.Scalar.{Scalar}
-use Rattle.fz_judge.specs.of_model.declared.Term.{Term}
+use Rattle.fz_filling.specs.of_model.Meaning.{Partial}
+use Rattle.fz_filling.specs.of_model.States.{known_products}
+use Rattle.fz_filling.specs.of_model.Slots.{scalar_term}
+use Rattle.fz_filling.specs.of_model.declared.Scalar.{Scalar}
+use Rattle.fz_filling.specs.of_model.declared.Term.{Term}
 
 none_with : (K : Partial) (ts : List Term) → known_products K ts [] ≡ []
 none_with K [] = refl

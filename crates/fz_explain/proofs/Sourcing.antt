@@ -3,24 +3,24 @@ use Rattle.std.proofs.Common.{◌≡◌, ◌<◌, ℕ, inl, inr, true, false, co
 use Rattle.std.specs.Option.{option_map_or}
 use Rattle.std.proofs.lemmas.Bool.{cases_eq, eqb-false, eqb-true}
 use Rattle.std.proofs.lemmas.List.{append_assoc}
-use Rattle.fz_base.specs.declared.value.Value.{Value}
-use Rattle.fz_judge.specs.of_model.Aimed.{GivesAny, aimed}
-use Rattle.fz_judge.specs.of_model.Meaning.{Model, Partial, Point, points, value_at}
-use Rattle.fz_judge.specs.of_model.Meaning.Point.{DomainPoint, DefinitionPoint, ArrayPoint, ConstraintPoint}
-use Rattle.fz_judge.specs.of_model.Openings.{HasEach}
-use Rattle.fz_judge.specs.of_model.Steps.{Gives, terms_of, give}
-use Rattle.fz_judge.proofs.of_model.Gaps.{value_at_new}
-use Rattle.fz_judge.proofs.of_model.Steps.{only_open_none, value_at_other}
-use Rattle.fz_judge.proofs.of_model.Tabled.{has_place}
-use Rattle.fz_judge.specs.declared.completion.Completion.{Completion}
-use Rattle.fz_judge.specs.declared.completion.Completion.TheVariants.{Off, On}
-use Rattle.fz_judge.specs.Filling.{AreSteps, Chain, Further, further_givers, givers}
-use Rattle.fz_judge.specs.Filling.Chain.{Ends, Step}
-use Rattle.fz_judge.specs.Filling.Further.{Stays, Goes}
-use Rattle.fz_judge.proofs.Violated.{given_grows}
-use Rattle.fz_judge.proofs.Keeping.{length_given}
-use Rattle.fz_judge.proofs.Runs.{stands}
-use Rattle.fz_judge.proofs.Stepping.{step_unset}
+use Rattle.fz_tree.specs.of_lex.of_base.declared.value.Value.{Value}
+use Rattle.fz_filling.specs.of_model.Aimed.{GivesAny, aimed}
+use Rattle.fz_filling.specs.of_model.Meaning.{Model, Partial, Point, points, value_at}
+use Rattle.fz_filling.specs.of_model.Meaning.Point.{DomainPoint, DefinitionPoint, ArrayPoint, ConstraintPoint}
+use Rattle.fz_filling.specs.of_model.Openings.{HasEach}
+use Rattle.fz_filling.specs.of_model.Steps.{Gives, terms_of, give}
+use Rattle.fz_filling.proofs.of_model.Gaps.{value_at_new}
+use Rattle.fz_filling.proofs.of_model.Steps.{only_open_none, value_at_other}
+use Rattle.fz_filling.proofs.of_model.Tabled.{has_place}
+use Rattle.fz_filling.specs.declared.completion.Completion.{Completion}
+use Rattle.fz_filling.specs.declared.completion.Completion.TheVariants.{Off, On}
+use Rattle.fz_filling.specs.Filling.{AreSteps, Chain, Further, further_givers, givers}
+use Rattle.fz_filling.specs.Filling.Chain.{Ends, Step}
+use Rattle.fz_filling.specs.Filling.Further.{Stays, Goes}
+use Rattle.fz_filling.proofs.Violated.{given_grows}
+use Rattle.fz_filling.proofs.Keeping.{length_given}
+use Rattle.fz_filling.proofs.Runs.{stands}
+use Rattle.fz_filling.proofs.Stepping.{step_unset}
 use Rattle.fz_explain.specs.Sources.{IsGivenBefore, IsGivenBy, IsTrueSource, SourcesAreEarlier, giver_of, source_of}
 use Rattle.fz_explain.specs.declared.source.Source.TheVariants.{Given, Nothing, Printed}
 

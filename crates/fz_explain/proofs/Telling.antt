@@ -2,8 +2,8 @@
 use Rattle.std.proofs.Common.{◌≡◌, ◌<◌, ◌+◌, ℕ, List, [], ◌∷◌, ◌++◌, map, length, take, slice_index_or, sym, ap, subst, ◌∙◌}
 use Rattle.std.specs.List.{AllByRecursion}
 use Rattle.std.proofs.lemmas.List.{map-append, take_more}
-use Rattle.fz_judge.specs.of_model.Meaning.{Partial}
-use Rattle.fz_judge.proofs.of_model.Lists.{all_append}
+use Rattle.fz_filling.specs.of_model.Meaning.{Partial}
+use Rattle.fz_filling.proofs.of_model.Lists.{all_append}
 use Rattle.fz_explain.specs.Explained.{IsTold}
 use Rattle.fz_explain.specs.declared.explained.Explained.{Explained}
 

@@ -1,10 +1,10 @@
 -- The element of a printed array whose value isn't the printed one (this project's profile).
 use Rattle.std.specs.Prelude.{ℕ, suc, Bool, false, cond, List, ◌∷◌, Option, None, Some}
 use Rattle.std.specs.Option.{option_map_or}
-use Rattle.fz_base.specs.declared.value.Value.{Value}
-use Rattle.fz_judge.specs.of_model.Meaning.{Partial, value}
-use Rattle.fz_judge.specs.of_model.States.{same_value}
-use Rattle.fz_judge.specs.of_model.declared.Term.{Term}
+use Rattle.fz_tree.specs.of_lex.of_base.declared.value.Value.{Value}
+use Rattle.fz_filling.specs.of_model.Meaning.{Partial, value}
+use Rattle.fz_filling.specs.of_model.States.{same_value}
+use Rattle.fz_filling.specs.of_model.declared.Term.{Term}
 
 -- it has a value under the filling, and that is the printed one
 abbrev pub has_value : Partial → Term → Value → Bool

@@ -1,8 +1,8 @@
 -- The declared domain that a point is about (this project's profile).
 use Rattle.std.specs.Prelude.{Option, Some, None}
-use Rattle.fz_judge.specs.of_model.Meaning.{Point}
-use Rattle.fz_judge.specs.of_model.Meaning.Point.{DomainPoint, DefinitionPoint, ArrayPoint, ConstraintPoint}
-use Rattle.fz_judge.specs.of_model.declared.Domain.{Domain}
+use Rattle.fz_filling.specs.of_model.Meaning.{Point}
+use Rattle.fz_filling.specs.of_model.Meaning.Point.{DomainPoint, DefinitionPoint, ArrayPoint, ConstraintPoint}
+use Rattle.fz_filling.specs.of_model.declared.Domain.{Domain}
 
 abbrev pub domain_of : Point → Option Domain
 domain_of (DomainPoint x n) = Some x.domain

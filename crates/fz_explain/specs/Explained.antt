@@ -1,6 +1,6 @@
 -- What an explanation says of variables (this project's profile).
 use Rattle.std.specs.Prelude.{◌≡◌, ◌-◌, ℕ, List, ◌++◌, length, take, drop, cond, nat_le}
-use Rattle.fz_judge.specs.of_model.Meaning.{Partial, value_at}
+use Rattle.fz_filling.specs.of_model.Meaning.{Partial, value_at}
 use Rattle.fz_explain.specs.Sources.{source_of}
 use Rattle.fz_explain.specs.declared.explained.Explained.{Explained}
 

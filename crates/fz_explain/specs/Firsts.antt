@@ -1,6 +1,6 @@
 -- The first point of a model, in the model's order, with a property (this project's profile).
 use Rattle.std.specs.Prelude.{◌≡◌, ◌<◌, ℕ, Some, slice_get}
-use Rattle.fz_judge.specs.of_model.Meaning.{Model, Point, points}
+use Rattle.fz_filling.specs.of_model.Meaning.{Model, Point, points}
 
 -- no point with a number below this one has the property
 abbrev pub NoneBefore : Model → (Point → Type 0) → ℕ → Type 0

@@ -2,15 +2,15 @@
 use Rattle.std.specs.Prelude.{◌≡◌, ℕ, Bool, cond, List, [], ◌∷◌, ◌++◌, ◌==◌, Option, None, Some, slice_get}
 use Rattle.std.specs.List.{list_any}
 use Rattle.std.specs.Option.{option_map_or}
-use Rattle.fz_base.specs.declared.value.Value.{Value}
-use Rattle.fz_judge.specs.of_model.Meaning.{Model, Partial, Point, points, value_at}
-use Rattle.fz_judge.specs.of_model.Aimed.{GivesAny}
-use Rattle.fz_judge.specs.of_model.Steps.{Gives, terms_of}
-use Rattle.fz_judge.specs.declared.completion.Completion.{Completion}
-use Rattle.fz_judge.specs.declared.completion.Completion.TheVariants.{Off, On}
-use Rattle.fz_judge.specs.Filling.{AreSteps}
-use Rattle.fz_judge.specs.of_model.declared.Term.{Term}
-use Rattle.fz_judge.specs.of_model.declared.Term.TheVariants.{Var, Fixed}
+use Rattle.fz_tree.specs.of_lex.of_base.declared.value.Value.{Value}
+use Rattle.fz_filling.specs.of_model.Meaning.{Model, Partial, Point, points, value_at}
+use Rattle.fz_filling.specs.of_model.Aimed.{GivesAny}
+use Rattle.fz_filling.specs.of_model.Steps.{Gives, terms_of}
+use Rattle.fz_filling.specs.declared.completion.Completion.{Completion}
+use Rattle.fz_filling.specs.declared.completion.Completion.TheVariants.{Off, On}
+use Rattle.fz_filling.specs.Filling.{AreSteps}
+use Rattle.fz_filling.specs.of_model.declared.Term.{Term}
+use Rattle.fz_filling.specs.of_model.declared.Term.TheVariants.{Var, Fixed}
 use Rattle.fz_explain.specs.declared.source.Source.{Source}
 use Rattle.fz_explain.specs.declared.source.Source.TheVariants as sources
 

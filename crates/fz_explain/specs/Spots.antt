@@ -1,16 +1,16 @@
 -- The byte range of a point's name: of a constraint's predicate, or of a declared name (this
 -- project's profile).
 use Rattle.std.specs.Prelude.{ℕ, ◌-◌, List, Option, map, option_map, slice_get}
-use Rattle.fz_base.specs.declared.span.Span.{Span}
-use Rattle.fz_judge.specs.of_syntax.declared.Ast.{Ast}
-use Rattle.fz_judge.specs.of_syntax.declared.Constraint.{Constraint}
-use Rattle.fz_judge.specs.of_syntax.Tree.{Note}
-use Rattle.fz_judge.specs.of_syntax.View.{bare_notes}
-use Rattle.fz_judge.specs.of_model.Located.{Decl}
-use Rattle.fz_judge.specs.of_model.Names.{declaration}
-use Rattle.fz_judge.specs.of_model.View.{located_decl}
-use Rattle.fz_judge.specs.of_model.declared.Point.{Point}
-use Rattle.fz_judge.specs.of_model.declared.Point.TheVariants as points
+use Rattle.fz_filling.specs.of_syntax.Span.{Span}
+use Rattle.fz_filling.specs.of_syntax.declared.Ast.{Ast}
+use Rattle.fz_filling.specs.of_syntax.declared.Constraint.{Constraint}
+use Rattle.fz_tree.specs.Tree.{Note}
+use Rattle.fz_tree.specs.View.{bare_notes}
+use Rattle.fz_filling.specs.of_model.Located.{Decl}
+use Rattle.fz_filling.specs.of_model.Names.{declaration}
+use Rattle.fz_filling.specs.of_model.View.{located_decl}
+use Rattle.fz_filling.specs.of_model.declared.Point.{Point}
+use Rattle.fz_filling.specs.of_model.declared.Point.TheVariants as points
 
 abbrev pub declared : Ast → List ℕ → Option Decl
 declared a x = declaration (map located_decl a.decls.items) x

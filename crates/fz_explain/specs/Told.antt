@@ -1,10 +1,10 @@
 -- The point that a verdict is about: one that fails, or one that is undecided, which neither holds
 -- nor fails (this project's profile).
 use Rattle.std.specs.Prelude.{◌≡◌, Bool, true, false}
-use Rattle.fz_judge.specs.of_model.declared.State.{State}
-use Rattle.fz_judge.specs.of_model.declared.State.TheVariants.{Holds, Fails, NoValue, Unknown, TooLarge}
-use Rattle.fz_judge.specs.of_model.Meaning.{Partial, Point}
-use Rattle.fz_judge.specs.of_model.States.{state}
+use Rattle.fz_filling.specs.of_model.declared.State.{State}
+use Rattle.fz_filling.specs.of_model.declared.State.TheVariants.{Holds, Fails, NoValue, Unknown, TooLarge}
+use Rattle.fz_filling.specs.of_model.Meaning.{Partial, Point}
+use Rattle.fz_filling.specs.of_model.States.{state}
 use Rattle.fz_explain.specs.declared.failing.Sought.{Sought}
 use Rattle.fz_explain.specs.declared.failing.Sought.TheVariants.{Failing, Undecided}
 

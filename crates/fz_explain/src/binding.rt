@@ -6,7 +6,7 @@ use crate::naming::best_name;
 use crate::notes::name_at;
 use crate::scalars::push_list;
 use crate::variables::{Variables, add, add_all, add_point, add_term};
-use fz_judge::{Goal, Model, PointParts, Scalars, What};
+use fz_filling::{Goal, Model, PointParts, Scalars, What};
 use fz_places::NameTable;
 use fz_tree::{Ast, Decl, Note};
 use indexmap::IndexSet;

@@ -3,7 +3,7 @@
 use crate::binding::Unbound;
 use crate::message::{Message, Text};
 use crate::verdict::{Reading, verdict_message, verdict_place};
-use fz_judge::{
+use fz_filling::{
     Block, Completion, Limits, Model, Refutation, Verdict, fill_with_steps, parse_within,
 };
 use fz_places::NameTable;

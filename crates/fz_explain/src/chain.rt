@@ -4,7 +4,7 @@
 //! reason for a value, and each printed value, each domain and each step is told once.
 
 ghost use Rattle.std.specs.Prelude.{◌<◌, IfSome, length};
-ghost use Rattle.fz_judge.specs.of_model.Meaning.{points};
+ghost use Rattle.fz_filling.specs.of_model.Meaning.{points};
 
 use crate::bounds::note_on_bounds;
 use crate::message::Message;
@@ -12,7 +12,7 @@ use crate::notes::{Known, Note, domain_text, short_text, told_text, told_value};
 use crate::source::{Source, source_of};
 use crate::variables::variables_of;
 use crate::verdict::Reading;
-use fz_judge::{Narrower, Narrowing};
+use fz_filling::{Narrower, Narrowing};
 use fz_reasons::giving_at;
 use indexmap::IndexSet;
 use std::alloc::{AllocError, Global};

@@ -1,14 +1,14 @@
 //! The element of a printed array whose value isn't the printed one.
 
 ghost use Rattle.std.specs.Prelude.{◌≡◌, IfOk, map};
-ghost use Rattle.fz_judge.specs.of_model.Names.{literal_value};
-ghost use Rattle.fz_judge.specs.of_model.Shown.{scalar_terms};
-ghost use Rattle.fz_judge.specs.of_model.Slots.{scalar_term};
-ghost use Rattle.fz_judge.specs.of_syntax.View.{bare_literal};
+ghost use Rattle.fz_filling.specs.of_model.Names.{literal_value};
+ghost use Rattle.fz_filling.specs.of_model.Shown.{scalar_terms};
+ghost use Rattle.fz_filling.specs.of_model.Slots.{scalar_term};
+ghost use Rattle.fz_tree.specs.View.{bare_literal};
 ghost use Rattle.fz_explain.specs.Differing.{first_differing, has_value};
 
-use fz_base::Value;
-use fz_judge::{Partial, Scalar, Scalars, literal_value, scalar_at};
+use fz_filling::{Partial, Scalar, Scalars, literal_value, scalar_at};
+use fz_places::Value;
 use fz_tree::Literal;
 use std::alloc::{AllocError, Global};
 

@@ -2,12 +2,12 @@
 
 ghost use Rattle.std.specs.Prelude.{◌≡◌, ◌-◌, IfOk, length, map};
 ghost use Rattle.std.specs.List.{AllByRecursion};
-ghost use Rattle.fz_judge.specs.Givers.{giver_view};
+ghost use Rattle.fz_filling.specs.Givers.{giver_view};
 ghost use Rattle.fz_explain.specs.Explained.{IsTold, shortened};
 
 use crate::source::{Source, source_of};
-use fz_base::Value;
-use fz_judge::{Giver, Partial};
+use fz_filling::{Giver, Partial};
+use fz_places::Value;
 use std::alloc::{AllocError, Global};
 
 /// The most variables of an explanation.

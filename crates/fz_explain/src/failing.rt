@@ -1,12 +1,12 @@
 //! The point that a verdict is about: the first that fails, or the first that is undecided.
 
 ghost use Rattle.std.specs.Prelude.{◌≡◌, ◌<◌, IfOk, IfSome, IsNone, Some, length, slice_get};
-ghost use Rattle.fz_judge.specs.of_model.Meaning.{Point, points};
-ghost use Rattle.fz_judge.specs.of_model.States.{state};
+ghost use Rattle.fz_filling.specs.of_model.Meaning.{Point, points};
+ghost use Rattle.fz_filling.specs.of_model.States.{state};
 ghost use Rattle.fz_explain.specs.Firsts.{IsFirst, NoPoint};
 ghost use Rattle.fz_explain.specs.Told.{IsSought, is_sought};
 
-use fz_judge::{Model, Partial, State, state};
+use fz_filling::{Model, Partial, State, state};
 use std::alloc::{AllocError, Global};
 
 /// What kind of point is looked for.

@@ -1,12 +1,12 @@
 //! Parameters, and arrays of fixed values, by their names.
 
 ghost use Rattle.std.specs.Prelude.{◌≡◌, [], ◌∷◌, IfOk, false, map, option_map, true};
-ghost use Rattle.fz_judge.specs.of_model.Shown.{scalar_terms};
-ghost use Rattle.fz_judge.specs.of_model.Slots.{scalar_term, slot_term};
+ghost use Rattle.fz_filling.specs.of_model.Shown.{scalar_terms};
+ghost use Rattle.fz_filling.specs.of_model.Slots.{scalar_term, slot_term};
 ghost use Rattle.fz_explain.specs.Fixings.{fixed_value, fixed_values, fixing, fixing_view};
 
-use fz_base::Value;
-use fz_judge::{Model, Scalar, Scalars, What, scalar_at};
+use fz_filling::{Model, Scalar, Scalars, What, scalar_at};
+use fz_places::Value;
 use std::alloc::{AllocError, Global};
 
 /// What a name stands for: of a parameter the only value, of an array those of its elements.

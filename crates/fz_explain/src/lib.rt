@@ -39,10 +39,10 @@ pub use domain::declared_domain;
 pub use explained::{Explained, Explanation, explain};
 pub use failing::{Sought, first_point};
 pub use fixed::{Fixing, fixing_of};
-pub use fz_base::{Range, Value};
-pub use fz_judge::{Giver, Kind, Refutation};
+pub use fz_filling::{Giver, Kind, Refutation};
 pub use fz_places::{
-    Element, ModelPlace, NameLine, NameTable, Spot, TableError, element_of, model_place, spot_of,
+    Element, ModelPlace, NameLine, NameTable, Range, Spot, TableError, Value, element_of,
+    model_place, spot_of,
 };
 pub use message::{Message, Text, message_at};
 pub use notes::{FixedNote, Known, MOST_RANGES, Note, Origin};

@@ -9,9 +9,9 @@ use crate::explained::FIRST_VARIABLES;
 use crate::notes::{FixedNote, Note, fixed_text, giver_lines, note_text};
 use crate::quoting::Quote;
 use crate::remarks::Remarks;
-use fz_base::Span;
 use fz_files::Passed;
 use fz_places::{Spot, spot_of};
+use fz_tree::Span;
 use std::alloc::{AllocError, Global};
 
 /// A file or a stream by its name, of which the bytes behind what has passed are given.

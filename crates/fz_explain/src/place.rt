@@ -1,14 +1,13 @@
 //! The byte range of a point's name, and its annotations.
 
 ghost use Rattle.std.specs.Prelude.{◌≡◌, ◌-◌, map, option_map, slice_get};
-ghost use Rattle.fz_judge.specs.of_model.Names.{declaration};
-ghost use Rattle.fz_judge.specs.of_model.View.{located_decl};
-ghost use Rattle.fz_judge.specs.of_syntax.View.{bare_notes};
+ghost use Rattle.fz_filling.specs.of_model.Names.{declaration};
+ghost use Rattle.fz_filling.specs.of_model.View.{located_decl};
+ghost use Rattle.fz_tree.specs.View.{bare_notes};
 ghost use Rattle.fz_explain.specs.Spots.{point_notes, point_place};
 
-use fz_base::Span;
-use fz_judge::Point;
-use fz_tree::{Ast, Constraint, Decl, Note};
+use fz_filling::Point;
+use fz_tree::{Ast, Constraint, Decl, Note, Span};
 
 /// The constraint with this number, from 1.
 pub(crate) fn constraint_of<'t, 'a>(ast: &'t Ast<'a>, number: usize) -> Option<&'t Constraint<'a>>

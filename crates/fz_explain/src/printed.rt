@@ -8,10 +8,9 @@ use crate::naming::indexed;
 use crate::notes::{note_variables, value_text};
 use crate::place::declaration_of;
 use crate::verdict::Reading;
-use fz_base::{Span, Value};
-use fz_judge::{Scalar, Scalars, What, literal_value};
-use fz_places::indices_of;
-use fz_tree::{Literal, Printed, PrintedValue};
+use fz_filling::{Scalar, Scalars, What, literal_value};
+use fz_places::{Value, indices_of};
+use fz_tree::{Literal, Printed, PrintedValue, Span};
 use std::alloc::{AllocError, Global};
 
 /// The item of a name that the block of a case prints.

@@ -5,7 +5,7 @@ use crate::excerpt::{cut_text, shown_text};
 use crate::place::point_notes;
 use crate::quoting::{Quote, Source, source_in};
 use crate::verdict::Reading;
-use fz_judge::Point;
+use fz_filling::Point;
 use fz_places::{ModelPlace, NameLine, NameTable, model_place, text_of};
 use fz_tree::Note;
 use std::alloc::{AllocError, Global};

@@ -1,13 +1,13 @@
 //! The scalars in the arguments of a constraint.
 
 ghost use Rattle.std.specs.Prelude.{◌≡◌, ◌++◌, IfOk, OnOk, flat_map, map};
-ghost use Rattle.fz_judge.specs.of_model.Meaning.{terms_at, terms_in};
-ghost use Rattle.fz_judge.specs.of_model.States.{terms_at_argument};
-ghost use Rattle.fz_judge.specs.of_model.Parts.{argument_view, constraint_view, place_view};
-ghost use Rattle.fz_judge.specs.of_model.Slots.{scalar_term, slot_term};
+ghost use Rattle.fz_filling.specs.of_model.Meaning.{terms_at, terms_in};
+ghost use Rattle.fz_filling.specs.of_model.States.{terms_at_argument};
+ghost use Rattle.fz_filling.specs.of_model.Parts.{argument_view, constraint_view, place_view};
+ghost use Rattle.fz_filling.specs.of_model.Slots.{scalar_term, slot_term};
 
-use fz_base::Value;
-use fz_judge::{Argument, ConstraintParts, Scalar, Slot, part, scalar_at};
+use fz_filling::{Argument, ConstraintParts, Scalar, Slot, part, scalar_at};
+use fz_places::Value;
 use std::alloc::{AllocError, Global};
 
 /// Adds the scalars of a list of slots.

@@ -2,7 +2,7 @@
 
 use crate::case::Case;
 use crate::excerpt::shown_text;
-use fz_judge::{Fault, Reason, Verdict};
+use fz_filling::{Fault, Reason, Verdict};
 use std::alloc::{AllocError, Global};
 
 /// The sentence of a message on the verdict of a case.

@@ -1,10 +1,10 @@
 //! Where the value of a variable comes from.
 
 ghost use Rattle.std.specs.Prelude.{◌≡◌, map};
-ghost use Rattle.fz_judge.specs.Givers.{giver_view};
+ghost use Rattle.fz_filling.specs.Givers.{giver_view};
 ghost use Rattle.fz_explain.specs.Sources.{SourcesAreEarlier, giver_of, source_of};
 
-use fz_judge::{Giver, Partial};
+use fz_filling::{Giver, Partial};
 
 /// Where the value of a variable comes from.
 #[derive(Clone, Copy, PartialEq, Eq)]

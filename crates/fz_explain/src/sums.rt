@@ -1,15 +1,15 @@
 //! The product with which a sum of products leaves signed 128 bits.
 
 ghost use Rattle.std.specs.Prelude.{◌≡◌, ◌<◌, ◌++◌, [], IfOk, OnOk, Some, length, map, slice_get};
-ghost use Rattle.fz_judge.specs.of_model.Meaning.{Point, number_at, points};
-ghost use Rattle.fz_judge.specs.of_model.States.{known_products, product_before};
-ghost use Rattle.fz_judge.specs.of_model.Parts.{constraint_view};
-ghost use Rattle.fz_judge.specs.of_model.Slots.{scalar_term};
+ghost use Rattle.fz_filling.specs.of_model.Meaning.{Point, number_at, points};
+ghost use Rattle.fz_filling.specs.of_model.States.{known_products, product_before};
+ghost use Rattle.fz_filling.specs.of_model.Parts.{constraint_view};
+ghost use Rattle.fz_filling.specs.of_model.Slots.{scalar_term};
 ghost use Rattle.fz_explain.specs.Leaving.{first_leaving, leaving_in, leaving_of};
 
 use crate::scalars::scalars_at;
-use fz_base::Value;
-use fz_judge::{ConstraintParts, Model, Partial, PointParts, Scalar, Wide};
+use fz_filling::{ConstraintParts, Model, Partial, PointParts, Scalar, Wide};
+use fz_places::Value;
 use std::alloc::{AllocError, Global};
 
 /// The integer value of a scalar: of a literal, or of a variable that has a value.

@@ -1,15 +1,15 @@
 //! The variables in a point.
 
 ghost use Rattle.std.specs.Prelude.{◌≡◌, ◌<◌, IfOk, OnOk, Some, flat_map, length, map, slice_get};
-ghost use Rattle.fz_judge.specs.of_model.Meaning.{Point, points, terms_in};
-ghost use Rattle.fz_judge.specs.of_model.Parts.{argument_view, constraint_view};
-ghost use Rattle.fz_judge.specs.of_model.Shown.{point_view, scalar_terms};
-ghost use Rattle.fz_judge.specs.of_model.Slots.{scalar_term};
-ghost use Rattle.fz_judge.specs.of_model.Steps.{terms_of};
+ghost use Rattle.fz_filling.specs.of_model.Meaning.{Point, points, terms_in};
+ghost use Rattle.fz_filling.specs.of_model.Parts.{argument_view, constraint_view};
+ghost use Rattle.fz_filling.specs.of_model.Shown.{point_view, scalar_terms};
+ghost use Rattle.fz_filling.specs.of_model.Slots.{scalar_term};
+ghost use Rattle.fz_filling.specs.of_model.Steps.{terms_of};
 ghost use Rattle.fz_explain.specs.Sources.{variables_in, with_term, with_terms};
 
 use crate::scalars::{push_argument, push_list};
-use fz_judge::{Argument, ConstraintParts, Model, PointParts, Scalar, Term};
+use fz_filling::{Argument, ConstraintParts, Model, PointParts, Scalar, Term};
 use indexmap::IndexSet;
 use std::alloc::{AllocError, Global};
 

@@ -2,7 +2,7 @@
 //! where these come from.
 
 ghost use Rattle.std.specs.Prelude.{◌<◌, length};
-ghost use Rattle.fz_judge.specs.of_model.Meaning.{points};
+ghost use Rattle.fz_filling.specs.of_model.Meaning.{points};
 
 use crate::case::Case;
 use crate::chain::note_chain;
@@ -18,11 +18,10 @@ use crate::remarks::remarks_on;
 use crate::sentence::sentence;
 use crate::sums::too_large_at;
 use crate::variables::variables_of;
-use fz_base::Span;
-use fz_judge::{Completion, Fault, Giver, Goal, Model, Partial, Point, Reason, Term, Verdict};
+use fz_filling::{Completion, Fault, Giver, Goal, Model, Partial, Point, Reason, Term, Verdict};
 use fz_places::NameTable;
 use fz_reasons::reason_at;
-use fz_tree::{Ast, Basic, Goal as GoalItem};
+use fz_tree::{Ast, Basic, Goal as GoalItem, Span};
 use std::alloc::{AllocError, Global};
 
 /// A case with the model's text, tree and table of names, and the block's filling with its steps.

@@ -5,7 +5,7 @@ use Rattle.std.specs.Cmp.{both_ways}
 use Rattle.std.proofs.lemmas.Int.{ints}
 use Rattle.std.proofs.lemmas.List.Sorted.{length_permutation}
 use Rattle.std.proofs.lemmas.Grind.{common_steps}
-use Rattle.fz_base.proofs.Covers.{at_most_yes}
+use Rattle.fz_kernel.proofs.of_meaning.of_base.Covers.{at_most_yes}
 use Rattle.fz_kernel.specs.of_meaning.Relations.{◌=ℤ◌, is_among, all_neighbours, is_same_list, is_sorted_form, count_of}
 use Rattle.fz_kernel.proofs.of_meaning.Values.{no, no', and_first, and_second, and_both, same_int, int_itself}
 use Rattle.fz_globals.proofs.Compared.{above_is_other, at_most}

@@ -4,8 +4,8 @@ use Rattle.std.specs.List.{list_all}
 use Rattle.std.specs.Ordering.{int_cmp}
 use Rattle.std.specs.Cmp.{int_cmp_total}
 use Rattle.std.specs.FinSet.{contains, contains-empty, contains-union, empty, is_subset, union}
-use Rattle.fz_base.specs.Sets.{NumberSet}
-use Rattle.fz_base.proofs.Numbers.{same_numbers}
+use Rattle.fz_kernel.specs.of_meaning.of_syntax.Sets.{NumberSet}
+use Rattle.fz_kernel.proofs.of_meaning.of_base.Numbers.{same_numbers}
 use Rattle.fz_kernel.specs.of_meaning.Relations.{chosen, indices_from, refer_back, union_of}
 use Rattle.fz_kernel.proofs.Left.{next, none_left}
 use Rattle.fz_globals.proofs.FirstBest.{one_on}

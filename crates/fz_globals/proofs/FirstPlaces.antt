@@ -10,7 +10,7 @@ use Rattle.std.proofs.lemmas.Bool.Decides.{nat_tests}
 use Rattle.std.proofs.lemmas.List.Sorted.{sorted_far, ranks_by, Contains-permutation, IsPermutation-sym}
 use Rattle.std.proofs.lemmas.Option.{same_Some, slice_get_within, slice_get-get_or, get_or_from_slice_get}
 use Rattle.std.proofs.lemmas.Grind.{common_steps}
-use Rattle.fz_base.proofs.Numbers.{not_below}
+use Rattle.fz_kernel.proofs.of_meaning.of_base.Numbers.{not_below}
 use Rattle.fz_kernel.specs.of_meaning.Relations.{◌=ℤ◌, index_from, precedes}
 use Rattle.fz_globals.specs.Keys.{key, keys_from, AreKeys, comes_before}
 use Rattle.fz_globals.proofs.Compared.{is_other}

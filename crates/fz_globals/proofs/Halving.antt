@@ -7,7 +7,7 @@ use Rattle.std.proofs.lemmas.Bool.{cases_lt}
 use Rattle.std.proofs.lemmas.List.Folds.{list_any_at, list_any_none}
 use Rattle.std.proofs.lemmas.List.Sorted.{sorted_far, ranks_by, searchable_from_sorted}
 use Rattle.std.proofs.lemmas.Grind.{common_steps}
-use Rattle.fz_base.proofs.Numbers.{not_below}
+use Rattle.fz_kernel.proofs.of_meaning.of_base.Numbers.{not_below}
 use Rattle.fz_kernel.specs.of_meaning.Relations.{◌=ℤ◌, is_among}
 use Rattle.fz_globals.proofs.Each.{filter_yes, filter_no}
 

@@ -17,6 +17,6 @@ pub mod Preceding
 pub mod Tested
 pub mod Valued
 pub mod Walked
-pub use Rattle.fz_kernel.proofs.of_data
+pub use Rattle.fz_kernel.proofs.of_store
 pub use Rattle.fz_kernel.proofs as of_kernel
 pub use Rattle.fz_kernel.proofs.of_meaning

@@ -7,7 +7,7 @@ use Rattle.std.proofs.lemmas.Bool.{or_right, cases_lt}
 use Rattle.std.proofs.lemmas.Bool.Decides.{nat_tests, Decides-int_eq}
 use Rattle.std.proofs.lemmas.Option.{same_Some}
 use Rattle.std.proofs.lemmas.Grind.{common_steps}
-use Rattle.fz_base.proofs.Covers.{and-false, and-true}
+use Rattle.fz_kernel.proofs.of_meaning.of_base.Covers.{and-false, and-true}
 use Rattle.fz_kernel.specs.of_meaning.Relations.{◌=ℤ◌, all_different, element_at, is_among, are_places, tour, end_of_tour, is_circuit, moved_from, is_one_tour, is_subcircuit}
 use Rattle.fz_kernel.proofs.of_meaning.Values.{no, and_both, same_int}
 use Rattle.fz_kernel.proofs.Left.{next}

@@ -7,8 +7,7 @@ ghost use Rattle.fz_kernel.specs.Views.{sets};
 
 use crate::flags::has;
 use crate::indices::{are_indices, index_at};
-use fz_base::{IntSet, SetError};
-use fz_kernel::Elements;
+use fz_kernel::{Elements, IntSet, SetError};
 use std::alloc::Global;
 
 /// The union of the sets whose indices, from 1 on, are in `indices`.

@@ -6,10 +6,9 @@ ghost use Rattle.fz_kernel.specs.of_meaning.Relations.{◌=ℤ◌, ◌=ᴮ◌, a
 ghost use Rattle.fz_kernel.specs.Views.{ints, bools};
 
 use crate::ordered::{numbers_in_order, values_in_order};
-use fz_base::IntSet;
-use fz_kernel::Elements;
 use fz_kernel::arrays::stands_from;
 use fz_kernel::distinct::all_different;
+use fz_kernel::{Elements, IntSet};
 use std::alloc::{AllocError, Global};
 
 /// The number of indices with the value.

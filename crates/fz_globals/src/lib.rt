@@ -38,9 +38,9 @@ pub use fz_kernel::numbers::{
 pub use fz_kernel::sets::same_set;
 pub use fz_kernel::{
     Argument, ArgumentView, Builtin, ConstraintParts, Domain, Elements, Filled, Form, Found, Goal,
-    Kind, Known, LoadError, Model, ModelError, Partial, Point, PointParts, Posted, Readiness,
-    Scalar, Scalars, Slot, State, Term, Variable, What, Wide, item_at, kind_of, literal_kind,
-    literal_value, load, load_text, part, same_kind, scalar_at,
+    IntSet, Kind, Known, Model, ModelError, Partial, Point, PointParts, Posted, Readiness, Scalar,
+    Scalars, SetError, Slot, State, Term, Value, Variable, What, Wide, item_at, kind_of, part,
+    same_kind, scalar_at,
 };
 pub use indices::{are_indices, index_at, place_from};
 pub use ordered::numbers_in_order;

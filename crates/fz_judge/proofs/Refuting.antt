@@ -4,15 +4,15 @@ use Rattle.fz_search.specs.of_model.Meaning.{Assignment, Model, Partial, objecti
 use Rattle.fz_search.specs.of_model.Openings.{HasEach}
 use Rattle.fz_search.specs.of_model.States.{IsKnownSolution, PointName, shown_point}
 use Rattle.fz_search.proofs.of_model.Lists.{there_is}
-use Rattle.fz_judge.specs.Completed.{IsCompleted}
-use Rattle.fz_judge.specs.Completed.IsCompleted.{Refuted}
-use Rattle.fz_judge.specs.declared.completion.Completion.TheVariants.{On}
-use Rattle.fz_judge.specs.Judged.{IsOfPoint}
-use Rattle.fz_judge.specs.Solutions.{Block}
-use Rattle.fz_judge.specs.Verdict.{Fault, IsFilled, Verdict, fault_named}
-use Rattle.fz_judge.specs.Verdict.Reason.{NoValueFor}
-use Rattle.fz_judge.specs.Verdict.Verdict.{Undecided, Violated}
-use Rattle.fz_judge.proofs.Chains.{filling_agrees}
+use Rattle.fz_filling.specs.Completed.{IsCompleted}
+use Rattle.fz_filling.specs.Completed.IsCompleted.{Refuted}
+use Rattle.fz_filling.specs.declared.completion.Completion.TheVariants.{On}
+use Rattle.fz_filling.specs.Judged.{IsOfPoint}
+use Rattle.fz_filling.specs.Solutions.{Block}
+use Rattle.fz_filling.specs.Verdict.{Fault, IsFilled, Verdict, fault_named}
+use Rattle.fz_filling.specs.Verdict.Reason.{NoValueFor}
+use Rattle.fz_filling.specs.Verdict.Verdict.{Undecided, Violated}
+use Rattle.fz_filling.proofs.Chains.{filling_agrees}
 
 -- the fault of the point of a number
 pub of_point : (m : Model) (k : ℕ) (name : PointName) (f : Fault) → k < length (points m)

@@ -1,19 +1,4 @@
-pub mod View
-pub mod Judged
-pub mod Working
-pub mod BlockView
-pub mod Filling
-pub mod Verdict
-pub mod Completed
-pub mod Laws
-pub mod BlockFaults
-pub mod Solutions
-pub mod Outlooks
-pub mod Kept
-pub mod Stepping
-pub mod Runs
-pub mod Courses
-pub mod Givers
 pub use Rattle.fz_search.specs.of_model
-pub use Rattle.fz_stream.specs as of_stream
-pub use Rattle.fz_stream.specs.of_syntax
+pub use Rattle.fz_filling.specs.of_stream
+pub use Rattle.fz_filling.specs.of_syntax
+pub use Rattle.fz_filling.specs as of_filling

@@ -3,26 +3,22 @@
 ghost use Rattle.std.specs.Prelude.{◌≡◌, IfErr, IfOk, IfSome, None, option_map};
 ghost use Rattle.fz_search.specs.of_model.Meaning.{IsPartial, objective};
 ghost use Rattle.fz_search.specs.of_model.Overviews.{IsOverview};
-ghost use Rattle.fz_stream.specs.Found.{EndsWithin, HasPlaces};
-ghost use Rattle.fz_judge.specs.BlockFaults.{block_fault, items_fault};
-ghost use Rattle.fz_judge.specs.Completed.{IsCompleted};
-ghost use Rattle.fz_judge.specs.Verdict.{IsFilled, objective_fails, verdict, verdict_by};
-ghost use Rattle.fz_judge.specs.declared.completion.Completion.TheVariants.{On};
-ghost use Rattle.fz_judge.specs.Verdict.Verdict.{Undecided};
-ghost use Rattle.fz_judge.specs.BlockView.{located_block, located_items};
-ghost use Rattle.fz_judge.specs.Judged.{IsBlockRefusal, IsJudged, IsOfPoint, TellsKind};
-ghost use Rattle.fz_judge.specs.View.{fault_view, reason_view, verdict_view};
-ghost use Rattle.fz_judge.specs.Working.{IsFound, compared, not_shown_better, with_objective};
+ghost use Rattle.fz_filling.specs.of_stream.Found.{EndsWithin, HasPlaces};
+ghost use Rattle.fz_filling.specs.BlockFaults.{block_fault, items_fault};
+ghost use Rattle.fz_filling.specs.Completed.{IsCompleted};
+ghost use Rattle.fz_filling.specs.Verdict.{IsFilled, objective_fails, verdict, verdict_by};
+ghost use Rattle.fz_filling.specs.declared.completion.Completion.TheVariants.{On};
+ghost use Rattle.fz_filling.specs.Verdict.Verdict.{Undecided};
+ghost use Rattle.fz_filling.specs.BlockView.{located_block, located_items};
+ghost use Rattle.fz_filling.specs.Judged.{IsBlockRefusal, IsJudged, IsOfPoint, TellsKind};
+ghost use Rattle.fz_filling.specs.View.{fault_view, reason_view, verdict_view};
+ghost use Rattle.fz_filling.specs.Working.{IsFound, compared, not_shown_better, with_objective};
 
-use crate::completion::Completion;
-use crate::course::Course;
-use crate::error::BlockError;
-use crate::filling::filled;
-use crate::points::{fault_named, objective, objective_fails, points_verdict};
-use crate::printed::printed_fails;
-use crate::verdict::{Fault, Reason, Verdict};
-use fz_search::{Found, Model, Overview, Partial, Refutation, Search, search};
-use fz_stream::Block;
+use fz_filling::{
+    Block, BlockError, Completion, Course, Fault, Reason, Refutation, Search, Verdict, fault_named,
+    filled, objective, objective_fails, points_verdict, printed_fails,
+};
+use fz_search::{Found, Model, Overview, Partial, search};
 use std::alloc::{AllocError, Global};
 
 /// The verdict where the printed names and the points have this one, and the objective may fail.
@@ -141,8 +137,8 @@ pub struct Judge<'m, 'a> {
 }
 
 impl<'m, 'a> std::marker::Model for Judge<'m, 'a> {
-    ghost use Rattle.fz_judge.specs.Judged.{JudgeState};
-    ghost use Rattle.fz_base.specs.contracts.sets.IntSet as the_set;
+    ghost use Rattle.fz_filling.specs.Judged.{JudgeState};
+    ghost use Rattle.fz_filling.specs.of_model.of_base.contracts.sets.IntSet as the_set;
     ghost use Rattle.std.specs.Coded.{codes};
 
     ghost Value = { JudgeState };
@@ -150,9 +146,9 @@ impl<'m, 'a> std::marker::Model for Judge<'m, 'a> {
     ghost coded = { Prim.hlevel (codes, the_set.the_row.coded) };
 
     ghost use Rattle.std.specs.Prelude.{IfSome, option_map};
-    ghost use Rattle.fz_judge.specs.Courses.{IsCourse};
+    ghost use Rattle.fz_filling.specs.Courses.{IsCourse};
     ghost use Rattle.fz_search.specs.of_model.Overviews.{IsOverview};
-    ghost use Rattle.fz_judge.specs.Working.{HasRoom};
+    ghost use Rattle.fz_filling.specs.Working.{HasRoom};
 
     ghost view = { λ j. record {
       model = j.model.now;

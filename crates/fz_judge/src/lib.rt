@@ -1,51 +1,16 @@
-//! Judging solution blocks against a model, one after another: the fault of a block, its filling,
-//! and the verdict on it. The filling is the chain of forced steps: those of the block before are
-//! tried first, where they come to the same in any order; one search through the points finds the
-//! rest. Where values that a solver left out are looked for, a second filling goes on from there, by
-//! whichever result a row has. An internal crate of `fz_check`.
+//! Judging solution blocks against a model, one after another (`Judge`): each under its filling,
+//! and where values that a solver left out are looked for, under those that a search finds. The
+//! filling, the parts of a verdict, the definitions and the laws are in the internal crate
+//! `fz_filling`. An internal crate of `fz_check`.
 //!
-//! What a verdict or an accepted stream means for solutions is defined in `specs/`, and told by the
-//! laws in `laws.rt`. Worked cases are in `tests/cases`.
+//! Worked cases are in `tests/cases`.
 #![tactic(auto)]
 
-mod chain;
-mod completion;
-mod course;
-mod error;
-mod faults;
-mod filling;
-mod further;
 mod judge;
-mod laws;
-mod lone;
-mod outlook;
-mod points;
-mod printed;
-mod retrace;
-mod start;
-mod steps;
-mod values;
-mod verdict;
-mod watch;
 
-pub use completion::Completion;
-pub use error::BlockError;
-pub use filling::{fill, fill_with_steps};
-pub use fz_search::{
-    Argument, ConstraintParts, Domain, Goal, Kind, Left, LoadError, Model, ModelError, Narrower,
-    Narrowing, Partial, Point, PointParts, Refutation, Scalar, Scalars, Slot, State, Term, What,
-    Wide, literal_value, load, load_text, part, scalar_at, state,
-};
-pub use fz_stream::{
-    Ast, Block, Claim, ClaimKind, Decl, Limits, Name, Note, Part, Splitter, Stream, StreamError,
-    SyntaxError, blocks, parse_within, to_text,
+pub use fz_filling::{
+    Ast, Block, BlockError, Claim, ClaimKind, Completion, Decl, Fault, Goal, Limits, LoadError,
+    Model, ModelError, Name, Note, Part, Reason, Refutation, Span, Splitter, Stream, StreamError,
+    SyntaxError, Verdict, blocks, fill, fill_with_steps, load, load_text, parse_within, to_text,
 };
 pub use judge::Judge;
-pub use laws::{
-    accepted_are_judged, accepted_have_solutions, blocks_are_bare, completed_keep_verdicts,
-    each_not_better_has_none, each_satisfied_has_one, each_violated_has_none, filling_follows,
-    filling_is_one, filling_is_proposed, not_better_have_none, satisfied_is_solved,
-    violated_have_none,
-};
-pub use steps::Giver;
-pub use verdict::{Fault, Reason, Verdict};

@@ -4,8 +4,8 @@ use Rattle.std.specs.Int.{w128}
 use Rattle.std.specs.List.{list_all}
 use Rattle.std.proofs.lemmas.Int.{ints, to_z-of_z}
 use Rattle.std.proofs.lemmas.Bool.Decides.{nat_tests}
-use Rattle.fz_data.specs.of_meaning.Relations.{total, products, where_true}
-use Rattle.fz_data.specs.of_meaning.States.{sums_from, fits_128, leaves_128}
+use Rattle.fz_store.specs.of_meaning.Relations.{total, products, where_true}
+use Rattle.fz_store.specs.of_meaning.States.{sums_from, fits_128, leaves_128}
 use Rattle.fz_kernel.proofs.Left.{next, next_is, none_left}
 
 -- ---- what a number of 128 bits is

@@ -7,8 +7,8 @@ use Rattle.std.proofs.lemmas.Int.{ints}
 use Rattle.std.proofs.lemmas.List.Folds.{list_any_more, list_all_more}
 use Rattle.std.proofs.lemmas.Option.{slice_get_within, get_or_from_slice_get}
 use Rattle.std.proofs.lemmas.Bool.Decides.{Decides-int_eq}
-use Rattle.fz_data.specs.of_meaning.Relations.{◌=ℤ◌, is_among}
-use Rattle.fz_data.proofs.of_meaning.Values.{no, and_first, and_second, and_both, same_int, int_itself}
+use Rattle.fz_store.specs.of_meaning.Relations.{◌=ℤ◌, is_among}
+use Rattle.fz_store.proofs.of_meaning.Values.{no, and_first, and_second, and_both, same_int, int_itself}
 
 -- what an order keeps
 pub record IsOrder (below : ℤ → ℤ → Bool) : Type 0 where

@@ -4,7 +4,7 @@ use Rattle.std.specs.List.{list_all, list_any}
 use Rattle.std.proofs.lemmas.Int.{ints}
 use Rattle.std.proofs.lemmas.List.{drop_all, drop_more, length-drop}
 use Rattle.std.proofs.lemmas.Option.{get_or_from_slice_get}
-use Rattle.fz_data.specs.of_meaning.Relations.{all_both, all_neighbours, all_pairs, is_same_list}
+use Rattle.fz_store.specs.of_meaning.Relations.{all_both, all_neighbours, all_pairs, is_same_list}
 use Rattle.fz_kernel.specs.Indices.{all_from, all_pairs_from, any_from}
 
 -- ---- a loop

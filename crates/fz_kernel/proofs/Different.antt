@@ -10,9 +10,9 @@ use Rattle.std.proofs.lemmas.Int.{ints}
 use Rattle.std.proofs.lemmas.Bool.Decides.{Decides-int_eq}
 use Rattle.std.proofs.lemmas.List.Recursion.{is_count_by}
 use Rattle.std.proofs.lemmas.List.Sorted.{sum_by-IsPermutation}
-use Rattle.fz_base.proofs.Numbers.{not_below}
-use Rattle.fz_data.specs.of_meaning.Relations.{◌=ℤ◌, all_different, all_neighbours, all_pairs, is_among}
-use Rattle.fz_data.proofs.of_meaning.Values.{no, no', and_first, and_second, and_both, same_int, int_itself}
+use Rattle.fz_store.proofs.of_meaning.of_base.Numbers.{not_below}
+use Rattle.fz_store.specs.of_meaning.Relations.{◌=ℤ◌, all_different, all_neighbours, all_pairs, is_among}
+use Rattle.fz_store.proofs.of_meaning.Values.{no, no', and_first, and_second, and_both, same_int, int_itself}
 
 -- how often the number is listed
 abbrev count : ℤ → List ℤ → ℕ

@@ -6,19 +6,19 @@ use Rattle.std.specs.Option.{option_map_or}
 use Rattle.std.proofs.lemmas.Bool.{false≢true}
 use Rattle.std.proofs.lemmas.Option.{slice_get-map}
 use Rattle.std.proofs.lemmas.List.Folds.{list_all-map, list_all-append}
-use Rattle.fz_base.specs.declared.value.Value.{Value}
-use Rattle.fz_data.specs.of_meaning.Meaning as meaning
-use Rattle.fz_data.specs.of_meaning.Meaning.{Partial, terms_at}
-use Rattle.fz_data.specs.of_meaning.Meaning.Argument.{One}
-use Rattle.fz_data.specs.declared.parts.Variable.{Variable}
-use Rattle.fz_data.specs.declared.parts.Array.{Array}
-use Rattle.fz_data.specs.declared.Slot.{Slot}
-use Rattle.fz_data.specs.declared.Slot.TheVariants as slots
-use Rattle.fz_data.specs.declared.Argument.{Argument}
-use Rattle.fz_data.specs.declared.Argument.TheVariants as arguments
-use Rattle.fz_data.specs.declared.Store.{Store}
-use Rattle.fz_data.specs.Slots.{is_scalar, segment, slot_term}
-use Rattle.fz_data.specs.Parts.{argument_view, place_view, array_view, no_array}
+use Rattle.fz_store.specs.of_meaning.of_base.declared.value.Value.{Value}
+use Rattle.fz_store.specs.of_meaning.Meaning as meaning
+use Rattle.fz_store.specs.of_meaning.Meaning.{Partial, terms_at}
+use Rattle.fz_store.specs.of_meaning.Meaning.Argument.{One}
+use Rattle.fz_store.specs.declared.parts.Variable.{Variable}
+use Rattle.fz_store.specs.declared.parts.Array.{Array}
+use Rattle.fz_store.specs.declared.Slot.{Slot}
+use Rattle.fz_store.specs.declared.Slot.TheVariants as slots
+use Rattle.fz_store.specs.declared.Argument.{Argument}
+use Rattle.fz_store.specs.declared.Argument.TheVariants as arguments
+use Rattle.fz_store.specs.declared.Store.{Store}
+use Rattle.fz_store.specs.Slots.{is_scalar, segment, slot_term}
+use Rattle.fz_store.specs.Parts.{argument_view, place_view, array_view, no_array}
 use Rattle.fz_kernel.specs.Arguments.{argument_is_given, array_slots, has_value_at, reading_in, reading_of, slot_is_given}
 use Rattle.fz_kernel.specs.Given.{slot_of, slots_in, has_value, is_given, are_given}
 use Rattle.fz_kernel.specs.Views.{slot_read}

@@ -10,5 +10,5 @@ pub mod Shapes
 pub mod Ready
 pub mod Sums
 pub mod Standing
-pub use Rattle.fz_data.proofs as of_data
-pub use Rattle.fz_data.proofs.of_meaning
+pub use Rattle.fz_store.proofs as of_store
+pub use Rattle.fz_store.proofs.of_meaning

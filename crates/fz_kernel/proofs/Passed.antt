@@ -1,7 +1,7 @@
 -- Tests of Booleans, one after another, and the element at an index.
 use Rattle.std.proofs.Common.{◌≡◌, ℕ, suc, zero, ◌+◌, ◌≤◌, ℤ, pos, negsuc, Bool, true, false, not, List, [], ◌∷◌, drop, length, filter, Some, None, slice_get, refl, sym, ap, ◌∙◌, arith, add-one}
 use Rattle.std.proofs.lemmas.Option.{slice_get_past}
-use Rattle.fz_data.specs.of_meaning.Relations.{is_odd, element_at}
+use Rattle.fz_store.specs.of_meaning.Relations.{is_odd, element_at}
 use Rattle.fz_kernel.proofs.Left.{next_is}
 
 -- ---- how many are true

@@ -5,20 +5,20 @@ use Rattle.std.proofs.Math.Bool.{and-true}
 use Rattle.std.specs.Prelude.{is_some}
 use Rattle.std.specs.List.{list_all}
 use Rattle.std.specs.Option.{option_map_or}
-use Rattle.fz_base.specs.declared.value.Value.{Value}
-use Rattle.fz_base.specs.declared.value.Value.TheVariants.{Int, Bool as Truth, Set}
-use Rattle.fz_data.specs.of_meaning.declared.kind.Kind.{Kind}
-use Rattle.fz_data.specs.of_meaning.declared.kind.Kind.TheVariants.{Int as IntKind, Bool as BoolKind, Set as SetKind}
-use Rattle.fz_data.specs.of_meaning.declared.term.Term.{Term}
-use Rattle.fz_data.specs.of_meaning.Relations.{kind_of, same_kind, option_cons}
-use Rattle.fz_data.specs.of_meaning.Builtins.{Shape, ArgValue, Test, Of, Plain, plain, plain_list, read, passes}
-use Rattle.fz_data.specs.of_meaning.Builtins.Shape.{ScalarOf, ArrayOf}
-use Rattle.fz_data.specs.of_meaning.Builtins.ArgValue.{OneValue, ManyValues}
-use Rattle.fz_data.specs.of_meaning.Meaning.{Argument, Place, Partial, value, values, terms_at, terms_in, argument_value, argument_values, has_shape, have_shapes, is_term_of}
-use Rattle.fz_data.specs.of_meaning.Meaning.Place.{Scalar, Array}
-use Rattle.fz_data.specs.of_meaning.Meaning.Argument.{One, ListOf}
-use Rattle.fz_data.proofs.of_meaning.Values.{no, no', and_first, and_second}
-use Rattle.fz_data.proofs.of_meaning.Steps.{option_cons_parts, map_some}
+use Rattle.fz_store.specs.of_meaning.of_base.declared.value.Value.{Value}
+use Rattle.fz_store.specs.of_meaning.of_base.declared.value.Value.TheVariants.{Int, Bool as Truth, Set}
+use Rattle.fz_store.specs.of_meaning.declared.kind.Kind.{Kind}
+use Rattle.fz_store.specs.of_meaning.declared.kind.Kind.TheVariants.{Int as IntKind, Bool as BoolKind, Set as SetKind}
+use Rattle.fz_store.specs.of_meaning.declared.term.Term.{Term}
+use Rattle.fz_store.specs.of_meaning.Relations.{kind_of, same_kind, option_cons}
+use Rattle.fz_store.specs.of_meaning.Builtins.{Shape, ArgValue, Test, Of, Plain, plain, plain_list, read, passes}
+use Rattle.fz_store.specs.of_meaning.Builtins.Shape.{ScalarOf, ArrayOf}
+use Rattle.fz_store.specs.of_meaning.Builtins.ArgValue.{OneValue, ManyValues}
+use Rattle.fz_store.specs.of_meaning.Meaning.{Argument, Place, Partial, value, values, terms_at, terms_in, argument_value, argument_values, has_shape, have_shapes, is_term_of}
+use Rattle.fz_store.specs.of_meaning.Meaning.Place.{Scalar, Array}
+use Rattle.fz_store.specs.of_meaning.Meaning.Argument.{One, ListOf}
+use Rattle.fz_store.proofs.of_meaning.Values.{no, no', and_first, and_second}
+use Rattle.fz_store.proofs.of_meaning.Steps.{option_cons_parts, map_some}
 use Rattle.fz_kernel.specs.Given.{slot_of, slot_in, slots_in, value_of, int_in, bool_in, set_in, int_of, bool_of, set_of_slot, given, given_from, given_values, is_read, argument_is_read, are_read, has_value, is_given, are_given}
 use Rattle.fz_kernel.proofs.Kept.{map-map}
 

@@ -2,9 +2,9 @@
 use Rattle.std.proofs.Common.{◌≡◌, ◌≢◌, ◌<◌, ◌+◌, min, get_or, drop, ℕ, suc, Bool, true, false, ◌&&◌, List, [], ◌∷◌, map, length, refl, sym, ap, ◌∙◌, arith}
 use Rattle.std.proofs.Math.Bool.{and-false}
 use Rattle.std.proofs.lemmas.List.{at_drop_more, at_drop_all}
-use Rattle.fz_data.specs.of_meaning.Meaning.{Partial}
-use Rattle.fz_data.specs.of_meaning.declared.row.Shape.{Shape}
-use Rattle.fz_data.specs.of_meaning.Known.{shape_of}
+use Rattle.fz_store.specs.of_meaning.Meaning.{Partial}
+use Rattle.fz_store.specs.of_meaning.declared.row.Shape.{Shape}
+use Rattle.fz_store.specs.of_meaning.Known.{shape_of}
 use Rattle.fz_kernel.specs.Arguments.{Reading, reading_is_read, readings_are_read}
 
 module _ {X : Type 0} (K : Partial) (view : X → Reading) where

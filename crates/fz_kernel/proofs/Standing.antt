@@ -2,12 +2,12 @@
 use Rattle.std.proofs.Common.{◌≡◌, ℕ, ◌&&◌, List, [], ◌∷◌, map, Option, Some, None, slice_get, option_map, refl, sym, ap, ◌∙◌}
 use Rattle.std.specs.Option.{option_map_or}
 use Rattle.std.proofs.lemmas.Option.{slice_get-map}
-use Rattle.fz_data.specs.of_meaning.Builtins.{Shape}
-use Rattle.fz_data.specs.of_meaning.Builtins.Shape.{ScalarOf, ArrayOf}
-use Rattle.fz_data.specs.of_meaning.Meaning as meaning
-use Rattle.fz_data.specs.of_meaning.Meaning.{Partial}
-use Rattle.fz_data.specs.Slots.{segment}
-use Rattle.fz_data.specs.declared.Argument.{Argument}
+use Rattle.fz_store.specs.of_meaning.Builtins.{Shape}
+use Rattle.fz_store.specs.of_meaning.Builtins.Shape.{ScalarOf, ArrayOf}
+use Rattle.fz_store.specs.of_meaning.Meaning as meaning
+use Rattle.fz_store.specs.of_meaning.Meaning.{Partial}
+use Rattle.fz_store.specs.Slots.{segment}
+use Rattle.fz_store.specs.declared.Argument.{Argument}
 use Rattle.fz_kernel.specs.declared.view.ArgumentView.{ArgumentView}
 use Rattle.fz_kernel.specs.Given.{slots_in, slots_at, are_read}
 use Rattle.fz_kernel.specs.Arguments.{Reading, argument_slots, reading_in, reading_of, elements_read, reading_is_read, readings_are_read}

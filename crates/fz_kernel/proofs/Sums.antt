@@ -6,22 +6,22 @@ use Rattle.std.proofs.Math.Nat.{pow-zero}
 use Rattle.std.proofs.Math.IntN.{+ℤ_idr, *ℤ-zero, zero-*ℤ}
 use Rattle.std.specs.List.{list_all, list_any}
 use Rattle.std.specs.Option.{option_map_or}
-use Rattle.fz_base.specs.declared.value.Value.{Value}
-use Rattle.fz_base.specs.declared.value.Value.TheVariants.{Int, Bool as Truth, Set}
-use Rattle.fz_data.specs.of_meaning.declared.kind.Kind.{Kind}
-use Rattle.fz_data.specs.of_meaning.declared.kind.Kind.TheVariants.{Int as IntKind}
-use Rattle.fz_data.specs.of_meaning.declared.term.Term.{Term}
-use Rattle.fz_data.specs.of_meaning.declared.row.Wide.{Wide}
-use Rattle.fz_data.specs.of_meaning.declared.row.Wide.TheVariants.{Products, Power}
-use Rattle.fz_data.specs.of_meaning.Builtins.{Shape, with_bool}
-use Rattle.fz_data.specs.of_meaning.Relations.{products}
-use Rattle.fz_data.specs.of_meaning.States.{fits_128, sums_from, leaves, leaves_128, is_unknown, known_products, number_at_argument, number_of_value, power_leaves, product_before, terms_at_argument}
-use Rattle.fz_data.specs.of_meaning.Builtins.Shape.{ScalarOf, ArrayOf}
-use Rattle.fz_data.specs.of_meaning.Builtins.ArgValue.{OneValue}
-use Rattle.fz_data.specs.of_meaning.Meaning.{Argument, Partial, value, as_int, number_at, has_shape, have_shapes}
-use Rattle.fz_data.specs.of_meaning.Meaning.Argument.{One, ListOf}
-use Rattle.fz_data.specs.of_meaning.Meaning.Place.{Scalar, Array}
-use Rattle.fz_data.proofs.of_meaning.Values.{no, and_both, and_first, and_second}
+use Rattle.fz_store.specs.of_meaning.of_base.declared.value.Value.{Value}
+use Rattle.fz_store.specs.of_meaning.of_base.declared.value.Value.TheVariants.{Int, Bool as Truth, Set}
+use Rattle.fz_store.specs.of_meaning.declared.kind.Kind.{Kind}
+use Rattle.fz_store.specs.of_meaning.declared.kind.Kind.TheVariants.{Int as IntKind}
+use Rattle.fz_store.specs.of_meaning.declared.term.Term.{Term}
+use Rattle.fz_store.specs.of_meaning.declared.row.Wide.{Wide}
+use Rattle.fz_store.specs.of_meaning.declared.row.Wide.TheVariants.{Products, Power}
+use Rattle.fz_store.specs.of_meaning.Builtins.{Shape, with_bool}
+use Rattle.fz_store.specs.of_meaning.Relations.{products}
+use Rattle.fz_store.specs.of_meaning.States.{fits_128, sums_from, leaves, leaves_128, is_unknown, known_products, number_at_argument, number_of_value, power_leaves, product_before, terms_at_argument}
+use Rattle.fz_store.specs.of_meaning.Builtins.Shape.{ScalarOf, ArrayOf}
+use Rattle.fz_store.specs.of_meaning.Builtins.ArgValue.{OneValue}
+use Rattle.fz_store.specs.of_meaning.Meaning.{Argument, Partial, value, as_int, number_at, has_shape, have_shapes}
+use Rattle.fz_store.specs.of_meaning.Meaning.Argument.{One, ListOf}
+use Rattle.fz_store.specs.of_meaning.Meaning.Place.{Scalar, Array}
+use Rattle.fz_store.proofs.of_meaning.Values.{no, and_both, and_first, and_second}
 use Rattle.fz_kernel.specs.Given.{int_at, int_in, ints_of, read_leaves, read_unknown, slots_at}
 use Rattle.fz_kernel.proofs.Ready.{slots_are_terms}
 

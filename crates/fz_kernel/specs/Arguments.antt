@@ -2,17 +2,17 @@
 use Rattle.std.specs.Prelude.{ℕ, Bool, true, false, ◌&&◌, List, [], ◌∷◌, map, Option, None, slice_get, is_some}
 use Rattle.std.specs.List.{list_all}
 use Rattle.std.specs.Option.{option_map_or}
-use Rattle.fz_data.specs.of_meaning.declared.term.Term.{Term}
-use Rattle.fz_data.specs.of_meaning.Builtins.{Shape}
-use Rattle.fz_data.specs.of_meaning.Builtins.Shape.{ScalarOf, ArrayOf}
-use Rattle.fz_data.specs.of_meaning.Meaning.{Argument, Partial, value_at}
-use Rattle.fz_data.specs.Slots.{segment}
-use Rattle.fz_data.specs.declared.parts.Array.{Array}
-use Rattle.fz_data.specs.declared.Slot.{Slot}
-use Rattle.fz_data.specs.declared.Slot.TheVariants as slots
-use Rattle.fz_data.specs.declared.Argument as kept
-use Rattle.fz_data.specs.declared.Argument.TheVariants as arguments
-use Rattle.fz_data.specs.declared.Store.{Store}
+use Rattle.fz_store.specs.of_meaning.declared.term.Term.{Term}
+use Rattle.fz_store.specs.of_meaning.Builtins.{Shape}
+use Rattle.fz_store.specs.of_meaning.Builtins.Shape.{ScalarOf, ArrayOf}
+use Rattle.fz_store.specs.of_meaning.Meaning.{Argument, Partial, value_at}
+use Rattle.fz_store.specs.Slots.{segment}
+use Rattle.fz_store.specs.declared.parts.Array.{Array}
+use Rattle.fz_store.specs.declared.Slot.{Slot}
+use Rattle.fz_store.specs.declared.Slot.TheVariants as slots
+use Rattle.fz_store.specs.declared.Argument as kept
+use Rattle.fz_store.specs.declared.Argument.TheVariants as arguments
+use Rattle.fz_store.specs.declared.Store.{Store}
 use Rattle.fz_kernel.specs.Given.{slot_in, slots_in, is_read}
 use Rattle.fz_kernel.specs.Views.{slot_read}
 

@@ -6,23 +6,23 @@ use Rattle.std.specs.List.{list_all}
 use Rattle.std.specs.Option.{option_map_or}
 use Rattle.std.specs.Int.{int_pow}
 use Rattle.std.specs.FinSet as sets
-use Rattle.fz_base.specs.Sets.{NumberSet}
-use Rattle.fz_base.specs.declared.value.Value.{Value}
-use Rattle.fz_base.specs.declared.value.Value.TheVariants.{Int, Bool as Truth, Set}
-use Rattle.fz_data.specs.of_meaning.declared.kind.Kind.{Kind}
-use Rattle.fz_data.specs.of_meaning.declared.kind.Kind.TheVariants.{Int as IntKind, Bool as BoolKind, Set as SetKind}
-use Rattle.fz_data.specs.of_meaning.declared.term.Term.{Term}
-use Rattle.fz_data.specs.of_meaning.Relations.{kind_of, same_kind, products}
-use Rattle.fz_data.specs.of_meaning.Builtins.{Shape, ArgValue}
-use Rattle.fz_data.specs.of_meaning.States.{fits_128, leaves_128}
-use Rattle.fz_data.specs.of_meaning.declared.row.Wide.{Wide}
-use Rattle.fz_data.specs.of_meaning.declared.row.Wide.TheVariants.{Products, Power}
-use Rattle.fz_data.specs.of_meaning.Builtins.Shape.{ScalarOf, ArrayOf}
-use Rattle.fz_data.specs.of_meaning.Builtins.ArgValue.{OneValue, ManyValues}
-use Rattle.fz_data.specs.Partial.{number_in, truth_in}
-use Rattle.fz_data.specs.of_meaning.Meaning.{Argument, Place, Partial, value, terms_in}
-use Rattle.fz_data.specs.of_meaning.Meaning.Place.{Scalar, Array}
-use Rattle.fz_data.specs.of_meaning.Meaning.Argument.{One, ListOf}
+use Rattle.fz_store.specs.of_meaning.of_syntax.Sets.{NumberSet}
+use Rattle.fz_store.specs.of_meaning.of_base.declared.value.Value.{Value}
+use Rattle.fz_store.specs.of_meaning.of_base.declared.value.Value.TheVariants.{Int, Bool as Truth, Set}
+use Rattle.fz_store.specs.of_meaning.declared.kind.Kind.{Kind}
+use Rattle.fz_store.specs.of_meaning.declared.kind.Kind.TheVariants.{Int as IntKind, Bool as BoolKind, Set as SetKind}
+use Rattle.fz_store.specs.of_meaning.declared.term.Term.{Term}
+use Rattle.fz_store.specs.of_meaning.Relations.{kind_of, same_kind, products}
+use Rattle.fz_store.specs.of_meaning.Builtins.{Shape, ArgValue}
+use Rattle.fz_store.specs.of_meaning.States.{fits_128, leaves_128}
+use Rattle.fz_store.specs.of_meaning.declared.row.Wide.{Wide}
+use Rattle.fz_store.specs.of_meaning.declared.row.Wide.TheVariants.{Products, Power}
+use Rattle.fz_store.specs.of_meaning.Builtins.Shape.{ScalarOf, ArrayOf}
+use Rattle.fz_store.specs.of_meaning.Builtins.ArgValue.{OneValue, ManyValues}
+use Rattle.fz_store.specs.Partial.{number_in, truth_in}
+use Rattle.fz_store.specs.of_meaning.Meaning.{Argument, Place, Partial, value, terms_in}
+use Rattle.fz_store.specs.of_meaning.Meaning.Place.{Scalar, Array}
+use Rattle.fz_store.specs.of_meaning.Meaning.Argument.{One, ListOf}
 
 -- ---- the scalars of arguments
 

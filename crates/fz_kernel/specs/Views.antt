@@ -1,14 +1,14 @@
 -- What an argument view stands for.
 use Rattle.std.specs.Prelude.{◌≡◌, ℤ, Bool, true, false, List, map, Option, Some, None}
-use Rattle.fz_base.specs.Sets.{NumberSet}
-use Rattle.fz_base.specs.declared.value.Value.{Value}
-use Rattle.fz_data.specs.of_meaning.declared.term.Term.{Term}
-use Rattle.fz_data.specs.of_meaning.Builtins.{Shape}
-use Rattle.fz_data.specs.of_meaning.Meaning as meaning
-use Rattle.fz_data.specs.declared.Slot.{Slot}
-use Rattle.fz_data.specs.declared.Slot.TheVariants as slots
-use Rattle.fz_data.specs.Parts.{constraint_view}
-use Rattle.fz_data.specs.Slots.{slot_term}
+use Rattle.fz_store.specs.of_meaning.of_syntax.Sets.{NumberSet}
+use Rattle.fz_store.specs.of_meaning.of_base.declared.value.Value.{Value}
+use Rattle.fz_store.specs.of_meaning.declared.term.Term.{Term}
+use Rattle.fz_store.specs.of_meaning.Builtins.{Shape}
+use Rattle.fz_store.specs.of_meaning.Meaning as meaning
+use Rattle.fz_store.specs.declared.Slot.{Slot}
+use Rattle.fz_store.specs.declared.Slot.TheVariants as slots
+use Rattle.fz_store.specs.Parts.{constraint_view}
+use Rattle.fz_store.specs.Slots.{slot_term}
 use Rattle.fz_kernel.specs.declared.elements.Elements.{Elements}
 use Rattle.fz_kernel.specs.declared.view.ArgumentView.{ArgumentView}
 use Rattle.fz_kernel.specs.declared.reading.Readiness.{Readiness}

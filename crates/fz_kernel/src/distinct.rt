@@ -2,7 +2,7 @@
 ghost use Rattle.std.specs.Prelude.{◌≡◌, ◌<◌, ◌≤◌, ◌-◌, pos, not, get_or, length};
 ghost use Rattle.std.specs.Ordering.{int_cmp};
 ghost use Rattle.std.specs.List.Sorted.{IsSorted};
-ghost use Rattle.fz_data.specs.of_meaning.Relations.{◌=ℤ◌, all_different};
+ghost use Rattle.fz_store.specs.of_meaning.Relations.{◌=ℤ◌, all_different};
 
 use crate::indices::all_between;
 

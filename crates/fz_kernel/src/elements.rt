@@ -1,8 +1,7 @@
 //! The elements of an array under a partial assignment.
 
 use crate::slots::{slot_int, slot_set, slot_truth, slots_are_read};
-use fz_base::{IntSet, Value};
-use fz_data::{Kind, Partial, Slot};
+use fz_store::{IntSet, Kind, Partial, Slot, Value};
 
 /// The elements of an array argument. Where one has no value of the kind that is asked for, a
 /// reading gives 0, false or the empty set.

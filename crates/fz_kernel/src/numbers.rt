@@ -1,8 +1,8 @@
 // Integers: the exact results of the builtins' arithmetic.
 ghost use Rattle.std.specs.Prelude.{◌≡◌, pos, ◌+ℤ◌, ◌*ℤ◌, true, false, int_div, int_rem, unsigned_abs, IfSome, IfNone};
 ghost use Rattle.std.specs.Int.{int_min, int_max, int_pow};
-ghost use Rattle.fz_data.specs.of_meaning.Relations.{as_number};
-ghost use Rattle.fz_data.specs.of_meaning.States.{fits_128};
+ghost use Rattle.fz_store.specs.of_meaning.Relations.{as_number};
+ghost use Rattle.fz_store.specs.of_meaning.States.{fits_128};
 
 use num_traits::checked_pow;
 

@@ -4,8 +4,7 @@ ghost use Rattle.std.specs.Prelude.{◌≡◌, Some, option_map};
 ghost use Rattle.std.specs.FinSet as sets;
 ghost use Rattle.fz_kernel.specs.Given.{bool_in, int_in, set_in};
 
-use fz_base::{IntSet, Value};
-use fz_data::{number_of, truth_of};
+use fz_store::{IntSet, Value, number_of, truth_of};
 
 /// Whether the arguments of a constraint can be read as its row asks: each scalar has a value of
 /// the kind; or each has a value, but one is of another kind; or one has none.

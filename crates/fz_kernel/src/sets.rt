@@ -1,8 +1,8 @@
 // Sets.
 ghost use Rattle.std.specs.Prelude.{◌≡◌};
-ghost use Rattle.fz_data.specs.of_meaning.Relations.{◌=ˢ◌};
+ghost use Rattle.fz_store.specs.of_meaning.Relations.{◌=ˢ◌};
 
-use fz_base::IntSet;
+use fz_store::IntSet;
 
 /// Whether the sets have the same elements.
 pub fn same_set(a: &IntSet, b: &IntSet) -> bool

@@ -3,14 +3,13 @@
 ghost use Rattle.std.specs.Prelude.{◌≡◌, Some};
 ghost use Rattle.std.specs.List.{list_all};
 ghost use Rattle.std.specs.FinSet as sets;
-ghost use Rattle.fz_data.specs.Partial.{number_in, truth_in};
-ghost use Rattle.fz_data.specs.Slots.{constant_at};
+ghost use Rattle.fz_store.specs.Partial.{number_in, truth_in};
+ghost use Rattle.fz_store.specs.Slots.{constant_at};
 ghost use Rattle.fz_kernel.specs.Given.{bool_of, int_of, is_read, set_in, set_of_slot};
 ghost use Rattle.fz_kernel.specs.Views.{slot_read};
 
 use crate::reading::{bool_in, int_in, set_in};
-use fz_base::{IntSet, Value};
-use fz_data::{Kind, Partial, Slot, kind_of, same_kind};
+use fz_store::{IntSet, Kind, Partial, Slot, Value, kind_of, same_kind};
 
 /// The number of a constant.
 #[inline(always)]

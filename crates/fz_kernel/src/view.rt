@@ -3,8 +3,7 @@
 use crate::elements::Elements;
 use crate::reading::Readiness;
 use crate::slots::{slot_int, slot_is_read, slot_set, slot_truth};
-use fz_base::{IntSet, Value};
-use fz_data::{Argument, ConstraintParts, Partial, Shape, Slot, part};
+use fz_store::{Argument, ConstraintParts, IntSet, Partial, Shape, Slot, Value, part};
 
 /// A constraint's arguments under a partial assignment.
 #[derive(Clone, Copy)]
@@ -16,8 +15,8 @@ pub struct ArgumentView<'s, 'a> {
 impl<'s, 'a> ArgumentView<'s, 'a> {
     ghost use Rattle.std.specs.Prelude.{◌≡◌, [], map, option_and_then};
     ghost use Rattle.std.specs.List.{list_all};
-    ghost use Rattle.fz_data.specs.of_meaning.Known.{shape_of};
-    ghost use Rattle.fz_data.specs.Parts.{constraint_view};
+    ghost use Rattle.fz_store.specs.of_meaning.Known.{shape_of};
+    ghost use Rattle.fz_store.specs.Parts.{constraint_view};
     ghost use Rattle.fz_kernel.specs.Arguments.{argument_is_given, argument_slots, array_slots, has_value_at, reading_in, reading_is_read, readings_are_read, slot_is_given};
     ghost use Rattle.fz_kernel.specs.Given.{are_given, are_read, bool_at, int_at, set_at, slot_at, slots_at};
     ghost use Rattle.fz_kernel.specs.Views.{IsReadiness, arguments_of, assigned, slot_read, slots_of, under};

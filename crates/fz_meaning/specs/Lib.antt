@@ -11,3 +11,4 @@ pub mod Known
 pub mod TableData
 pub mod States
 pub use Rattle.fz_syntax.specs as of_syntax
+pub use Rattle.fz_base.specs as of_base

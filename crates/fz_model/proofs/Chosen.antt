@@ -1,6 +1,6 @@
 -- What is left to an argument that may be filled is what fills it.
 use Rattle.std.proofs.Common.{◌≡◌, true, false, List, Option, None, Result as Answer, Ok, Err, IfOk, refl, sym, ◌∙◌}
-use Rattle.fz_base.specs.declared.value.Value.{Value}
+use Rattle.fz_builtins.specs.of_meaning.of_base.declared.value.Value.{Value}
 use Rattle.fz_builtins.specs.of_meaning.Builtins.{Row}
 use Rattle.fz_builtins.specs.of_meaning.Results.{result_of}
 use Rattle.fz_builtins.specs.of_meaning.Meaning.{Argument, Partial}

@@ -1,6 +1,6 @@
 -- One more value in a partial assignment, and what is forced of a point.
 use Rattle.std.proofs.Common.{◌≡◌, ℕ, zero, suc, ◌<◌, false, Bor, is_some, List, [], ◌∷◌, length, Option, Some, None, option_map, Result, Ok, Err, IfOk, IfSome, IsNone, slice_get, refl, sym, subst, arith}
-use Rattle.fz_base.specs.declared.value.Value.{Value}
+use Rattle.fz_builtins.specs.of_meaning.of_base.declared.value.Value.{Value}
 use Rattle.fz_builtins.specs.of_meaning.Meaning.{Model, Point, Partial, value_at}
 use Rattle.fz_builtins.specs.of_meaning.Steps.{Gives, GivesNothing, give}
 use Rattle.fz_builtins.proofs.of_meaning.Values.{no, no'}

@@ -1,7 +1,7 @@
 -- The values with which a row holds, where the only open scalar of its constraint is at a spot.
 use Rattle.std.proofs.Common.{◌≡◌, ℕ, zero, suc, ◌<◌, Bool, true, false, cond, List, [], ◌∷◌, length, flat_map, is_none, Option, Some, None, IsSomeAnd, IsTrue, slice_get, slice_set, Contains, refl, sym, ap, subst, ◌∙◌}
 use Rattle.std.specs.Option.{option_map_or}
-use Rattle.fz_base.specs.declared.value.Value.{Value}
+use Rattle.fz_builtins.specs.of_meaning.of_base.declared.value.Value.{Value}
 use Rattle.fz_builtins.specs.of_meaning.declared.kind.Kind.{Kind}
 use Rattle.fz_builtins.specs.of_meaning.declared.term.Term.{Term}
 use Rattle.fz_builtins.specs.of_meaning.declared.term.Term.TheVariants.{Var}

@@ -3,7 +3,7 @@
 use Rattle.std.proofs.Common.{◌≡◌, ℕ, zero, suc, ◌<◌, true, false, cond, List, [], ◌∷◌, flat_map, length, Option, Some, None, IfSome, option_map, slice_get, refl, sym, ap, ◌∙◌}
 use Rattle.std.specs.List.{AllByRecursion, list_all}
 use Rattle.std.specs.Option.{option_map_or}
-use Rattle.fz_base.specs.declared.value.Value.{Value}
+use Rattle.fz_builtins.specs.of_meaning.of_base.declared.value.Value.{Value}
 use Rattle.fz_builtins.specs.of_meaning.declared.kind.Kind.{Kind}
 use Rattle.fz_builtins.specs.of_meaning.declared.term.Term.{Term}
 use Rattle.fz_builtins.specs.of_meaning.declared.term.Term.TheVariants.{Var, Fixed}
@@ -19,7 +19,7 @@ use Rattle.fz_builtins.proofs.of_meaning.Steps.{is_open, only_open_none}
 use Rattle.fz_builtins.proofs.of_meaning.Values.{no, and_first, and_second, and_both}
 use Rattle.fz_builtins.specs.of_meaning.declared.known.Known.{Known}
 use Rattle.fz_builtins.specs.of_meaning.Known.{known_row}
-use Rattle.fz_builtins.specs.of_data.Kinds.{ArgumentFits, PostedFits, TermFits}
+use Rattle.fz_builtins.specs.of_store.Kinds.{ArgumentFits, PostedFits, TermFits}
 use Rattle.fz_model.proofs.ConstraintStates.{row_fits}
 use Rattle.fz_model.proofs.Valued.{same_as_itself, terms_of_kind}
 use Rattle.fz_model.specs.Forced.{Fills}

@@ -33,5 +33,6 @@ pub use Rattle.fz_builtins.proofs.of_meaning.States
 pub use Rattle.fz_builtins.proofs.of_meaning.Powers
 pub use Rattle.fz_builtins.proofs.of_meaning.Places
 pub use Rattle.fz_builtins.proofs.of_meaning.NamedKinds
-pub use Rattle.fz_builtins.proofs.of_data.Tabled
+pub use Rattle.fz_builtins.proofs.of_store.Tabled
 pub use Rattle.fz_builtins.proofs as of_builtins
+pub use Rattle.fz_builtins.proofs.of_meaning.of_base

@@ -4,7 +4,7 @@ use Rattle.std.proofs.lemmas.List.{append-nil as nothing_more, drop_all, drop_mo
 use Rattle.std.proofs.lemmas.List.Elements.{Contains-append_left, Contains-append_right}
 use Rattle.std.specs.List.{Contains}
 use Rattle.std.proofs.lemmas.Option.{get_or_from_slice_get, slice_get_within}
-use Rattle.fz_base.specs.declared.value.Value.{Value}
+use Rattle.fz_builtins.specs.of_meaning.of_base.declared.value.Value.{Value}
 use Rattle.fz_builtins.specs.of_meaning.declared.term.Term.{Term}
 use Rattle.fz_builtins.specs.of_meaning.declared.term.Term.TheVariants.{Var}
 use Rattle.fz_builtins.specs.of_meaning.Meaning.{Model, Partial, Posted, terms_in, value_at}
@@ -12,8 +12,8 @@ use Rattle.fz_builtins.specs.of_meaning.States.{terms_at_argument}
 use Rattle.fz_builtins.specs.of_meaning.Meaning.Point.{ConstraintPoint}
 use Rattle.fz_builtins.specs.of_meaning.Steps.{Gives, open_terms}
 use Rattle.fz_builtins.proofs.of_meaning.Steps.{filter-append, is_open, only_open_none}
-use Rattle.fz_builtins.specs.of_data.declared.Slot.{Slot}
-use Rattle.fz_builtins.specs.of_data.Slots.{slot_term}
+use Rattle.fz_builtins.specs.of_store.declared.Slot.{Slot}
+use Rattle.fz_builtins.specs.of_store.Slots.{slot_term}
 use Rattle.fz_model.specs.declared.only.Spot.{Spot}
 use Rattle.fz_model.specs.declared.only.Open.TheVariants.{Nothing, Other}
 use Rattle.fz_model.specs.declared.only.Opening.TheVariants.{Never, Waits}

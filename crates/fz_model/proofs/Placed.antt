@@ -2,7 +2,7 @@
 use Rattle.std.proofs.Common.{◌≡◌, ℕ, true, false, List, [], ◌∷◌, map, Option, Some, None, IsSomeAnd, IfSome, IsFalse, IsTrue, slice_get, refl, sym, subst, ◌∙◌}
 use Rattle.std.specs.List.{AllByRecursion, list_all}
 use Rattle.std.specs.Option.{option_map_or}
-use Rattle.fz_base.specs.declared.value.Value.{Value}
+use Rattle.fz_builtins.specs.of_meaning.of_base.declared.value.Value.{Value}
 use Rattle.fz_builtins.specs.of_meaning.Relations.{kind_of}
 use Rattle.fz_builtins.specs.of_meaning.declared.kind.Kind.{Kind}
 use Rattle.fz_builtins.specs.of_meaning.Builtins.{Shape, Row}
@@ -15,15 +15,15 @@ use Rattle.fz_builtins.specs.of_meaning.Meaning.Point.{ConstraintPoint}
 use Rattle.fz_builtins.specs.of_meaning.Steps.{Gives, IsResult, kind_at, give}
 use Rattle.fz_builtins.proofs.of_meaning.Values.{no, and_first, and_second}
 use Rattle.fz_builtins.proofs.of_meaning.States.{intro}
-use Rattle.fz_builtins.specs.of_data.declared.parts.Array.{Array}
-use Rattle.fz_builtins.specs.of_data.declared.Slot.{Slot}
-use Rattle.fz_builtins.specs.of_data.declared.Slot.TheVariants as slots
-use Rattle.fz_builtins.specs.of_data.declared.Argument.{Argument}
-use Rattle.fz_builtins.specs.of_data.declared.Argument.TheVariants as arguments
-use Rattle.fz_builtins.specs.of_data.declared.point.ConstraintParts.{ConstraintParts}
-use Rattle.fz_builtins.specs.of_data.Slots.{is_scalar, segment}
-use Rattle.fz_builtins.specs.of_data.Kinds.{PostedFits}
-use Rattle.fz_builtins.specs.of_data.Parts.{argument_view, place_view, array_view, no_array}
+use Rattle.fz_builtins.specs.of_store.declared.parts.Array.{Array}
+use Rattle.fz_builtins.specs.of_store.declared.Slot.{Slot}
+use Rattle.fz_builtins.specs.of_store.declared.Slot.TheVariants as slots
+use Rattle.fz_builtins.specs.of_store.declared.Argument.{Argument}
+use Rattle.fz_builtins.specs.of_store.declared.Argument.TheVariants as arguments
+use Rattle.fz_builtins.specs.of_store.declared.point.ConstraintParts.{ConstraintParts}
+use Rattle.fz_builtins.specs.of_store.Slots.{is_scalar, segment}
+use Rattle.fz_builtins.specs.of_store.Kinds.{PostedFits}
+use Rattle.fz_builtins.specs.of_store.Parts.{argument_view, place_view, array_view, no_array}
 use Rattle.fz_model.specs.Forced.{Fills, IsForced, IsOnlyValue}
 use Rattle.fz_model.specs.Openings.{IsFlat}
 use Rattle.fz_builtins.proofs.of_meaning.Partials.{has_place}

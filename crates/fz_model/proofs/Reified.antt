@@ -2,8 +2,8 @@
 use Rattle.std.proofs.Common.{◌≡◌, ℕ, suc, Bool, true, false, cond, List, [], ◌∷◌, ◌++◌, length, Some, refl, sym, ap, subst, ◌∙◌, slice_get, slice_set}
 use Rattle.std.specs.Prelude.{⊤}
 use Rattle.std.specs.List.{list_any}
-use Rattle.fz_base.specs.declared.value.Value.{Value}
-use Rattle.fz_base.specs.declared.value.Value.TheVariants.{Bool as Truth}
+use Rattle.fz_builtins.specs.of_meaning.of_base.declared.value.Value.{Value}
+use Rattle.fz_builtins.specs.of_meaning.of_base.declared.value.Value.TheVariants.{Bool as Truth}
 use Rattle.fz_builtins.specs.of_meaning.declared.kind.Kind.TheVariants.{Bool as BoolKind}
 use Rattle.fz_builtins.specs.of_meaning.Relations.{◌=ᴮ◌}
 use Rattle.fz_builtins.specs.of_meaning.Builtins.{Shape, Row, reified, with_bool, row_at}

@@ -3,10 +3,10 @@ use Rattle.std.proofs.Common.{◌⊎◌, length, ◌<◌, ◌≡◌, ℕ, ℤ, p
 use Rattle.std.specs.Prelude.{int_le}
 use Rattle.std.proofs.lemmas.Int.{ints}
 use Rattle.std.proofs.lemmas.Option.{same_Some}
-use Rattle.fz_base.specs.Sets.{NumberSet}
-use Rattle.fz_base.specs.Elements.{IsOnly}
-use Rattle.fz_base.specs.declared.value.Value.{Value}
-use Rattle.fz_base.specs.declared.value.Value.TheVariants.{Int}
+use Rattle.fz_builtins.specs.of_meaning.of_syntax.Sets.{NumberSet}
+use Rattle.fz_builtins.specs.of_meaning.of_base.Elements.{IsOnly}
+use Rattle.fz_builtins.specs.of_meaning.of_base.declared.value.Value.{Value}
+use Rattle.fz_builtins.specs.of_meaning.of_base.declared.value.Value.TheVariants.{Int}
 use Rattle.fz_builtins.specs.of_meaning.Relations.{kind_of}
 use Rattle.fz_builtins.specs.of_meaning.declared.kind.Kind.TheVariants.{Int as IntKind}
 use Rattle.fz_builtins.specs.of_meaning.declared.term.Term.{Term}

@@ -3,14 +3,14 @@ use Rattle.std.proofs.Common.{◌≡◌, ℕ, true, List, [], ◌∷◌, map, fl
 use Rattle.std.specs.List.{list_all}
 use Rattle.std.proofs.lemmas.Bool.{false≢true}
 use Rattle.std.proofs.lemmas.Option.{slice_get-map}
-use Rattle.fz_base.specs.declared.value.Value.{Value}
+use Rattle.fz_builtins.specs.of_meaning.of_base.declared.value.Value.{Value}
 use Rattle.fz_builtins.specs.of_meaning.Meaning.{terms_at}
-use Rattle.fz_builtins.specs.of_data.declared.parts.Variable.{Variable}
-use Rattle.fz_builtins.specs.of_data.declared.parts.Array.{Array}
-use Rattle.fz_builtins.specs.of_data.declared.Slot.{Slot}
-use Rattle.fz_builtins.specs.of_data.declared.Slot.TheVariants as slots
-use Rattle.fz_builtins.specs.of_data.Parts.{place_view}
-use Rattle.fz_builtins.specs.of_data.Slots.{is_scalar, slot_term}
+use Rattle.fz_builtins.specs.of_store.declared.parts.Variable.{Variable}
+use Rattle.fz_builtins.specs.of_store.declared.parts.Array.{Array}
+use Rattle.fz_builtins.specs.of_store.declared.Slot.{Slot}
+use Rattle.fz_builtins.specs.of_store.declared.Slot.TheVariants as slots
+use Rattle.fz_builtins.specs.of_store.Parts.{place_view}
+use Rattle.fz_builtins.specs.of_store.Slots.{is_scalar, slot_term}
 
 -- ---- a list that is mapped
 

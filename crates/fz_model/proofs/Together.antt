@@ -6,9 +6,9 @@ use Rattle.std.proofs.lemmas.List.Folds.{list_all-append, list_all_at, list_all_
 use Rattle.std.proofs.lemmas.Option.{get_or_from_slice_get, same_Some, slice_get-map, slice_get_within}
 use Rattle.fz_builtins.specs.of_meaning.Meaning.{Model, Partial, Point, Posted, constraint_points, declared_points, numbered, points, row_of}
 use Rattle.fz_builtins.proofs.of_meaning.Values.{and_both}
-use Rattle.fz_builtins.specs.of_data.declared.parts.Posted as the_posted
-use Rattle.fz_builtins.specs.of_data.declared.point.Constraints.{Constraints}
-use Rattle.fz_builtins.specs.of_data.Parts.{kept_row, posted_view}
+use Rattle.fz_builtins.specs.of_store.declared.parts.Posted as the_posted
+use Rattle.fz_builtins.specs.of_store.declared.point.Constraints.{Constraints}
+use Rattle.fz_builtins.specs.of_store.Parts.{kept_row, posted_view}
 use Rattle.fz_model.specs.Holding.{point_holds, posted_holds}
 
 -- ---- one after another

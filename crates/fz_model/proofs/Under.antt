@@ -3,7 +3,7 @@
 use Rattle.std.proofs.Common.{◌≡◌, ℕ, zero, suc, Bool, true, false, not, ◌||◌, cond, List, [], ◌∷◌, Option, Some, None, refl, sym, ap, subst, ◌∙◌, option_and_then, option_map, slice_get, IsTrue, ◌⊎◌, inl, inr, IsSomeAnd}
 use Rattle.std.specs.List.{AllByRecursion, list_any}
 use Rattle.std.specs.Option.{option_map_or}
-use Rattle.fz_base.specs.declared.value.Value.{Value}
+use Rattle.fz_builtins.specs.of_meaning.of_base.declared.value.Value.{Value}
 use Rattle.fz_builtins.specs.of_meaning.declared.state.State.TheVariants.{Fails, Unknown}
 use Rattle.fz_builtins.specs.of_meaning.declared.term.Term.{Term}
 use Rattle.fz_builtins.specs.of_meaning.declared.term.Term.TheVariants.{Var, Fixed}

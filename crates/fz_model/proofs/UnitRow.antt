@@ -1,6 +1,6 @@
 -- What `int_lin_eq` leaves to one element of its sum.
 use Rattle.std.proofs.Common.{◌≡◌, ℕ, suc, zero, ℤ, pos, ◌+ℤ◌, ◌*ℤ◌, List, [], ◌∷◌, map, Option, Some, refl, sym, ap, ◌∙◌, option_map, slice_get, slice_set}
-use Rattle.fz_base.specs.declared.value.Value.TheVariants.{Int}
+use Rattle.fz_builtins.specs.of_meaning.of_base.declared.value.Value.TheVariants.{Int}
 use Rattle.fz_builtins.specs.of_meaning.declared.kind.Kind.TheVariants.{Int as IntKind}
 use Rattle.fz_builtins.specs.of_meaning.Relations.{◌=ℤ◌, total, products}
 use Rattle.fz_builtins.specs.of_meaning.Builtins.{plain_list, row_at}

@@ -5,7 +5,7 @@ use Rattle.std.specs.List.{AllByRecursion, list_all}
 use Rattle.std.specs.Option.{option_map_or}
 use Rattle.std.proofs.Math.Bool.{and-false, and-true}
 use Rattle.std.proofs.lemmas.List.{at_drop_more, at_drop_all}
-use Rattle.fz_base.specs.declared.value.Value.{Value}
+use Rattle.fz_builtins.specs.of_meaning.of_base.declared.value.Value.{Value}
 use Rattle.fz_builtins.specs.of_meaning.declared.kind.Kind.{Kind}
 use Rattle.fz_builtins.specs.of_meaning.declared.kind.Kind.TheVariants.{Int as IntKind, Bool as BoolKind, Set as SetKind}
 use Rattle.fz_builtins.specs.of_meaning.declared.term.Term.{Term}
@@ -25,9 +25,9 @@ use Rattle.fz_builtins.specs.of_meaning.Meaning.Argument.{One, ListOf}
 use Rattle.fz_builtins.proofs.of_meaning.Lists.{all_append}
 use Rattle.fz_builtins.proofs.of_meaning.Scope.{same_kind_is}
 use Rattle.fz_builtins.proofs.of_meaning.Values.{no, and_first, and_second}
-use Rattle.fz_builtins.specs.of_data.declared.parts.Variable.{Variable}
-use Rattle.fz_builtins.specs.of_data.Kinds.{TermFits, PlaceFits, ArgumentFits, PostedFits}
-use Rattle.fz_builtins.specs.of_data.Parts.{variable_view}
+use Rattle.fz_builtins.specs.of_store.declared.parts.Variable.{Variable}
+use Rattle.fz_builtins.specs.of_store.Kinds.{TermFits, PlaceFits, ArgumentFits, PostedFits}
+use Rattle.fz_builtins.specs.of_store.Parts.{variable_view}
 use Rattle.fz_builtins.specs.of_kernel.Given.{is_read, argument_is_read, are_read}
 use Rattle.fz_builtins.proofs.of_kernel.Ready.{slots_are_terms}
 use Rattle.fz_model.specs.Holding.{is_held, point_holds}

@@ -1,7 +1,7 @@
 -- The step of a point by any result of its row, whatever `defines_var` names: the contract of
 -- `forced_any` cites `GivesAny` and `GivesNone` (this project's profile).
 use Rattle.std.specs.Prelude.{ℕ, Some}
-use Rattle.fz_base.specs.declared.value.Value.{Value}
+use Rattle.fz_builtins.specs.of_meaning.of_base.declared.value.Value.{Value}
 use Rattle.fz_builtins.specs.of_meaning.Meaning.{Model, Partial, Point, Posted}
 use Rattle.fz_builtins.specs.of_meaning.Meaning.Point.{DomainPoint, DefinitionPoint, ArrayPoint, ConstraintPoint}
 use Rattle.fz_builtins.specs.of_meaning.Steps.{Gives}

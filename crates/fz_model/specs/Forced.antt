@@ -1,7 +1,7 @@
 -- What a point forces. The contract of `only_number` cites `IsOnlyNumber`, and those of `forced` and
 -- `forced_any` cite `Gives` and `GivesAny` alone; the rest is for private functions.
 use Rattle.std.specs.Prelude.{◌≡◌, ℕ, ℤ, ◌<◌, ◌↔◌, true, false, slice_get, List, [], ◌∷◌, length, flat_map, Option, Some, None, IsTrue, IsSomeAnd}
-use Rattle.fz_base.specs.declared.value.Value.{Value}
+use Rattle.fz_builtins.specs.of_meaning.of_base.declared.value.Value.{Value}
 use Rattle.fz_builtins.specs.of_meaning.Relations.{kind_of}
 use Rattle.fz_builtins.specs.of_meaning.declared.term.Domain.{Domain}
 use Rattle.fz_builtins.specs.of_meaning.Builtins.{Row}

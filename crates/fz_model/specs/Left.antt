@@ -2,8 +2,8 @@
 -- (this project's profile).
 use Rattle.std.specs.Prelude.{◌≡◌, ℕ, ℤ, pos, negsuc, Bool, true, false, List, Option, Some, None, IsTrue, FitsSigned, map, slice_get, slice_set, Contains, IsSomeAnd, ◌⊎◌}
 use Rattle.std.specs.Int.{w64}
-use Rattle.fz_base.specs.declared.value.Value.{Value}
-use Rattle.fz_base.specs.declared.value.Value.TheVariants.{Int}
+use Rattle.fz_builtins.specs.of_meaning.of_base.declared.value.Value.{Value}
+use Rattle.fz_builtins.specs.of_meaning.of_base.declared.value.Value.TheVariants.{Int}
 use Rattle.fz_builtins.specs.of_meaning.declared.kind.Kind.{Kind}
 use Rattle.fz_builtins.specs.of_meaning.Relations.{kind_of}
 use Rattle.fz_builtins.specs.of_meaning.Builtins.{Shape, Row}

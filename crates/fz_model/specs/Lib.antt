@@ -14,12 +14,13 @@ pub use Rattle.fz_builtins.specs.of_meaning.Names
 pub use Rattle.fz_builtins.specs.of_meaning.View
 pub use Rattle.fz_builtins.specs.of_meaning.Steps
 pub use Rattle.fz_builtins.specs.of_meaning.Laws
-pub use Rattle.fz_builtins.specs.of_data.Slots
-pub use Rattle.fz_builtins.specs.of_data.Parts
-pub use Rattle.fz_builtins.specs.of_data.Shown
-pub use Rattle.fz_builtins.specs.of_data.Partial
-pub use Rattle.fz_builtins.specs.of_data.Kinds
-pub use Rattle.fz_builtins.specs.of_data.Texts
+pub use Rattle.fz_builtins.specs.of_store.Slots
+pub use Rattle.fz_builtins.specs.of_store.Parts
+pub use Rattle.fz_builtins.specs.of_store.Shown
+pub use Rattle.fz_builtins.specs.of_store.Partial
+pub use Rattle.fz_builtins.specs.of_store.Kinds
+pub use Rattle.fz_data.specs.Texts
 pub use Rattle.fz_builtins.specs.of_meaning.Relations
 pub use Rattle.fz_builtins.specs.of_meaning.States
 pub use Rattle.fz_builtins.specs as of_builtins
+pub use Rattle.fz_builtins.specs.of_meaning.of_base

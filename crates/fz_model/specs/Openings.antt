@@ -3,18 +3,18 @@
 -- functions: the scalars of an argument, and which of them have no value.
 use Rattle.std.specs.Prelude.{◌≡◌, ℕ, true, List, [], ◌∷◌, Option, None, Some, flat_map, map, slice_get, ⊤, ◌⊎◌}
 use Rattle.std.specs.List.{Contains, list_all}
-use Rattle.fz_base.specs.declared.value.Value.{Value}
+use Rattle.fz_builtins.specs.of_meaning.of_base.declared.value.Value.{Value}
 use Rattle.fz_builtins.specs.of_meaning.declared.term.Term.{Term}
 use Rattle.fz_builtins.specs.of_meaning.declared.term.Term.TheVariants.{Var}
 use Rattle.fz_builtins.specs.of_meaning.Meaning.{Model, Partial, Posted, row_of, terms_in, value_at}
 use Rattle.fz_builtins.specs.of_meaning.States.{terms_at_argument}
 use Rattle.fz_builtins.specs.of_meaning.Meaning.Point.{ConstraintPoint}
 use Rattle.fz_builtins.specs.of_meaning.Steps.{GivesNothing, open_terms}
-use Rattle.fz_builtins.specs.of_data.declared.Argument.{Argument}
-use Rattle.fz_builtins.specs.of_data.declared.Argument.TheVariants as arguments
-use Rattle.fz_builtins.specs.of_data.declared.point.ConstraintParts.{ConstraintParts}
-use Rattle.fz_builtins.specs.of_data.Parts.{argument_view}
-use Rattle.fz_builtins.specs.of_data.Slots.{is_scalar, segment}
+use Rattle.fz_builtins.specs.of_store.declared.Argument.{Argument}
+use Rattle.fz_builtins.specs.of_store.declared.Argument.TheVariants as arguments
+use Rattle.fz_builtins.specs.of_store.declared.point.ConstraintParts.{ConstraintParts}
+use Rattle.fz_builtins.specs.of_store.Parts.{argument_view}
+use Rattle.fz_builtins.specs.of_store.Slots.{is_scalar, segment}
 use Rattle.fz_model.specs.declared.only.Open.{Open}
 use Rattle.fz_model.specs.declared.only.Open.TheVariants.{Nothing, Target, Other}
 use Rattle.fz_model.specs.declared.only.Opening.{Opening}

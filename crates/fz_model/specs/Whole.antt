@@ -1,7 +1,7 @@
 -- Where every variable has a value of its kind inside its domain, and which tests needn't be made
 -- then. Only private functions use these, but for `is_domain`, which `IsOverview` cites.
 use Rattle.std.specs.Prelude.{◌≡◌, Bool, true, false, ◌&&◌, List, [], ◌∷◌, Option, Some, None}
-use Rattle.fz_base.specs.declared.value.Value.{Value}
+use Rattle.fz_builtins.specs.of_meaning.of_base.declared.value.Value.{Value}
 use Rattle.fz_builtins.specs.of_meaning.declared.kind.Kind.{Kind}
 use Rattle.fz_builtins.specs.of_meaning.Relations.{kind_of, same_kind}
 use Rattle.fz_builtins.specs.of_meaning.Builtins.{Row, Shape}

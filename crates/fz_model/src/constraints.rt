@@ -5,7 +5,7 @@ ghost use Rattle.std.specs.List.{list_any};
 ghost use Rattle.fz_builtins.specs.of_meaning.Meaning.{have_shapes, row_of};
 ghost use Rattle.fz_builtins.specs.of_meaning.States.{state_of_row};
 ghost use Rattle.fz_builtins.specs.of_meaning.Known.{known_row};
-ghost use Rattle.fz_builtins.specs.of_data.Parts.{constraint_view};
+ghost use Rattle.fz_builtins.specs.of_store.Parts.{constraint_view};
 ghost use Rattle.fz_builtins.specs.of_kernel.Given.{are_read, read_unknown};
 ghost use Rattle.fz_builtins.specs.of_kernel.Views.{arguments_of, assigned};
 ghost use Rattle.fz_builtins.specs.Outcomes.{outcome_beyond, reads_beyond, row_outcome, told};

@@ -6,12 +6,11 @@ ghost use Rattle.std.specs.FinSet as sets;
 ghost use Rattle.fz_builtins.specs.of_meaning.declared.state.State.TheVariants.{Fails};
 ghost use Rattle.fz_builtins.specs.of_meaning.Meaning.{admits, inside, values};
 ghost use Rattle.fz_builtins.specs.of_meaning.States.{both, is_outside, judged, judged_by, same_value};
-ghost use Rattle.fz_builtins.specs.of_data.Shown.{scalar_terms};
-ghost use Rattle.fz_builtins.specs.of_data.Slots.{scalar_term, slot_term};
+ghost use Rattle.fz_builtins.specs.of_store.Shown.{scalar_terms};
+ghost use Rattle.fz_builtins.specs.of_store.Slots.{scalar_term, slot_term};
 ghost use Rattle.fz_builtins.specs.of_kernel.Given.{has_value};
 
-use fz_base::{IntSet, Value};
-use fz_builtins::{Domain, Partial, Scalar, Scalars, State, scalar_at};
+use fz_builtins::{Domain, IntSet, Partial, Scalar, Scalars, State, Value, scalar_at};
 
 fn judged(holds: bool) -> State
     ensures { result ≡ judged holds }

@@ -4,7 +4,7 @@ ghost use Rattle.std.specs.Prelude.{◌≡◌, ◌<◌, IfOk, length, option_map
 ghost use Rattle.std.specs.List.{AllByRecursion, list_all};
 ghost use Rattle.fz_builtins.specs.of_meaning.Known.{known_row};
 ghost use Rattle.fz_builtins.specs.of_meaning.Meaning.{points, row_of, variables_of};
-ghost use Rattle.fz_builtins.specs.of_data.Parts.{constraint_view};
+ghost use Rattle.fz_builtins.specs.of_store.Parts.{constraint_view};
 ghost use Rattle.fz_model.specs.Holding.{is_held, point_holds, posted_holds};
 ghost use Rattle.fz_model.specs.Overviews.{IsOverview, holds_at};
 ghost use Rattle.fz_model.specs.Whole.{IsReady, lie_inside};

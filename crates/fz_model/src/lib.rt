@@ -1,9 +1,9 @@
 //! Models of FlatZinc: what they mean, loading them, and what a point says under a partial
 //! assignment. It also offers what the crates above use of its internal ones: `fz_meaning` has the
-//! definitions, the table of builtins and the laws, and `fz_data` the loaded model; `fz_kernel`
-//! reads the arguments of a constraint, and has the relations of the builtins, `fz_globals` and
-//! `fz_scheduling` those of the global constraints; `fz_builtins` tells whether a row of THE TABLE
-//! holds.
+//! definitions, the table of builtins and the laws, `fz_store` the loaded model, and `fz_data` loads
+//! it; `fz_kernel` reads the arguments of a constraint, and has the relations of the builtins,
+//! `fz_globals` and `fz_scheduling` those of the global constraints; `fz_builtins` tells whether a
+//! row of THE TABLE holds.
 //!
 //! The state of a point: whether a domain, a definition or a constraint holds, fails or cannot be
 //! told (`state`); and whether all points hold (`all_hold`), which an `Overview` of the model makes
@@ -33,11 +33,12 @@ mod value;
 mod whole;
 
 pub use fz_builtins::{
-    Argument, ArgumentView, Builtin, ConstraintParts, Domain, Form, Found, Goal, Kind, Known,
-    LoadError, Model, ModelError, Partial, Point, PointParts, Posted, Readiness, Scalar, Scalars,
-    Slot, State, Term, Variable, What, Wide, all_true, any_false, any_true, control_index, kind_of,
-    literal_kind, literal_value, load, load_text, part, same_kind, scalar_at,
+    Argument, ArgumentView, Builtin, ConstraintParts, Domain, Form, Found, Goal, IntSet, Kind,
+    Known, Model, ModelError, Partial, Point, PointParts, Posted, Readiness, Scalar, Scalars, Slot,
+    State, Term, Value, Variable, What, Wide, all_true, any_false, any_true, control_index,
+    kind_of, part, same_kind, scalar_at,
 };
+pub use fz_data::{LoadError, literal_kind, literal_value, load, load_text};
 pub use holding::{all_hold, is_held};
 pub use only::{Opening, Spot, opening_of};
 pub use overview::Overview;

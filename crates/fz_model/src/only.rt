@@ -2,11 +2,11 @@
 
 ghost use Rattle.std.specs.Prelude.{◌≡◌, ◌∷◌, [], List, flat_map, map};
 ghost use Rattle.std.specs.List.{AllByRecursion};
-ghost use Rattle.fz_base.specs.declared.value.Value.{Value};
+ghost use Rattle.fz_builtins.specs.of_meaning.of_base.declared.value.Value.{Value};
 ghost use Rattle.fz_builtins.specs.of_meaning.Meaning.{row_of, terms_at, terms_in};
 ghost use Rattle.fz_builtins.specs.of_meaning.declared.term.Term.TheVariants.{Var};
-ghost use Rattle.fz_builtins.specs.of_data.Parts.{constraint_view, kept_row, place_view};
-ghost use Rattle.fz_builtins.specs.of_data.Slots.{slot_term};
+ghost use Rattle.fz_builtins.specs.of_store.Parts.{constraint_view, kept_row, place_view};
+ghost use Rattle.fz_builtins.specs.of_store.Slots.{slot_term};
 ghost use Rattle.fz_builtins.specs.of_meaning.Steps.{open_terms};
 ghost use Rattle.fz_model.specs.Openings.{AreOpen, IsFlat, IsOpenIn, IsOpening, posted_with, terms_of};
 

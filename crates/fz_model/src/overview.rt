@@ -3,7 +3,7 @@
 
 ghost use Rattle.std.specs.Prelude.{◌≡◌, ◌≤◌, IfOk, length, take};
 ghost use Rattle.fz_builtins.specs.of_meaning.Meaning.{points};
-ghost use Rattle.fz_builtins.specs.of_data.Shown.{point_view};
+ghost use Rattle.fz_builtins.specs.of_store.Shown.{point_view};
 ghost use Rattle.fz_model.specs.Overviews.{IsOverview, others_from};
 ghost use Rattle.fz_model.specs.Whole.{is_domain};
 

@@ -4,8 +4,8 @@ ghost use Rattle.std.specs.Prelude.{◌≡◌, ◌<◌, IfOk, Some, length, opti
 ghost use Rattle.fz_builtins.specs.of_meaning.Known.{known_row};
 ghost use Rattle.fz_builtins.specs.of_meaning.Meaning.{Point, points, row_of};
 ghost use Rattle.fz_builtins.specs.of_meaning.States.{state};
-ghost use Rattle.fz_builtins.specs.of_data.Parts.{constraint_view};
-ghost use Rattle.fz_builtins.specs.of_data.Shown.{IfConstraint, point_view};
+ghost use Rattle.fz_builtins.specs.of_store.Parts.{constraint_view};
+ghost use Rattle.fz_builtins.specs.of_store.Shown.{IfConstraint, point_view};
 
 use crate::constraints::of_constraint;
 use crate::domains::{of_definition, of_domain, of_elements};

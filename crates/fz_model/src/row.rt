@@ -1,14 +1,14 @@
 //! What a constraint forces by its row of the table.
 
 ghost use Rattle.std.specs.Prelude.{◌≡◌, ◌↔◌, IfOk, IfSome, IsTrue, Some, option_map, true};
-ghost use Rattle.fz_base.specs.declared.value.Value.TheVariants.{Int};
+ghost use Rattle.fz_builtins.specs.of_meaning.of_base.declared.value.Value.TheVariants.{Int};
 ghost use Rattle.fz_builtins.specs.of_meaning.Results.Result.{UnitTerm};
 ghost use Rattle.fz_builtins.specs.of_meaning.Results.{result_of};
 ghost use Rattle.fz_builtins.specs.of_meaning.Meaning.{IsPartial, Model as Meaning, row_of};
 ghost use Rattle.fz_builtins.specs.of_meaning.Meaning.Point.{ConstraintPoint};
 ghost use Rattle.fz_builtins.specs.of_meaning.Known.{as_result, known_row};
-ghost use Rattle.fz_builtins.specs.of_data.Kinds.{PostedFits};
-ghost use Rattle.fz_builtins.specs.of_data.Parts.{constraint_view};
+ghost use Rattle.fz_builtins.specs.of_store.Kinds.{PostedFits};
+ghost use Rattle.fz_builtins.specs.of_store.Parts.{constraint_view};
 ghost use Rattle.fz_builtins.specs.of_kernel.Views.{arguments_of, assigned};
 ghost use Rattle.fz_model.specs.Left.{HasUnit, IsPlaceOf};
 ghost use Rattle.fz_model.specs.Forced.{IsForced, IsForcedAny, IsOnlyValue, IsReady, IsRow};
@@ -17,8 +17,7 @@ ghost use Rattle.fz_model.specs.KindsFit.{each_fits};
 use crate::only::{Opening, Spot, open_in_row, opening_of};
 use crate::unit::unit_value;
 use crate::value::left_value;
-use fz_base::Value;
-use fz_builtins::{ArgumentView, ConstraintParts, Filled, Known, Partial, Posted};
+use fz_builtins::{ArgumentView, ConstraintParts, Filled, Known, Partial, Posted, Value};
 use std::alloc::{AllocError, Global};
 
 /// What a constraint forces: the value that its row leaves to its defined variable, where that is

@@ -5,13 +5,14 @@ ghost use Rattle.fz_builtins.specs.of_meaning.Meaning.{IsPartial, Model as Meani
 ghost use Rattle.fz_builtins.specs.of_meaning.Meaning.Point.{DefinitionPoint, DomainPoint};
 ghost use Rattle.fz_builtins.specs.of_meaning.Steps.{Gives, GivesNothing, kind_at};
 ghost use Rattle.fz_builtins.specs.of_meaning.declared.kind.Kind.TheVariants.{Int as IntKind};
-ghost use Rattle.fz_builtins.specs.of_data.Parts.{variable_view};
+ghost use Rattle.fz_builtins.specs.of_store.Parts.{variable_view};
 ghost use Rattle.fz_model.specs.Aimed.{GivesAny, GivesNone};
 ghost use Rattle.fz_model.specs.Forced.{IsFitting, IsForced, IsOnlyNumber};
 
 use crate::row::{by_any_result, by_row};
-use fz_base::Value;
-use fz_builtins::{Domain, Kind, Model, Partial, PointParts, Term, Variable, kind_of, same_kind};
+use fz_builtins::{
+    Domain, Kind, Model, Partial, PointParts, Term, Value, Variable, kind_of, same_kind,
+};
 use std::alloc::{AllocError, Global};
 
 /// The forced step of the point of a number: the variable's number and the value that the point

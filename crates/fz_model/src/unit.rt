@@ -1,7 +1,7 @@
 //! What `int_lin_eq` leaves to one element of its sum.
 
 ghost use Rattle.std.specs.Prelude.{◌≡◌, None, IsFalse, IsTrue, option_map};
-ghost use Rattle.fz_base.specs.declared.value.Value.TheVariants.{Int};
+ghost use Rattle.fz_builtins.specs.of_meaning.of_base.declared.value.Value.TheVariants.{Int};
 ghost use Rattle.fz_builtins.specs.of_meaning.declared.kind.Kind.TheVariants.{Int as IntKind};
 ghost use Rattle.fz_builtins.specs.of_kernel.Views.{arguments_of, assigned};
 ghost use Rattle.fz_builtins.specs.of_meaning.Builtins.{row_at};

@@ -1,12 +1,11 @@
 //! Whether an assignment gives every variable a value of its kind inside its domain.
 
 ghost use Rattle.std.specs.Prelude.{◌≡◌, map};
-ghost use Rattle.fz_builtins.specs.of_data.Parts.{variable_view};
+ghost use Rattle.fz_builtins.specs.of_store.Parts.{variable_view};
 ghost use Rattle.fz_model.specs.Whole.{lie_inside, lies_inside};
 
 use crate::domains::is_inside;
-use fz_base::Value;
-use fz_builtins::{Variable, kind_of, same_kind};
+use fz_builtins::{Value, Variable, kind_of, same_kind};
 
 /// Whether there is a value, it is of the variable's kind, and it lies in the variable's domain.
 #[inline]

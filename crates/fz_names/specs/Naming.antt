@@ -1,7 +1,7 @@
 -- What declared names stand for, and how the table of names stores it (private functions only).
 use Rattle.std.specs.Prelude.{ℕ, ◌<◌, Bool, List, ⊤, bytes_eq, slice_get, pos, length}
 use Rattle.std.specs.Option.{option_map_or}
-use Rattle.fz_base.specs.declared.value.Value.TheVariants.{Int}
+use Rattle.fz_meaning.specs.of_base.declared.value.Value.TheVariants.{Int}
 use Rattle.fz_meaning.specs.declared.term.Term.{Term}
 use Rattle.fz_meaning.specs.declared.term.Term.TheVariants.{Var, Fixed}
 use Rattle.fz_names.specs.declared.names.Entry.{Entry}

@@ -15,8 +15,7 @@ ghost use Rattle.fz_names.specs.Naming.{has_text, standing_view, stands_for, IsA
 ghost use Rattle.fz_names.specs.Numbered.{IsNumbered};
 
 use crate::numbered::Numbered;
-use fz_base::Value;
-use fz_meaning::Term;
+use fz_meaning::{Term, Value};
 use indexmap::{Equivalent, IndexSet};
 use std::alloc::{AllocError, Global};
 use std::hash::{BuildHasherDefault, Hash, Hasher};
@@ -136,7 +135,7 @@ pub struct Names<'a> {
 impl<'a> std::marker::Model for Names<'a> {
     ghost use Rattle.std.specs.Prelude.{ℕ, List};
     ghost use Rattle.fz_names.specs.Naming.{Declared};
-    ghost use Rattle.fz_base.specs.contracts.sets.IntSet as the_set;
+    ghost use Rattle.fz_meaning.specs.of_base.contracts.sets.IntSet as the_set;
     ghost use Rattle.std.specs.Coded.{codes};
 
     ghost Value = { List (List ℕ × Declared) };

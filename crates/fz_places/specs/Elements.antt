@@ -5,7 +5,7 @@
 use Rattle.std.specs.Prelude.{ℕ, ℤ, pos, ◌+ℤ◌, ◌/◌, ◌%◌, ◌==◌, Bool, false, cond, List, [], ◌∷◌, Option, Some, None, bytes_eq, codes, option_map}
 use Rattle.std.specs.List.{position_from}
 use Rattle.std.specs.Option.{option_and_then}
-use Rattle.fz_base.specs.Sets.{count_between}
+use Rattle.fz_meaning.specs.of_syntax.Sets.{count_between}
 use Rattle.fz_meaning.specs.Meaning.{first_some}
 use Rattle.fz_meaning.specs.of_syntax.Tree.{Basic, Decl, Expr, NoteArg, NoteBasic, NoteBasics}
 use Rattle.fz_meaning.specs.of_syntax.Tree.Literal.{Range}

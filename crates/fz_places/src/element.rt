@@ -4,7 +4,7 @@ ghost use Rattle.std.specs.Prelude.{◌≡◌, FitsSigned, IfOk, IfSome, map, op
 ghost use Rattle.std.specs.Int.{w64};
 ghost use Rattle.std.specs.List.{position_from};
 ghost use Rattle.std.specs.Option.{option_and_then};
-ghost use Rattle.fz_base.specs.Sets.{count_between};
+ghost use Rattle.fz_meaning.specs.of_syntax.Sets.{count_between};
 ghost use Rattle.fz_meaning.specs.Meaning.{first_some};
 ghost use Rattle.fz_meaning.specs.of_syntax.View.{bare_arg, bare_basic, bare_decl, bare_expression, bare_expressions, bare_value, basic_list};
 ghost use Rattle.fz_places.specs.Elements.{element_in, element_view, elements_of, index_between, index_in, indices_at, indices_in, indices_of, is_name, listed, range_of};

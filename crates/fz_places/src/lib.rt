@@ -12,6 +12,7 @@ mod path;
 
 pub use annotation::text_of;
 pub use element::{Element, element_of, indices_of};
+pub use fz_meaning::{IntSet, Range, Value};
 pub use lines::{Spot, spot_of};
 pub use names::{NameLine, NameTable, TableError};
 pub use path::{ModelPlace, model_place};

@@ -5,7 +5,7 @@ ghost use Rattle.std.specs.Io.BufRead.{strip_last};
 ghost use Rattle.fz_places.specs.Tables.{IsFault, columns, row_in, row_named, row_of, rows_in, table};
 
 use crate::lines::{part_len, parted};
-use fz_base::Span;
+use fz_tree::Span;
 use std::alloc::{AllocError, AllocFailed, Global};
 use thiserror::Error;
 

@@ -4,7 +4,7 @@ use Rattle.std.specs.List.{list_all}
 use Rattle.std.proofs.lemmas.Int.{ints}
 use Rattle.std.proofs.lemmas.List.{length-map}
 use Rattle.std.proofs.lemmas.Option.{same_Some, slice_get-map}
-use Rattle.fz_base.proofs.Covers.{and-false}
+use Rattle.fz_builtins.proofs.of_meaning.of_base.Covers.{and-false}
 use Rattle.fz_builtins.proofs.of_scheduling.Windowed.{one_window}
 use Rattle.fz_builtins.specs.of_meaning.Relations.{◌=ℤ◌, are_places, as_places, is_knapsack, is_natural, lies_between, load_of, loads_are, products, total, windows}
 

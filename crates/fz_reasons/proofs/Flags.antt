@@ -4,8 +4,8 @@ use Rattle.std.specs.Option.{option_map_or}
 use Rattle.std.specs.FinSet.{contains, is_subset}
 use Rattle.std.proofs.lemmas.Int.{ints}
 use Rattle.std.proofs.lemmas.Option.{none-some, same_Some}
-use Rattle.fz_base.specs.Sets.{NumberSet}
-use Rattle.fz_base.proofs.Numbers.{contains-numbers_between}
+use Rattle.fz_builtins.specs.of_meaning.of_syntax.Sets.{NumberSet}
+use Rattle.fz_builtins.proofs.of_meaning.of_base.Numbers.{contains-numbers_between}
 use Rattle.fz_builtins.specs.of_meaning.Relations.{◌=ᴮ◌, element_at, flags_are, indices_from, is_flagged}
 use Rattle.fz_reasons.proofs.Indexed.{index_or_none, last}
 use Rattle.fz_reasons.proofs.Lists.{and_false}

@@ -3,8 +3,8 @@ use Rattle.std.proofs.Common.{◌≡◌, ◌↔◌, ℤ, pos, negsuc, ◌≤ℤ�
 use Rattle.std.specs.List.{list_any}
 use Rattle.std.specs.FinSet as sets
 use Rattle.std.proofs.lemmas.Int.{ints}
-use Rattle.fz_base.specs.Sets.{NumberSet}
-use Rattle.fz_base.specs.Elements.{LiesWithin, Has64Bits}
+use Rattle.fz_builtins.specs.of_meaning.of_syntax.Sets.{NumberSet}
+use Rattle.fz_builtins.specs.of_meaning.of_base.Elements.{LiesWithin, Has64Bits}
 use Rattle.fz_builtins.proofs.of_globals.NoGaps.{gap, some_element, element_some}
 use Rattle.fz_builtins.specs.of_meaning.Relations.{is_convex}
 use Rattle.fz_builtins.proofs.of_meaning.Values.{and_first, and_second, no}

@@ -2,7 +2,7 @@
 use Rattle.std.proofs.Common.{◌≡◌, ℕ, suc, zero, ◌≤◌, ℤ, pos, negsuc, ◌+ℤ◌, ◌-ℤ◌, false, List, [], ◌∷◌, length, ◌⊎◌, inl, inr, Option, Some, None, slice_get, refl, sym, ap, ◌∙◌, arith}
 use Rattle.std.proofs.lemmas.Int.{ints}
 use Rattle.std.proofs.lemmas.Option.{none-some}
-use Rattle.fz_base.specs.Ranges.{is_between}
+use Rattle.fz_builtins.specs.of_meaning.of_syntax.Ranges.{is_between}
 use Rattle.fz_builtins.specs.of_meaning.Relations.{element_at}
 use Rattle.fz_builtins.proofs.of_kernel.Passed.{element_is}
 

@@ -2,7 +2,7 @@
 use Rattle.std.proofs.Common.{◌≡◌, ℤ, Bool, true, false, not, ◌&&◌, ◌||◌, refl, sym, ap, ◌∙◌, true≢false, int_cmp}
 use Rattle.std.specs.FinSet.{contains, difference, empty, intersection, is_subset, union, contains-difference, contains-empty, contains-intersection, contains-union, is_subset-contains}
 use Rattle.std.specs.Cmp.{int_cmp_total}
-use Rattle.fz_base.specs.Sets.{NumberSet, symmetric_difference}
+use Rattle.fz_builtins.specs.of_meaning.of_syntax.Sets.{NumberSet, symmetric_difference}
 use Rattle.fz_builtins.specs.of_meaning.Relations.{◌=ᴮ◌, ◌=ˢ◌, are_disjoint}
 use Rattle.fz_reasons.proofs.Lists.{and_false}
 

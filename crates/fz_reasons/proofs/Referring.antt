@@ -7,9 +7,9 @@ use Rattle.std.specs.Cmp.{int_cmp_total}
 use Rattle.std.specs.FinSet.{contains, is_subset, contains-empty, contains-union}
 use Rattle.std.proofs.lemmas.Int.{ints}
 use Rattle.std.proofs.lemmas.Option.{none-some, same_Some}
-use Rattle.fz_base.specs.Ranges.{is_between}
-use Rattle.fz_base.specs.Sets.{NumberSet}
-use Rattle.fz_base.proofs.Numbers.{contains-numbers_between}
+use Rattle.fz_builtins.specs.of_meaning.of_syntax.Ranges.{is_between}
+use Rattle.fz_builtins.specs.of_meaning.of_syntax.Sets.{NumberSet}
+use Rattle.fz_builtins.proofs.of_meaning.of_base.Numbers.{contains-numbers_between}
 use Rattle.fz_builtins.specs.of_meaning.Relations.{◌=ᴮ◌, ◌=ˢ◌, chosen, element_at, has_only, indices_from, lies_between, precedes_in_sets, refer_back, union_of}
 use Rattle.fz_builtins.proofs.of_meaning.Values.{and_first, and_second}
 use Rattle.fz_reasons.specs.Elements.{IsEarlySet, IsNotBack}

@@ -1,7 +1,7 @@
 -- Lists of successors that make no tour.
 use Rattle.std.proofs.Common.{◌≡◌, ℕ, suc, zero, ◌+◌, ◌-◌, ◌<◌, ◌≤◌, ℤ, pos, negsuc, ◌+ℤ◌, ◌-ℤ◌, true, false, not, ◌&&◌, List, [], ◌∷◌, length, Option, Some, None, nat_eq, option_map, option_and_then, refl, sym, ap, ◌∙◌, arith}
 use Rattle.std.specs.Option.{option_map_or}
-use Rattle.fz_base.proofs.Covers.{and-false}
+use Rattle.fz_builtins.proofs.of_meaning.of_base.Covers.{and-false}
 use Rattle.fz_builtins.specs.of_meaning.Relations.{◌=ℤ◌, all_different, are_places, as_places, element_at, end_of_tour, is_circuit, is_one_tour, is_subcircuit, moved_from, tour}
 use Rattle.fz_builtins.proofs.of_meaning.Values.{same_int}
 use Rattle.fz_builtins.proofs.of_globals.Led.{different_places}

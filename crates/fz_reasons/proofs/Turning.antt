@@ -7,7 +7,7 @@ use Rattle.std.proofs.lemmas.Option.{none-some, same_Some}
 use Rattle.std.proofs.lemmas.Int.{ints}
 use Rattle.std.proofs.lemmas.Bool.Decides.{Decides-int_eq}
 use Rattle.fz_builtins.specs.of_meaning.Relations.{◌=ℤ◌, element_at, is_before, is_word, leads_back, lies_between, run, step}
-use Rattle.fz_base.specs.Sets.{NumberSet}
+use Rattle.fz_builtins.specs.of_meaning.of_syntax.Sets.{NumberSet}
 use Rattle.fz_reasons.specs.Elements.{has_step}
 use Rattle.fz_reasons.proofs.Lists.{and_false}
 use Rattle.fz_reasons.proofs.Numbers.{itself}

@@ -9,8 +9,7 @@ ghost use Rattle.fz_reasons.specs.Loads.{HasOtherLoad, IsOtherRun, IsOtherTotal}
 use crate::arrangement::{BinLoad, Run, Total};
 use crate::places::lies_between;
 use crate::readings::number_count;
-use fz_base::IntSet;
-use fz_builtins::{Elements, load_of, sum_of_products, term_at};
+use fz_builtins::{Elements, IntSet, load_of, sum_of_products, term_at};
 
 /// The first bin, from `first` on, that has another load than the one that is given for it.
 pub(crate) fn other_load(

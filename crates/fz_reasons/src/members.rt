@@ -11,9 +11,8 @@ ghost use Rattle.fz_reasons.specs.Reasons.{IsMisplaced, Says, in_sets, is_mispla
 
 use crate::places::lies_between;
 use crate::reason::{Member, Reason};
-use fz_base::IntSet;
 use fz_builtins::{
-    ArgumentView, Builtin, Elements, has, index_at, place_from, same_set, set_element,
+    ArgumentView, Builtin, Elements, IntSet, has, index_at, place_from, same_set, set_element,
 };
 use std::alloc::{AllocError, Global};
 

@@ -3,8 +3,7 @@
 
 use crate::sum_words::say_term;
 use crate::teller::{Teller, from_one};
-use fz_base::SetError;
-use fz_builtins::{Builtin, Said, place_from, said_of};
+use fz_builtins::{Builtin, Said, SetError, place_from, said_of};
 use std::alloc::AllocError;
 
 /// The result of a row by its other arguments: the argument that has to be it, and the value, if

@@ -11,8 +11,7 @@ ghost use Rattle.fz_reasons.specs.Elements.{IsInNoSet, IsNoIndexOf, IsNotBack, I
 ghost use Rattle.fz_reasons.specs.Reasons.{LeadsOneWay, Says};
 
 use crate::reason::{OneWay, Reason};
-use fz_base::IntSet;
-use fz_builtins::{ArgumentView, Builtin, Elements, index_at, int_element_at, is_held};
+use fz_builtins::{ArgumentView, Builtin, Elements, IntSet, index_at, int_element_at, is_held};
 use std::alloc::{AllocError, Global};
 
 /// An index that the other list doesn't lead back to.

@@ -3,7 +3,7 @@ use Rattle.std.proofs.Common.{◌≡◌, ℕ, suc, zero, ◌+◌, ◌*◌, ◌<�
 use Rattle.std.specs.List.{list_all}
 use Rattle.std.proofs.lemmas.Int.{ints}
 use Rattle.std.proofs.lemmas.List.{take_more, drop_more, get_or-drop, length-take, length-take-le, length-drop}
-use Rattle.fz_base.proofs.Covers.{and-true}
+use Rattle.fz_kernel.proofs.of_meaning.of_base.Covers.{and-true}
 use Rattle.fz_kernel.specs.of_meaning.Relations.{total, lies_between, windows}
 use Rattle.fz_kernel.proofs.of_meaning.Values.{and_first, and_second}
 use Rattle.fz_scheduling.specs.Places.{number_at}

@@ -1,7 +1,7 @@
 -- What is at an index of an array. All but `number_at`, `span_at` and `terms` serves private
 -- functions only.
 use Rattle.std.specs.Prelude.{ℕ, ℤ, pos, Bool, ◌&&◌, ◌||◌, List, Option, None, Some, get_or, int_le}
-use Rattle.fz_base.specs.Sets.{NumberSet}
+use Rattle.fz_kernel.specs.of_meaning.of_syntax.Sets.{NumberSet}
 use Rattle.fz_kernel.specs.of_meaning.Relations.{◌=ℤ◌, Span, Box, marks, are_apart, is_empty_span, lie_apart, has_no_area, used_at}
 
 -- the number at an index, and 0 past the end

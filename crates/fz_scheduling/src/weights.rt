@@ -6,9 +6,8 @@ ghost use Rattle.fz_kernel.specs.of_meaning.Relations.{◌=ℤ◌, is_weight_of,
 ghost use Rattle.fz_kernel.specs.Views.{ints};
 
 use crate::reading::{common_places, number_at};
-use fz_base::{IntSet, SetError};
-use fz_kernel::Elements;
 use fz_kernel::arrays::{all_elements_different, numbers_of};
+use fz_kernel::{Elements, IntSet, SetError};
 use std::alloc::Global;
 
 /// The sum of the weights of the things that are in the set; none where two things are equal, or

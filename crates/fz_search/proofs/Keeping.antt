@@ -1,6 +1,6 @@
 -- What a point says of bounds is said of the known-solutions inside them.
 use Rattle.std.proofs.Common.{◌≡◌, ℕ, ◌<◌, length, Option, Some, None, IfSome, slice_get, subst, subst₂}
-use Rattle.fz_base.specs.declared.value.Value.{Value}
+use Rattle.fz_bounds.specs.of_model.of_base.declared.value.Value.{Value}
 use Rattle.fz_bounds.specs.Bounds.{IsInside, LiesBetween, NumberNeverHolds, Ranges, narrowed}
 use Rattle.fz_bounds.proofs.Giving.{given_there}
 use Rattle.fz_bounds.proofs.Inside.{inside_narrowed}

@@ -1,11 +1,10 @@
 //! Changes of a search: values that variables get, and bounds that become narrower.
 
-use crate::ends::{Ends, admits, number_of, value_of};
+use crate::ends::{admits, number_of, value_of};
 use crate::grounds::Step;
 use crate::stop::Stop;
 use crate::work::Work;
-use fz_base::Value;
-use fz_bounds::Domain;
+use fz_bounds::{Domain, Ends, Value};
 use std::alloc::AllocError;
 
 impl<'k, 'm, 'a> Work<'k, 'm, 'a> {

@@ -1,7 +1,6 @@
 //! What a contradiction rests on.
 
-use crate::ends::Ends;
-use crate::index::Search;
+use fz_bounds::{Ends, Search};
 use std::alloc::{AllocError, Global};
 
 /// The point of a step that is only supposed.

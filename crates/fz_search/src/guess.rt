@@ -1,11 +1,10 @@
 //! Values that nothing forces.
 
-use crate::ends::{End, value_of};
+use crate::ends::value_of;
 use crate::stop::Stop;
 use crate::subsets::{few_members, subset, subsets_of};
 use crate::work::Work;
-use fz_base::{IntSet, Value};
-use fz_bounds::{Kind, State};
+use fz_bounds::{End, IntSet, Kind, State, Value};
 use std::alloc::AllocError;
 
 /// At most this many numbers are tried for one variable.

@@ -1,10 +1,8 @@
 //! What linear rows leave to variables: bounds, and values of Booleans.
 
-use crate::ends::Ends;
-use crate::row::{Claim, Product, Relation, Row};
 use crate::stop::Stop;
 use crate::work::Work;
-use fz_base::Value;
+use fz_bounds::{Claim, Ends, Product, Relation, Row, Value};
 
 /// The number in 64 bits, or the nearest.
 fn nearest(number: i128) -> i64 {

@@ -3,8 +3,7 @@
 use crate::stop::Stop;
 use crate::subsets::{few_members, subset, subsets_of};
 use crate::work::Work;
-use fz_base::Value;
-use fz_bounds::{Kind, State};
+use fz_bounds::{Kind, State, Value};
 
 impl<'k, 'm, 'a> Work<'k, 'm, 'a> {
     /// Visits a point that is no linear row.

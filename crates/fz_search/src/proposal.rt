@@ -5,8 +5,7 @@ ghost use Rattle.fz_bounds.specs.of_model.Meaning.{IsPartial};
 ghost use Rattle.fz_bounds.specs.of_model.Steps.{kind_at};
 ghost use Rattle.fz_bounds.specs.of_model.Relations.{kind_of};
 
-use fz_base::Value;
-use fz_bounds::{Model, Partial, State, forced_any, kind_of, same_kind, state};
+use fz_bounds::{Model, Partial, State, Value, forced_any, kind_of, same_kind, state};
 use std::alloc::{AllocError, Global};
 
 /// Whether a value is of the kind of the variable of a number.
@@ -73,8 +72,8 @@ pub(crate) struct Proposal<'m, 'a> {
 
 impl<'m, 'a> std::marker::Model for Proposal<'m, 'a> {
     ghost use Rattle.std.specs.Prelude.{List, Option};
-    ghost use Rattle.fz_base.specs.declared.value.Value.{Value as Held};
-    ghost use Rattle.fz_base.specs.contracts.sets.IntSet as the_set;
+    ghost use Rattle.fz_bounds.specs.of_model.of_base.declared.value.Value.{Value as Held};
+    ghost use Rattle.fz_bounds.specs.of_model.of_base.contracts.sets.IntSet as the_set;
     ghost use Rattle.std.specs.Coded.{codes};
 
     ghost Value = { List (Option Held) };

@@ -6,10 +6,11 @@ ghost use Rattle.fz_search.specs.Found.{IsFoundFor};
 ghost use Rattle.fz_search.specs.Refuted.{HaveNoSolution, HoldAll, KeepSolutions};
 
 use crate::conflict::Conflict;
-use crate::found::{Found, Left, Narrower, Narrowing, Refutation};
+use crate::found::Found;
 use crate::grounds::Step;
-use crate::index::Search;
-use fz_bounds::{Bounds, Model, Partial, Tightened, cannot_hold};
+use fz_bounds::{
+    Bounds, Left, Model, Narrower, Narrowing, Partial, Refutation, Search, Tightened, cannot_hold,
+};
 use std::alloc::{AllocError, Global};
 
 /// At most so many variables are told of a point.

@@ -6,16 +6,16 @@ ghost use Rattle.fz_search.specs.Found.{IsFoundFor};
 ghost use Rattle.fz_search.specs.Refuted.{HoldAll};
 
 use crate::conflict::Conflict;
-use crate::ends::{End, Ends};
-use crate::found::{Found, Narrowing};
+use crate::found::Found;
 use crate::grounds::NO_POINT;
-use crate::index::Search;
 use crate::proposal::copied;
 use crate::refuting::learned;
-use crate::row::Rule;
 use crate::stop::Stop;
 use crate::work::{Budget, Work};
-use fz_bounds::{Bounds, Domain, Goal, Kind, Model, Partial, PointParts, Scalars, Slot, Term};
+use fz_bounds::{
+    Bounds, Domain, End, Ends, Goal, Kind, Model, Narrowing, Partial, PointParts, Rule, Scalars,
+    Search, Slot, Term, known_of,
+};
 use std::alloc::{AllocError, Global};
 
 /// At most so many numbers are lost on one way.
@@ -171,21 +171,6 @@ impl<'k, 'm, 'a> Work<'k, 'm, 'a> {
             self.fill(variable, objective, way.from)?;
         }
         Ok(())
-    }
-}
-
-/// What is known of a model, made where it isn't there yet.
-pub fn known_of<'k>(
-    alloc: Global,
-    model: &Model<'_>,
-    known: &'k mut Option<Search>,
-) -> Result<&'k Search, AllocError> {
-    if known.is_none() {
-        *known = Some(Search::new(alloc, model)?);
-    }
-    match known {
-        Some(search) => Ok(search),
-        None => Err(AllocError),
     }
 }
 

@@ -1,9 +1,8 @@
 //! Shaving: numbers at the ends of a variable's bounds with which a point can't hold are taken away.
 
-use crate::ends::End;
 use crate::stop::Stop;
 use crate::work::Work;
-use fz_bounds::{Kind, Tightened};
+use fz_bounds::{End, Kind, Tightened};
 
 /// At most so many stretches of numbers are tried at one end.
 const MOST_STRETCHES: usize = 130;

@@ -1,7 +1,6 @@
 //! The subsets of a domain with few numbers.
 
-use fz_base::{IntSet, Value};
-use fz_bounds::Domain;
+use fz_bounds::{Domain, IntSet, Value};
 use std::alloc::{AllocError, Global};
 
 /// All subsets of at most this many numbers are tried.

@@ -1,9 +1,7 @@
 //! What is known of variables and points as a search begins.
 
-use crate::ends::{ALL, Ends};
-use crate::index::Search;
-use crate::row::Sums;
-use fz_bounds::{Bounds, Partial};
+use crate::ends::ALL;
+use fz_bounds::{Bounds, Ends, Partial, Search, Sums};
 use std::alloc::{AllocError, Global};
 
 /// How far the products of a sum can move: the index of the one that moves furthest, and how far

@@ -1,14 +1,11 @@
 //! A search under way: the values and bounds so far, and the points that are to be visited.
 
 use crate::agenda::Agenda;
-use crate::ends::Ends;
 use crate::grounds::Step;
-use crate::index::Search;
 use crate::proposal::Proposal;
-use crate::row::{Rule, Sums};
 use crate::stop::Stop;
 use crate::tables::{Reach, all_open, all_sums, ends_in, no_reaches};
-use fz_bounds::{Bounds, Domain, Kind, Model, Partial};
+use fz_bounds::{Bounds, Domain, Ends, Kind, Model, Partial, Rule, Search, Sums};
 use std::alloc::{AllocError, Global};
 
 /// At most this many visits are made for each point of the model. A value that is tried counts as

@@ -20,7 +20,7 @@ mod step;
 pub use block::Block;
 pub use error::{StreamError, moved_span};
 pub use fz_syntax::{
-    Ast, Decl, Limits, Literal, LiteralKind, Name, Note, Printed, PrintedValue, SyntaxError,
+    Ast, Decl, Limits, Literal, LiteralKind, Name, Note, Printed, PrintedValue, Span, SyntaxError,
     parse_within, to_text,
 };
 pub use line::ClaimKind;

@@ -1,5 +1,5 @@
 use Rattle.std.proofs.Common.{refl, ap}
-use Rattle.fz_judge.specs.Verdict.{answer_of}
+use Rattle.fz_judge.specs.of_filling.Verdict.{answer_of}
 use Rattle.fz_check.specs.Claims.{answer_with, no_ledger, verdicts_of}
 use Rattle.fz_check.proofs.ClaimLemmas.{refuted_unjudged, told_unjudged}
 use Rattle.fz_check.proofs.unasked_claims_are_not_judged.Goals as goal

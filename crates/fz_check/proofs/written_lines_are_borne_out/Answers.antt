@@ -1,6 +1,6 @@
 use Rattle.std.proofs.Common.{None, map}
 use Rattle.fz_judge.specs.of_model.Names.{model_of}
-use Rattle.fz_judge.specs.BlockView.{located_block}
+use Rattle.fz_judge.specs.of_filling.BlockView.{located_block}
 use Rattle.fz_check.specs.Claims.{no_ledger, verdicts_of}
 use Rattle.fz_check.proofs.ClaimLemmas.{all_true}
 use Rattle.fz_check.proofs.ReportLemmas.{borne_out}

@@ -1,6 +1,6 @@
 // Whether elements are all different.
 ghost use Rattle.std.specs.Prelude.{◌≡◌, ◌≤◌, drop, length, IfOk};
-ghost use Rattle.fz_data.specs.of_meaning.Relations.{is_among, all_different};
+ghost use Rattle.fz_store.specs.of_meaning.Relations.{is_among, all_different};
 ghost use Rattle.fz_kernel.specs.Views.{ints};
 
 use crate::distinct::all_different;

@@ -1,10 +1,10 @@
 // The element at an index.
 ghost use Rattle.std.specs.Prelude.{◌≡◌, ◌+◌, ◌≤◌, ◌<◌, ℕ, pos, IfSome, IfNone, option_map};
-ghost use Rattle.fz_data.specs.of_meaning.Relations.{element_at};
+ghost use Rattle.fz_store.specs.of_meaning.Relations.{element_at};
 ghost use Rattle.fz_kernel.specs.Views.{ints, bools, sets};
 
 use crate::elements::Elements;
-use fz_base::IntSet;
+use fz_store::IntSet;
 
 // The index counted from 0, of one that is counted from 1; none where it is no index of `count`
 // elements.

@@ -1,7 +1,7 @@
 // The greatest and the least element.
 ghost use Rattle.std.specs.Prelude.{◌≡◌, ℤ, [], ◌&&◌, int_le, IfSome, IfNone};
 ghost use Rattle.std.specs.List.{list_all};
-ghost use Rattle.fz_data.specs.of_meaning.Relations.{◌=ℤ◌, is_among};
+ghost use Rattle.fz_store.specs.of_meaning.Relations.{◌=ℤ◌, is_among};
 ghost use Rattle.fz_kernel.specs.Views.{ints};
 
 use crate::elements::Elements;

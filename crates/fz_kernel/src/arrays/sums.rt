@@ -1,7 +1,7 @@
 // Sums over arrays.
 ghost use Rattle.std.specs.Prelude.{◌≡◌, true, false, IfSome, IfNone};
-ghost use Rattle.fz_data.specs.of_meaning.Relations.{total, products, where_true};
-ghost use Rattle.fz_data.specs.of_meaning.States.{leaves_128};
+ghost use Rattle.fz_store.specs.of_meaning.Relations.{total, products, where_true};
+ghost use Rattle.fz_store.specs.of_meaning.States.{leaves_128};
 ghost use Rattle.fz_kernel.specs.Views.{ints, bools};
 
 use crate::elements::Elements;

@@ -1,7 +1,7 @@
 // Booleans in arrays.
 ghost use Rattle.std.specs.Prelude.{◌≡◌, not, length};
 ghost use Rattle.std.specs.List.{list_all, list_any, filter};
-ghost use Rattle.fz_data.specs.of_meaning.Relations.{is_odd};
+ghost use Rattle.fz_store.specs.of_meaning.Relations.{is_odd};
 ghost use Rattle.fz_kernel.specs.Views.{bools};
 
 use crate::elements::Elements;

@@ -1,9 +1,9 @@
 use Rattle.std.proofs.Common.{◌≡◌, ◌∙◌, ap}
 use Rattle.fz_judge.specs.of_model.Meaning.{Model}
 use Rattle.fz_judge.specs.of_model.Parts.{goal_view}
-use Rattle.fz_judge.specs.BlockView.{located_block}
-use Rattle.fz_judge.specs.Judged.{JudgeState}
-use Rattle.fz_judge.specs.View.{verdict_view}
+use Rattle.fz_judge.specs.of_filling.BlockView.{located_block}
+use Rattle.fz_judge.specs.of_filling.Judged.{JudgeState}
+use Rattle.fz_judge.specs.of_filling.View.{verdict_view}
 use Rattle.fz_check.proofs.LearningLemmas.{learned}
 use Rattle.fz_check.proofs.learning.learn_block.Goals as goal
 

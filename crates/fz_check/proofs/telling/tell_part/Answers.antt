@@ -3,8 +3,8 @@ use Rattle.std.specs.Prelude.{None, Some}
 use Rattle.fz_judge.specs.of_stream.Found.{EndsWithin}
 use Rattle.fz_judge.specs.of_stream.Lending.{part_of, HasPlacesOfItems, PartEndsWithin}
 use Rattle.fz_judge.specs.of_stream.Splitting.{most_taken}
-use Rattle.fz_judge.specs.BlockView.{located_block}
-use Rattle.fz_judge.specs.View.{verdict_view}
+use Rattle.fz_judge.specs.of_filling.BlockView.{located_block}
+use Rattle.fz_judge.specs.of_filling.View.{verdict_view}
 use Rattle.fz_check.specs.declared.tally.Tally.{Tally}
 use Rattle.fz_check.specs.Claims.{claim_event, late_events}
 use Rattle.fz_check.specs.Report.{text_of}

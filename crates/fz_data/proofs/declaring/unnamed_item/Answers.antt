@@ -1,7 +1,7 @@
 use Rattle.std.proofs.Common.{Some, sym, ◌∙◌, subst}
 use Rattle.std.proofs.lemmas.Result.{err_from_is_err_and}
-use Rattle.fz_names.specs.of_meaning.View.{Tells, located_value}
-use Rattle.fz_names.specs.of_meaning.Names.{parts, parts_fault}
+use Rattle.fz_store.specs.of_meaning.View.{Tells, located_value}
+use Rattle.fz_store.specs.of_meaning.Names.{parts, parts_fault}
 use Rattle.fz_data.specs.Scope.{kinds_in}
 use Rattle.fz_data.proofs.declaring.unnamed_item.Goals as goal
 

@@ -1,6 +1,6 @@
 use Rattle.std.proofs.Common.{◌∙◌, sym}
 use Rattle.std.proofs.lemmas.Result.{err_from_is_err_and}
-use Rattle.fz_names.specs.of_meaning.View.{located_decl}
+use Rattle.fz_store.specs.of_meaning.View.{located_decl}
 use Rattle.fz_data.proofs.Next.{new_name}
 use Rattle.fz_data.proofs.OneMore.{declares_more, fault_same}
 use Rattle.fz_data.proofs.Tells.{tells_further}

@@ -1,8 +1,8 @@
 use Rattle.std.proofs.Common.{List, sym, subst}
 use Rattle.std.proofs.lemmas.Result.{err_from_is_err_and}
-use Rattle.fz_names.specs.of_meaning.Located.{Decl}
-use Rattle.fz_names.specs.of_meaning.View.{located_decl}
-use Rattle.fz_names.proofs.of_meaning.ScanSteps.{take_one_more, decls_stops}
+use Rattle.fz_store.specs.of_meaning.Located.{Decl}
+use Rattle.fz_store.specs.of_meaning.View.{located_decl}
+use Rattle.fz_store.proofs.of_meaning.ScanSteps.{take_one_more, decls_stops}
 use Rattle.fz_data.specs.Stands.{Declares}
 use Rattle.fz_data.proofs.Tells.{tells_further}
 use Rattle.fz_data.proofs.loading.declared.Goals as goal

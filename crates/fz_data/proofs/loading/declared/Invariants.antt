@@ -1,5 +1,5 @@
 use Rattle.std.proofs.Common.{map, take}
-use Rattle.fz_names.specs.of_meaning.View.{located_decl}
+use Rattle.fz_store.specs.of_meaning.View.{located_decl}
 use Rattle.fz_data.specs.Scope.{HasKinds}
 use Rattle.fz_data.specs.Stands.{Declares}
 use Rattle.fz_data.proofs.loading.declared.Given as goal

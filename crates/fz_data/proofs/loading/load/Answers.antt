@@ -1,7 +1,7 @@
 use Rattle.std.proofs.Common.{subst, ◌∙◌, map}
 use Rattle.std.proofs.lemmas.Result.{err_from_is_err_and}
-use Rattle.fz_names.specs.of_meaning.Meaning.{first_some}
-use Rattle.fz_names.specs.of_meaning.View.{Tells, located, located_decl, located_constraint}
+use Rattle.fz_store.specs.of_meaning.Meaning.{first_some}
+use Rattle.fz_store.specs.of_meaning.View.{Tells, located, located_decl, located_constraint}
 use Rattle.fz_data.specs.Posting.{Posts}
 use Rattle.fz_data.specs.Scope.{constraint_fault_in}
 use Rattle.fz_data.specs.Stands.{Declares}

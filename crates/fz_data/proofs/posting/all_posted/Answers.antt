@@ -1,9 +1,9 @@
 use Rattle.std.proofs.Common.{List, map, sym, subst}
 use Rattle.std.proofs.lemmas.List.{take_all}
 use Rattle.std.proofs.lemmas.Result.{err_from_is_err_and}
-use Rattle.fz_names.specs.of_meaning.Located.{Constraint}
-use Rattle.fz_names.specs.of_meaning.View.{located_constraint}
-use Rattle.fz_names.proofs.of_meaning.ScanSteps.{take_one_more}
+use Rattle.fz_store.specs.of_meaning.Located.{Constraint}
+use Rattle.fz_store.specs.of_meaning.View.{located_constraint}
+use Rattle.fz_store.proofs.of_meaning.ScanSteps.{take_one_more}
 use Rattle.fz_data.specs.Posting.{Posts}
 use Rattle.fz_data.specs.Scope.{constraint_fault_in}
 use Rattle.fz_data.proofs.OneMore.{posts_none}

@@ -1,5 +1,5 @@
 use Rattle.std.proofs.Common.{map, take}
-use Rattle.fz_names.specs.of_meaning.View.{located_constraint}
+use Rattle.fz_store.specs.of_meaning.View.{located_constraint}
 use Rattle.fz_data.specs.Posting.{Posts}
 use Rattle.fz_data.proofs.posting.all_posted.Given as goal
 

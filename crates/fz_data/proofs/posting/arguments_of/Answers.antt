@@ -1,11 +1,11 @@
 use Rattle.std.proofs.Common.{refl, ap, ◌∙◌, ◌++◌, ◌∷◌, [], arith, map, subst}
 use Rattle.std.proofs.lemmas.List.{length-map, take_all}
-use Rattle.fz_names.specs.of_meaning.View.{located_expr}
-use Rattle.fz_names.proofs.of_meaning.ScanSteps.{first_more}
-use Rattle.fz_data.specs.declared.store.Store.{Store}
-use Rattle.fz_data.specs.Parts.{argument_view}
+use Rattle.fz_store.specs.of_meaning.View.{located_expr}
+use Rattle.fz_store.proofs.of_meaning.ScanSteps.{first_more}
+use Rattle.fz_store.specs.declared.store.Store.{Store}
+use Rattle.fz_store.specs.Parts.{argument_view}
 use Rattle.fz_data.specs.Posting.{IsLonger}
-use Rattle.fz_names.specs.of_meaning.Names.{argument_fault, argument_of}
+use Rattle.fz_store.specs.of_meaning.Names.{argument_fault, argument_of}
 use Rattle.fz_data.specs.Scope.{kinds_in, place_in}
 use Rattle.fz_data.proofs.Grown.{SoFar, argument_pushed, longer_none, longer_more, next_so_far, segment_is}
 use Rattle.fz_data.proofs.posting.arguments_of.Goals as goal

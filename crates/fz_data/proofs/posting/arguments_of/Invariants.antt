@@ -1,9 +1,9 @@
 use Rattle.std.proofs.Common.{◌≡◌, None, map, take}
-use Rattle.fz_names.specs.of_meaning.Meaning.{first_some}
-use Rattle.fz_names.specs.of_meaning.View.{located_expr}
-use Rattle.fz_data.specs.Parts.{argument_view}
+use Rattle.fz_store.specs.of_meaning.Meaning.{first_some}
+use Rattle.fz_store.specs.of_meaning.View.{located_expr}
+use Rattle.fz_store.specs.Parts.{argument_view}
 use Rattle.fz_data.specs.Posting.{IsLonger}
-use Rattle.fz_names.specs.of_meaning.Names.{argument_fault, argument_of}
+use Rattle.fz_store.specs.of_meaning.Names.{argument_fault, argument_of}
 use Rattle.fz_data.specs.Scope.{kinds_in, place_in}
 use Rattle.fz_data.proofs.Grown.{SoFar}
 use Rattle.fz_data.proofs.posting.arguments_of.Given as goal

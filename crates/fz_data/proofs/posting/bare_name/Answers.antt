@@ -3,7 +3,7 @@ use Rattle.fz_tree.specs.Tree as tree
 use Rattle.fz_tree.specs.declared.tree.Note.{Note}
 use Rattle.fz_tree.specs.View.{bare_note, bare_arg, arg_list, bare_arg_layer, bare_basic_layer, bare_note_layer}
 use Rattle.fz_tree.specs.declared.tree.NoteArg.TheFolds.{fold_out-Note}
-use Rattle.fz_names.specs.of_meaning.Names.{bare_name_of}
+use Rattle.fz_store.specs.of_meaning.Names.{bare_name_of}
 use Rattle.std.proofs.lemmas.Bool.{eqb-false}
 use Rattle.std.proofs.lemmas.List.{length-map}
 use Rattle.fz_data.proofs.posting.bare_name.Goals as goal

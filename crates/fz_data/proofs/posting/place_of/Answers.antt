@@ -1,5 +1,5 @@
 use Rattle.std.proofs.Common.{sym}
-use Rattle.fz_names.specs.of_meaning.declared.term.Term.TheVariants.{Fixed}
+use Rattle.fz_store.specs.of_meaning.declared.term.Term.TheVariants.{Fixed}
 use Rattle.fz_data.proofs.Grown.{slot_is}
 use Rattle.fz_data.proofs.posting.place_of.Goals as goal
 

@@ -1,11 +1,11 @@
 use Rattle.std.proofs.Common.{None, arith, map, subst}
 use Rattle.std.proofs.lemmas.List.{length-map, take_all}
-use Rattle.fz_names.specs.of_meaning.View.{located_basic}
-use Rattle.fz_names.proofs.of_meaning.ScanSteps.{first_more}
-use Rattle.fz_data.specs.Parts.{place_view}
-use Rattle.fz_names.specs.of_meaning.Names.{part_fault, place_of}
+use Rattle.fz_store.specs.of_meaning.View.{located_basic}
+use Rattle.fz_store.proofs.of_meaning.ScanSteps.{first_more}
+use Rattle.fz_store.specs.Parts.{place_view}
+use Rattle.fz_store.specs.of_meaning.Names.{part_fault, place_of}
 use Rattle.fz_data.specs.Scope.{kinds_in, place_in}
-use Rattle.fz_data.specs.Slots.{IsGrown}
+use Rattle.fz_store.specs.Slots.{IsGrown}
 use Rattle.fz_data.proofs.Grown.{SoFar, grown_none, grown_more, grown_one, next_so_far, segment_is}
 use Rattle.fz_data.proofs.posting.places_of.Goals as goal
 

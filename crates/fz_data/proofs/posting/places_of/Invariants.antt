@@ -1,10 +1,10 @@
 use Rattle.std.proofs.Common.{◌≡◌, None, map, take}
-use Rattle.fz_names.specs.of_meaning.View.{located_basic}
-use Rattle.fz_data.specs.Parts.{place_view}
+use Rattle.fz_store.specs.of_meaning.View.{located_basic}
+use Rattle.fz_store.specs.Parts.{place_view}
 use Rattle.fz_data.specs.Posting.{IsLonger}
-use Rattle.fz_names.specs.of_meaning.Names.{parts_fault, place_of}
+use Rattle.fz_store.specs.of_meaning.Names.{parts_fault, place_of}
 use Rattle.fz_data.specs.Scope.{kinds_in, place_in}
-use Rattle.fz_data.specs.Slots.{IsGrown}
+use Rattle.fz_store.specs.Slots.{IsGrown}
 use Rattle.fz_data.proofs.Grown.{SoFar}
 use Rattle.fz_data.proofs.posting.places_of.Given as goal
 

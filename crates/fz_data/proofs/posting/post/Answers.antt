@@ -1,4 +1,4 @@
-use Rattle.fz_names.specs.of_meaning.View.{located_constraint}
+use Rattle.fz_store.specs.of_meaning.View.{located_constraint}
 use Rattle.fz_data.proofs.OneMore.{posts_more}
 use Rattle.fz_data.proofs.posting.post.Goals as goal
 

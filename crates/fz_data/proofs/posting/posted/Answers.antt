@@ -1,11 +1,11 @@
 use Rattle.std.proofs.Common.{map, ap, ◌∙◌}
-use Rattle.fz_names.specs.of_meaning.Meaning.{row_of, first_some}
-use Rattle.fz_names.specs.of_meaning.View.{located_expr}
+use Rattle.fz_store.specs.of_meaning.Meaning.{row_of, first_some}
+use Rattle.fz_store.specs.of_meaning.View.{located_expr}
 use Rattle.fz_tree.specs.View.{bare_notes}
-use Rattle.fz_data.specs.Parts.{argument_view}
-use Rattle.fz_names.specs.of_meaning.Names.{argument_of, defined_by}
+use Rattle.fz_store.specs.Parts.{argument_view}
+use Rattle.fz_store.specs.of_meaning.Names.{argument_of, defined_by}
 use Rattle.fz_data.specs.Scope.{place_in}
-use Rattle.fz_data.specs.Slots.{segment}
+use Rattle.fz_store.specs.Slots.{segment}
 use Rattle.fz_data.proofs.Grown.{longer_none}
 use Rattle.fz_data.proofs.posting.posted.Goals as goal
 

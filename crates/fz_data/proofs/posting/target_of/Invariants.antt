@@ -1,7 +1,7 @@
 use Rattle.std.proofs.Common.{◌≡◌, None, take}
-use Rattle.fz_names.specs.of_meaning.Meaning.{first_some}
+use Rattle.fz_store.specs.of_meaning.Meaning.{first_some}
 use Rattle.fz_tree.specs.View.{bare_notes}
-use Rattle.fz_names.specs.of_meaning.Names.{defined_by}
+use Rattle.fz_store.specs.of_meaning.Names.{defined_by}
 use Rattle.fz_data.specs.Scope.{place_in}
 use Rattle.fz_data.proofs.posting.target_of.Given as goal
 

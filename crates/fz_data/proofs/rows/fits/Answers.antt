@@ -1,7 +1,7 @@
 use Rattle.std.proofs.Common.{◌≡◌, true, map, sym, ap, ◌∙◌}
-use Rattle.fz_names.specs.of_meaning.Meaning as meaning
-use Rattle.fz_names.specs.of_meaning.Known.{known_row}
-use Rattle.fz_data.specs.Parts.{argument_view}
+use Rattle.fz_store.specs.of_meaning.Meaning as meaning
+use Rattle.fz_store.specs.of_meaning.Known.{known_row}
+use Rattle.fz_store.specs.Parts.{argument_view}
 use Rattle.fz_data.proofs.Fitting.{fits_by_lengths}
 use Rattle.fz_data.proofs.rows.fits.Goals as goal
 

@@ -1,7 +1,7 @@
 use Rattle.std.proofs.Common.{Some, None, cond, map, option_map, sym, ap, ◌∙◌}
-use Rattle.fz_names.specs.of_meaning.Known.{known_row}
-use Rattle.fz_names.proofs.of_meaning.FoundRows.{row_of_known, row_of_unknown}
-use Rattle.fz_data.specs.Parts.{argument_view}
+use Rattle.fz_store.specs.of_meaning.Known.{known_row}
+use Rattle.fz_store.proofs.of_meaning.FoundRows.{row_of_known, row_of_unknown}
+use Rattle.fz_store.specs.Parts.{argument_view}
 use Rattle.fz_data.proofs.rows.row_of.Goals as goal
 
 pub returns-in_err-known : goal.returns-in_err-known

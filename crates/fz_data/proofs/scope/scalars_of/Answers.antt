@@ -1,10 +1,10 @@
 use Rattle.std.proofs.Common.{Some, map, ap, ◌∙◌}
 use Rattle.std.proofs.lemmas.List.{take_all}
-use Rattle.fz_names.specs.of_meaning.View.{located_basic}
-use Rattle.fz_names.proofs.of_meaning.ScanSteps.{first_more}
-use Rattle.fz_names.specs.of_meaning.Names.{part_fault, term_of}
+use Rattle.fz_store.specs.of_meaning.View.{located_basic}
+use Rattle.fz_store.proofs.of_meaning.ScanSteps.{first_more}
+use Rattle.fz_store.specs.of_meaning.Names.{part_fault, term_of}
 use Rattle.fz_data.specs.Scope.{kinds_in, place_in}
-use Rattle.fz_data.specs.Slots.{IsGrown, slot_term}
+use Rattle.fz_store.specs.Slots.{IsGrown, slot_term}
 use Rattle.fz_data.proofs.Grown.{grown_none, grown_more, next_read}
 use Rattle.fz_data.proofs.Flat.{one_flat}
 use Rattle.fz_data.proofs.scope.scalars_of.Goals as goal

@@ -1,9 +1,9 @@
 use Rattle.std.proofs.Common.{◌≡◌, None, Some, map, take, true}
 use Rattle.std.specs.List.{list_all}
-use Rattle.fz_names.specs.of_meaning.View.{located_basic}
-use Rattle.fz_names.specs.of_meaning.Names.{parts_fault, term_of}
+use Rattle.fz_store.specs.of_meaning.View.{located_basic}
+use Rattle.fz_store.specs.of_meaning.Names.{parts_fault, term_of}
 use Rattle.fz_data.specs.Scope.{kinds_in, place_in}
-use Rattle.fz_data.specs.Slots.{IsGrown, is_scalar, slot_term}
+use Rattle.fz_store.specs.Slots.{IsGrown, is_scalar, slot_term}
 use Rattle.fz_data.proofs.Grown.{AllRead}
 use Rattle.fz_data.proofs.scope.scalars_of.Given as goal
 

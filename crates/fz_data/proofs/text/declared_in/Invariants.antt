@@ -1,7 +1,7 @@
 use Rattle.std.proofs.Common.{List, map}
-use Rattle.fz_names.specs.of_meaning.of_syntax.Offering.{Took, from_decls, left_of}
+use Rattle.fz_store.specs.of_meaning.of_syntax.Offering.{Took, from_decls, left_of}
 use Rattle.fz_tree.specs.declared.tree.Decl.{Decl}
-use Rattle.fz_names.specs.of_meaning.View.{located_decl}
+use Rattle.fz_store.specs.of_meaning.View.{located_decl}
 use Rattle.fz_data.specs.Scope.{HasKinds}
 use Rattle.fz_data.specs.Stands.{Declares}
 use Rattle.fz_data.proofs.text.declared_in.Given as goal

@@ -1,8 +1,8 @@
 use Rattle.std.proofs.Common.{suc, cond, Some, drop, map, option_map, add-one, sym, ap, ◌∙◌}
-use Rattle.fz_judge.specs.of_model.Names.{literal_value}
-use Rattle.fz_judge.specs.of_model.Shown.{scalar_terms}
-use Rattle.fz_judge.specs.of_model.Slots.{scalar_term}
-use Rattle.fz_judge.specs.of_syntax.View.{bare_literal}
+use Rattle.fz_filling.specs.of_model.Names.{literal_value}
+use Rattle.fz_filling.specs.of_model.Shown.{scalar_terms}
+use Rattle.fz_filling.specs.of_model.Slots.{scalar_term}
+use Rattle.fz_tree.specs.View.{bare_literal}
 use Rattle.fz_explain.specs.Differing.{differing_from}
 use Rattle.fz_explain.proofs.Beside.{next, no_element, no_value}
 use Rattle.fz_explain.proofs.differing.first_differing.Goals as goal

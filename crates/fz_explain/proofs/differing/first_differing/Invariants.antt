@@ -1,7 +1,7 @@
 use Rattle.std.proofs.Common.{◌≡◌, drop, map}
-use Rattle.fz_judge.specs.of_model.Names.{literal_value}
-use Rattle.fz_judge.specs.of_model.Shown.{scalar_terms}
-use Rattle.fz_judge.specs.of_syntax.View.{bare_literal}
+use Rattle.fz_filling.specs.of_model.Names.{literal_value}
+use Rattle.fz_filling.specs.of_model.Shown.{scalar_terms}
+use Rattle.fz_tree.specs.View.{bare_literal}
 use Rattle.fz_explain.specs.Differing.{differing_from, first_differing}
 use Rattle.fz_explain.proofs.differing.first_differing.Given as goal
 

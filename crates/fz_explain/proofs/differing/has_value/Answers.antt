@@ -1,12 +1,12 @@
 use Rattle.std.proofs.Common.{false, sym, ap, ◌∙◌}
 use Rattle.std.specs.Option.{option_map_or}
-use Rattle.fz_base.specs.declared.value.Value.TheVariants.{Set}
-use Rattle.fz_judge.specs.of_model.Meaning.{value_at}
-use Rattle.fz_judge.specs.of_model.Names.{literal_value}
-use Rattle.fz_judge.specs.of_model.States.{same_value}
-use Rattle.fz_judge.specs.of_model.Slots.{scalar_term}
-use Rattle.fz_judge.specs.of_syntax.View.{bare_literal}
-use Rattle.fz_judge.proofs.Printing.{sets_same, tests_same}
+use Rattle.fz_tree.specs.of_lex.of_base.declared.value.Value.TheVariants.{Set}
+use Rattle.fz_filling.specs.of_model.Meaning.{value_at}
+use Rattle.fz_filling.specs.of_model.Names.{literal_value}
+use Rattle.fz_filling.specs.of_model.States.{same_value}
+use Rattle.fz_filling.specs.of_model.Slots.{scalar_term}
+use Rattle.fz_tree.specs.View.{bare_literal}
+use Rattle.fz_filling.proofs.Printing.{sets_same, tests_same}
 use Rattle.fz_explain.specs.Differing.{has_value}
 use Rattle.fz_explain.proofs.differing.has_value.Goals as goal
 

@@ -1,5 +1,5 @@
 use Rattle.std.proofs.Common.{map}
-use Rattle.fz_judge.specs.Givers.{giver_view}
+use Rattle.fz_filling.specs.Givers.{giver_view}
 use Rattle.fz_explain.proofs.Telling.{told_next}
 use Rattle.fz_explain.proofs.explained.explain_variables.Goals as goal
 

@@ -1,5 +1,5 @@
 use Rattle.std.proofs.Common.{◌≡◌, ◌∙◌, false, sym, ap}
-use Rattle.fz_judge.specs.of_model.States.{state}
+use Rattle.fz_filling.specs.of_model.States.{state}
 use Rattle.fz_explain.specs.Told.{IsSought, is_sought}
 use Rattle.fz_explain.proofs.Firsts.{first_at, none_at_all, none_before_next}
 use Rattle.fz_explain.proofs.failing.first_point.Goals as goal

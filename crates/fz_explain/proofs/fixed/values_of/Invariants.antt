@@ -1,5 +1,5 @@
 use Rattle.std.proofs.Common.{◌≡◌, ◌++◌, drop, map, option_map}
-use Rattle.fz_judge.specs.of_model.Slots.{slot_term}
+use Rattle.fz_filling.specs.of_model.Slots.{slot_term}
 use Rattle.fz_explain.specs.Fixings.{fixed_values}
 use Rattle.fz_explain.proofs.fixed.values_of.Given as goal
 

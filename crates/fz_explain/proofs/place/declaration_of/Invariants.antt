@@ -1,6 +1,6 @@
 use Rattle.std.proofs.Common.{◌≡◌, drop, map}
-use Rattle.fz_judge.specs.of_model.Names.{declaration}
-use Rattle.fz_judge.specs.of_model.View.{located_decl}
+use Rattle.fz_filling.specs.of_model.Names.{declaration}
+use Rattle.fz_filling.specs.of_model.View.{located_decl}
 use Rattle.fz_explain.proofs.place.declaration_of.Given as goal
 
 abbrev pub invariant-loop-decl : goal.invariant-loop-decl

@@ -1,5 +1,5 @@
 use Rattle.std.proofs.Common.{◌≡◌, ◌++◌, map, take}
-use Rattle.fz_judge.specs.of_model.Slots.{scalar_term, slot_term}
+use Rattle.fz_filling.specs.of_model.Slots.{scalar_term, slot_term}
 use Rattle.fz_explain.proofs.scalars.push_list.Given as goal
 
 abbrev pub invariant-loop-slot : goal.invariant-loop-slot

@@ -1,7 +1,7 @@
 use Rattle.std.proofs.Common.{◌≡◌, ◌++◌, [], map, sym, ap, append-nil, ◌∙◌}
-use Rattle.fz_judge.specs.of_model.Meaning.{terms_at}
-use Rattle.fz_judge.specs.of_model.Parts.{place_view}
-use Rattle.fz_judge.specs.of_model.Slots.{scalar_term}
+use Rattle.fz_filling.specs.of_model.Meaning.{terms_at}
+use Rattle.fz_filling.specs.of_model.Parts.{place_view}
+use Rattle.fz_filling.specs.of_model.Slots.{scalar_term}
 use Rattle.fz_explain.proofs.Collecting.{no_terms}
 use Rattle.fz_explain.proofs.scalars.push_place.Goals as goal
 

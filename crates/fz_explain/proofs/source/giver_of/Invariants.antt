@@ -1,5 +1,5 @@
 use Rattle.std.proofs.Common.{◌≡◌, drop, map}
-use Rattle.fz_judge.specs.Givers.{giver_view}
+use Rattle.fz_filling.specs.Givers.{giver_view}
 use Rattle.fz_explain.specs.Sources.{giver_of}
 use Rattle.fz_explain.proofs.source.giver_of.Given as goal
 

@@ -1,5 +1,5 @@
 use Rattle.std.proofs.Common.{◌≡◌, drop}
-use Rattle.fz_judge.specs.of_model.Parts.{constraint_view}
+use Rattle.fz_filling.specs.of_model.Parts.{constraint_view}
 use Rattle.fz_explain.specs.Leaving.{leaving_of}
 use Rattle.fz_explain.proofs.sums.leaving_of.Given as goal
 

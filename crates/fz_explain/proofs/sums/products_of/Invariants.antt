@@ -1,6 +1,6 @@
 use Rattle.std.proofs.Common.{◌≡◌, ◌++◌, drop, map}
-use Rattle.fz_judge.specs.of_model.States.{known_products}
-use Rattle.fz_judge.specs.of_model.Slots.{scalar_term}
+use Rattle.fz_filling.specs.of_model.States.{known_products}
+use Rattle.fz_filling.specs.of_model.Slots.{scalar_term}
 use Rattle.fz_explain.proofs.sums.products_of.Given as goal
 
 abbrev pub invariant-loop-place : goal.invariant-loop-place

@@ -1,5 +1,5 @@
 use Rattle.std.proofs.Common.{◌≡◌, map, drop}
-use Rattle.fz_judge.specs.of_model.Slots.{scalar_term}
+use Rattle.fz_filling.specs.of_model.Slots.{scalar_term}
 use Rattle.fz_explain.specs.Sources.{with_terms}
 use Rattle.fz_explain.proofs.variables.add_all.Given as goal
 

@@ -1,6 +1,6 @@
 use Rattle.std.proofs.Common.{◌∙◌}
-use Rattle.fz_judge.specs.of_model.Meaning.{terms_in}
-use Rattle.fz_judge.specs.of_model.Parts.{argument_view}
+use Rattle.fz_filling.specs.of_model.Meaning.{terms_in}
+use Rattle.fz_filling.specs.of_model.Parts.{argument_view}
 use Rattle.fz_explain.proofs.Collecting.{one_more}
 use Rattle.fz_explain.proofs.variables.add_arguments.Goals as goal
 

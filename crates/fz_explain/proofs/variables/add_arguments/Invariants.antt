@@ -1,6 +1,6 @@
 use Rattle.std.proofs.Common.{◌≡◌, map, drop, flat_map}
-use Rattle.fz_judge.specs.of_model.Meaning.{terms_in}
-use Rattle.fz_judge.specs.of_model.Parts.{argument_view, constraint_view}
+use Rattle.fz_filling.specs.of_model.Meaning.{terms_in}
+use Rattle.fz_filling.specs.of_model.Parts.{argument_view, constraint_view}
 use Rattle.fz_explain.specs.Sources.{with_terms}
 use Rattle.fz_explain.proofs.variables.add_arguments.Given as goal
 

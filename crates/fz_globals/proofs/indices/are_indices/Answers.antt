@@ -2,7 +2,7 @@ use Rattle.std.proofs.Common.{◌≡◌, ◌↔◌, true, nat_eq, FitsSigned, w6
 use Rattle.std.specs.Int.{int_min}
 use Rattle.std.proofs.lemmas.Int.{to_z-of_z}
 use Rattle.std.specs.FinSet.{is_subset}
-use Rattle.fz_base.specs.Elements.{LiesWithin}
+use Rattle.fz_kernel.specs.of_meaning.of_base.Elements.{LiesWithin}
 use Rattle.fz_kernel.specs.of_meaning.Relations.{indices_from}
 use Rattle.fz_globals.proofs.Flagged.{greatest, last_of, no_index, told_indices}
 use Rattle.fz_globals.proofs.indices.are_indices.Goals as goal

@@ -1,11 +1,11 @@
 use Rattle.std.proofs.Common.{◌≡◌, None, option_map, sym, ap, ◌∙◌}
 use Rattle.std.specs.Option.{option_or}
 use Rattle.fz_search.specs.of_model.Meaning.{first_some, objective, points}
-use Rattle.fz_judge.specs.Verdict.{objective_fails, point_fails, point_undecided, printed_fails, verdict_by}
-use Rattle.fz_judge.specs.BlockView.{located_items}
-use Rattle.fz_judge.specs.View.{fault_view}
-use Rattle.fz_judge.specs.Working.{with_objective}
-use Rattle.fz_judge.proofs.Verdicts.{with_objective_is}
+use Rattle.fz_filling.specs.Verdict.{objective_fails, point_fails, point_undecided, printed_fails, verdict_by}
+use Rattle.fz_filling.specs.BlockView.{located_items}
+use Rattle.fz_filling.specs.View.{fault_view}
+use Rattle.fz_filling.specs.Working.{with_objective}
+use Rattle.fz_filling.proofs.Verdicts.{with_objective_is}
 use Rattle.fz_judge.proofs.judge.verdict_under.Goals as goal
 
 pub returns-clause-judged : goal.returns-clause-judged

@@ -1,5 +1,5 @@
 use Rattle.std.proofs.Common.{◌-◌, pos, not, get_or, refl, ◌∙◌, rules}
-use Rattle.fz_data.specs.of_meaning.Relations.{◌=ℤ◌}
+use Rattle.fz_store.specs.of_meaning.Relations.{◌=ℤ◌}
 use Rattle.fz_kernel.proofs.Between.{neighbours_of}
 use Rattle.fz_kernel.proofs.Different.{neighbours_are}
 use Rattle.fz_kernel.proofs.distinct.neighbours_differ.Goals as goal

@@ -2,7 +2,7 @@ use Rattle.std.proofs.Common.{◌≡◌, Some, option_map, sym, ap, ◌∙◌, s
 use Rattle.std.specs.Prelude.{IfOk}
 use Rattle.fz_builtins.specs.of_meaning.Meaning.{have_shapes, row_of}
 use Rattle.fz_builtins.specs.of_meaning.Known.{known_row}
-use Rattle.fz_builtins.specs.of_data.Parts.{constraint_view}
+use Rattle.fz_builtins.specs.of_store.Parts.{constraint_view}
 use Rattle.fz_builtins.specs.of_kernel.Views.{arguments_of, assigned}
 use Rattle.fz_model.proofs.ConstraintStates.{row_fits, same_state}
 use Rattle.fz_model.proofs.constraints.of_constraint.Goals as goal

@@ -3,8 +3,8 @@ use Rattle.std.proofs.lemmas.List.Folds.{list_all-map}
 use Rattle.fz_builtins.specs.of_meaning.declared.state.State.TheVariants.{Holds, Fails, NoValue}
 use Rattle.fz_builtins.specs.of_meaning.States.{is_outside, judged_by}
 use Rattle.fz_builtins.specs.of_meaning.Meaning.{values}
-use Rattle.fz_builtins.specs.of_data.Shown.{scalar_terms}
-use Rattle.fz_builtins.specs.of_data.Slots.{slot_term}
+use Rattle.fz_builtins.specs.of_store.Shown.{scalar_terms}
+use Rattle.fz_builtins.specs.of_store.Slots.{slot_term}
 use Rattle.fz_builtins.specs.of_kernel.Given.{has_value}
 use Rattle.fz_model.proofs.ConstraintStates.{any_after, none_outside}
 use Rattle.fz_model.proofs.domains.of_elements.Goals as goal

@@ -1,7 +1,7 @@
 use Rattle.std.proofs.Common.{◌≡◌, Some, option_map, sym, ap, ◌∙◌}
 use Rattle.fz_builtins.specs.of_meaning.Meaning.{have_shapes, row_of}
 use Rattle.fz_builtins.specs.of_meaning.Known.{known_row}
-use Rattle.fz_builtins.specs.of_data.Parts.{constraint_view}
+use Rattle.fz_builtins.specs.of_store.Parts.{constraint_view}
 use Rattle.fz_builtins.specs.of_kernel.Given.{are_read}
 use Rattle.fz_builtins.specs.of_kernel.Views.{arguments_of, assigned}
 use Rattle.fz_model.specs.Holding.{is_held}

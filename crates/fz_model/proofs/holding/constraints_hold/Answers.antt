@@ -1,8 +1,8 @@
 use Rattle.std.proofs.Common.{sym, ◌∙◌, arith}
 use Rattle.fz_builtins.proofs.of_meaning.Lists.{at_place}
 use Rattle.fz_builtins.specs.of_meaning.Meaning.{row_of}
-use Rattle.fz_builtins.specs.of_data.Kinds.{PostedFits}
-use Rattle.fz_builtins.specs.of_data.Parts.{kept_row, posted_view}
+use Rattle.fz_builtins.specs.of_store.Kinds.{PostedFits}
+use Rattle.fz_builtins.specs.of_store.Parts.{kept_row, posted_view}
 use Rattle.fz_model.specs.Holding.{posted_holds}
 use Rattle.fz_model.proofs.Together.{all_next, all_seen, all_stops, row_there, same_length, stands}
 use Rattle.fz_model.proofs.Valued.{posted_ready}

@@ -1,5 +1,5 @@
 use Rattle.std.proofs.Common.{map, sym, ap, subst, ◌∙◌}
-use Rattle.fz_builtins.specs.of_data.Slots.{segment, slot_term}
+use Rattle.fz_builtins.specs.of_store.Slots.{segment, slot_term}
 use Rattle.fz_model.specs.Openings.{AreOpen, IsFlat, terms_of}
 use Rattle.fz_model.proofs.StoredScalars.{flat_terms}
 use Rattle.fz_model.proofs.only.open_in.Goals as goal

@@ -3,8 +3,8 @@ use Rattle.std.specs.List.{AllByRecursion}
 use Rattle.fz_builtins.specs.of_meaning.Known.{known_row}
 use Rattle.fz_builtins.specs.of_meaning.Meaning.{terms_in}
 use Rattle.fz_builtins.specs.of_meaning.Steps.{open_terms}
-use Rattle.fz_builtins.specs.of_data.Parts.{argument_view, constraint_view}
-use Rattle.fz_builtins.specs.of_data.Slots.{segment}
+use Rattle.fz_builtins.specs.of_store.Parts.{argument_view, constraint_view}
+use Rattle.fz_builtins.specs.of_store.Slots.{segment}
 use Rattle.fz_model.proofs.ConstraintStates.{row_fits}
 use Rattle.fz_model.specs.Openings.{IsFlat, IsOpenIn}
 use Rattle.fz_model.proofs.Placed.{flat_arguments}

@@ -2,8 +2,8 @@ use Rattle.std.proofs.Common.{◌≡◌, Some, None, length, slice_get, map, ref
 use Rattle.std.specs.Option.{option_map_or}
 use Rattle.std.proofs.lemmas.Option.{slice_get_past, slice_get_read}
 use Rattle.fz_builtins.specs.of_meaning.Meaning.{terms_at}
-use Rattle.fz_builtins.specs.of_data.Parts.{array_view, no_array, place_view}
-use Rattle.fz_builtins.specs.of_data.Slots.{slot_term}
+use Rattle.fz_builtins.specs.of_store.Parts.{array_view, no_array, place_view}
+use Rattle.fz_builtins.specs.of_store.Slots.{slot_term}
 use Rattle.fz_model.specs.declared.only.Open.TheVariants.{Nothing}
 use Rattle.fz_model.specs.Openings.{AreOpen}
 use Rattle.fz_model.proofs.only.open_place.Goals as goal

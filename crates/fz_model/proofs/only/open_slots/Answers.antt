@@ -1,7 +1,7 @@
 use Rattle.std.proofs.Common.{◌+◌, ◌∷◌, [], Some, IfSome, drop, map, refl, sym, ap, subst, ◌∙◌}
 use Rattle.fz_builtins.specs.of_meaning.declared.term.Term.TheVariants.{Var}
 use Rattle.fz_builtins.specs.of_meaning.Steps.{open_terms}
-use Rattle.fz_builtins.specs.of_data.Slots.{slot_term}
+use Rattle.fz_builtins.specs.of_store.Slots.{slot_term}
 use Rattle.fz_model.proofs.Opens.{SoFar, StandsAmong, alone, ends, finds, finds_twice, front, goes_on, has_other}
 use Rattle.fz_model.proofs.StoredScalars.{mapped_at}
 use Rattle.fz_model.proofs.only.open_slots.Goals as goal

@@ -1,6 +1,6 @@
 use Rattle.std.proofs.Common.{List, map, drop, IfSome}
-use Rattle.fz_base.specs.declared.value.Value.{Value}
-use Rattle.fz_builtins.specs.of_data.Slots.{slot_term}
+use Rattle.fz_builtins.specs.of_meaning.of_base.declared.value.Value.{Value}
+use Rattle.fz_builtins.specs.of_store.Slots.{slot_term}
 use Rattle.fz_model.proofs.Opens.{SoFar, StandsAmong}
 use Rattle.fz_model.proofs.only.open_slots.Given as goal
 

@@ -4,7 +4,7 @@ use Rattle.fz_builtins.specs.of_meaning.declared.term.Term.TheVariants.{Var}
 use Rattle.fz_builtins.specs.of_meaning.Meaning.{terms_in}
 use Rattle.fz_builtins.specs.of_meaning.Steps.{open_terms}
 use Rattle.fz_builtins.proofs.of_meaning.Lists.{at_place}
-use Rattle.fz_builtins.specs.of_data.Parts.{argument_view}
+use Rattle.fz_builtins.specs.of_store.Parts.{argument_view}
 use Rattle.fz_model.specs.declared.only.Spot.{Spot}
 use Rattle.fz_model.specs.Openings.{IsFlat, posted_with, terms_of}
 use Rattle.fz_model.proofs.Opens.{SoFar, StandsIn, ends, finds, finds_twice, front, goes_on, has_other, never_there, scalars, waits_for}

@@ -1,8 +1,8 @@
 use Rattle.std.proofs.Common.{map, option_map, sym, ap, subst, ◌∙◌}
 use Rattle.std.specs.List.{AllByRecursion}
 use Rattle.fz_builtins.specs.of_meaning.Known.{known_row}
-use Rattle.fz_builtins.specs.of_data.Parts.{argument_view, constraint_view}
-use Rattle.fz_builtins.specs.of_data.Slots.{segment}
+use Rattle.fz_builtins.specs.of_store.Parts.{argument_view, constraint_view}
+use Rattle.fz_builtins.specs.of_store.Slots.{segment}
 use Rattle.fz_model.proofs.ConstraintStates.{row_fits}
 use Rattle.fz_model.specs.Openings.{IsFlat, IsOpening}
 use Rattle.fz_model.proofs.Opens.{never_set}

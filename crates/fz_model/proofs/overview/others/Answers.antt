@@ -1,6 +1,6 @@
 use Rattle.std.proofs.Common.{sym, ◌∙◌, arith}
 use Rattle.fz_builtins.specs.of_meaning.Meaning.{points}
-use Rattle.fz_builtins.specs.of_data.Shown.{point_view}
+use Rattle.fz_builtins.specs.of_store.Shown.{point_view}
 use Rattle.fz_model.proofs.Others.{passed_domain, noted_other}
 use Rattle.fz_model.proofs.overview.others.Goals as goal
 

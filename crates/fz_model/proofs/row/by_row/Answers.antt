@@ -1,7 +1,7 @@
 use Rattle.std.proofs.Common.{◌≡◌, true, IfSome, None, Some, option_map, sym, ap, subst, subst₂, ◌∙◌}
 use Rattle.fz_builtins.specs.of_meaning.Known.{known_row}
 use Rattle.fz_builtins.specs.of_meaning.Meaning.{row_of}
-use Rattle.fz_builtins.specs.of_data.Parts.{constraint_view}
+use Rattle.fz_builtins.specs.of_store.Parts.{constraint_view}
 use Rattle.fz_model.proofs.ConstraintStates.{row_fits}
 use Rattle.fz_model.specs.Forced.{IsOnlyValue, IsReady}
 use Rattle.fz_model.specs.KindsFit.{each_fits}

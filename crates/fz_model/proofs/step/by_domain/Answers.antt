@@ -1,6 +1,6 @@
 use Rattle.std.proofs.Common.{FitsSigned, w64, refl, rules}
 use Rattle.std.proofs.lemmas.Int.{to_z-of_z}
-use Rattle.fz_builtins.specs.of_data.Parts.{variable_view}
+use Rattle.fz_builtins.specs.of_store.Parts.{variable_view}
 use Rattle.fz_model.proofs.Gaps.{gone}
 use Rattle.fz_model.proofs.Sides.{domain_forces}
 use Rattle.fz_model.proofs.step.by_domain.Goals as goal

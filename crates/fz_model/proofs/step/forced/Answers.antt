@@ -3,7 +3,7 @@ use Rattle.fz_builtins.specs.of_meaning.Meaning.Point.{ConstraintPoint, Definiti
 use Rattle.fz_builtins.proofs.of_meaning.Lists.{at_place}
 use Rattle.fz_builtins.proofs.of_meaning.Points.{points_fit}
 use Rattle.fz_builtins.proofs.of_meaning.Steps.{PointFits}
-use Rattle.fz_builtins.specs.of_data.Parts.{constraint_view, variable_view}
+use Rattle.fz_builtins.specs.of_store.Parts.{constraint_view, variable_view}
 use Rattle.fz_model.proofs.Gaps.{gives, gives_nothing, forces, forces_nothing}
 use Rattle.fz_model.proofs.KindsFit.{known_fits}
 use Rattle.fz_model.proofs.step.forced.Goals as goal

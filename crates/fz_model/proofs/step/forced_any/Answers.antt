@@ -1,6 +1,6 @@
 use Rattle.std.proofs.Common.{refl}
 use Rattle.fz_builtins.specs.of_meaning.Meaning.{points}
-use Rattle.fz_builtins.specs.of_data.Parts.{constraint_view}
+use Rattle.fz_builtins.specs.of_store.Parts.{constraint_view}
 use Rattle.fz_model.proofs.Aiming.{gives_any}
 use Rattle.fz_model.proofs.KindsFit.{known_fits}
 use Rattle.fz_model.proofs.step.forced_any.Goals as goal

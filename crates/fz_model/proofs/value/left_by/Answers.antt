@@ -1,5 +1,5 @@
 use Rattle.std.proofs.Common.{rules, ◌≡◌, Some, nat_eq, option_map, subst, sym}
-use Rattle.fz_base.specs.declared.value.Value.TheVariants.{Int, Bool as Truth, Set}
+use Rattle.fz_builtins.specs.of_meaning.of_base.declared.value.Value.TheVariants.{Int, Bool as Truth, Set}
 use Rattle.fz_builtins.specs.Said.{IsSaid}
 use Rattle.fz_model.specs.Left.{IsLeftIfComputed}
 use Rattle.fz_model.proofs.Lefts.{nothing_said, number_said, set_said, truth_said}

@@ -1,5 +1,5 @@
 use Rattle.std.proofs.Common.{◌≡◌, ◌<◌, ◌-◌, ◌||◌, false, length, not, subst, arith, rules}
-use Rattle.fz_model.specs.of_builtins.of_kernel.Given.{bools_at, slots_at}
+use Rattle.fz_index.specs.of_model.of_builtins.of_kernel.Given.{bools_at, slots_at}
 use Rattle.fz_bounds.specs.Decided.{Decides}
 use Rattle.fz_bounds.specs.Within.{given}
 use Rattle.fz_bounds.specs.declared.outlook.Outlook.TheVariants.{Never}

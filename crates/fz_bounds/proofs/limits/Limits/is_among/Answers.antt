@@ -1,7 +1,7 @@
 use Rattle.std.proofs.Common.{◌≡◌, inl, inr, subst, slice_get, Some, arith, rules}
 use Rattle.std.proofs.lemmas.Bool.{cases_lt}
-use Rattle.fz_model.specs.Relations.{◌=ℤ◌}
-use Rattle.fz_model.specs.of_builtins.of_kernel.Given.{ints_at}
+use Rattle.fz_index.specs.of_model.Relations.{◌=ℤ◌}
+use Rattle.fz_index.specs.of_model.of_builtins.of_kernel.Given.{ints_at}
 use Rattle.fz_bounds.specs.Decided.{Decides}
 use Rattle.fz_bounds.specs.Within.{given}
 use Rattle.fz_bounds.specs.declared.outlook.Outlook.TheVariants.{Never}

@@ -1,5 +1,5 @@
-use Rattle.fz_judge.specs.BlockView.{located_block}
-use Rattle.fz_judge.specs.View.{verdict_view}
+use Rattle.fz_judge.specs.of_filling.BlockView.{located_block}
+use Rattle.fz_judge.specs.of_filling.View.{verdict_view}
 use Rattle.fz_check.proofs.ClaimLemmas.{outcome_of}
 use Rattle.fz_check.proofs.JuryLemmas.{judges_more}
 use Rattle.fz_check.proofs.jury.Jury.judge.Goals as goal

@@ -1,17 +1,17 @@
 use Rattle.std.proofs.Common.{◌≡◌, ℤ, Bool, true, false, Option, None, Some, IfOk, int_lt, refl, sym, ap, subst, ◌∙◌}
 use Rattle.fz_search.specs.of_model.Meaning.{Aim, Model, Partial, IsPartial, objective}
 use Rattle.fz_search.specs.of_model.Meaning.Aim.{Satisfy, Minimize, Maximize}
-use Rattle.fz_judge.specs.Solutions.{Block}
-use Rattle.fz_judge.specs.Completed.{IsCompleted}
-use Rattle.fz_judge.specs.Completed.IsCompleted.{Found, AsFilled, NotBetterThanFound}
-use Rattle.fz_judge.specs.Verdict.{Fault, Verdict, not_better_if, objective_fails, verdict}
-use Rattle.fz_judge.specs.Verdict.Fault.{NotBetter}
-use Rattle.fz_judge.specs.Verdict.Verdict.{Satisfied, Undecided, Violated}
-use Rattle.fz_judge.specs.BlockView.{located_block}
-use Rattle.fz_judge.proofs.Accepted.{satisfied_after}
-use Rattle.fz_judge.specs.Judged.{JudgeState}
-use Rattle.fz_judge.specs.View.{fault_view, reason_view, verdict_view}
-use Rattle.fz_judge.specs.Working.{compared, not_shown_better}
+use Rattle.fz_filling.specs.Solutions.{Block}
+use Rattle.fz_filling.specs.Completed.{IsCompleted}
+use Rattle.fz_filling.specs.Completed.IsCompleted.{Found, AsFilled, NotBetterThanFound}
+use Rattle.fz_filling.specs.Verdict.{Fault, Verdict, not_better_if, objective_fails, verdict}
+use Rattle.fz_filling.specs.Verdict.Fault.{NotBetter}
+use Rattle.fz_filling.specs.Verdict.Verdict.{Satisfied, Undecided, Violated}
+use Rattle.fz_filling.specs.BlockView.{located_block}
+use Rattle.fz_filling.proofs.Accepted.{satisfied_after}
+use Rattle.fz_filling.specs.Judged.{JudgeState}
+use Rattle.fz_filling.specs.View.{fault_view, reason_view, verdict_view}
+use Rattle.fz_filling.specs.Working.{compared, not_shown_better}
 use Rattle.fz_judge.proofs.judge.Judge.completed.Goals as goal
 
 by_test : (better : Bool) (n b : ℤ) (f : Fault) → not_better_if better n b ≡ Some f

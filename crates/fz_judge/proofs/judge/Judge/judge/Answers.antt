@@ -1,10 +1,10 @@
 use Rattle.std.proofs.Common.{◌≡◌, ◌∙◌, sym, ap, subst, rules}
 use Rattle.fz_search.specs.of_model.Meaning.{IsPartial}
-use Rattle.fz_judge.specs.Verdict.{IsFilled}
-use Rattle.fz_judge.specs.BlockView.{located_block}
-use Rattle.fz_judge.specs.Judged.{JudgeState}
-use Rattle.fz_judge.specs.Working.{HasRoom}
-use Rattle.fz_judge.proofs.Starting.{has_room}
+use Rattle.fz_filling.specs.Verdict.{IsFilled}
+use Rattle.fz_filling.specs.BlockView.{located_block}
+use Rattle.fz_filling.specs.Judged.{JudgeState}
+use Rattle.fz_filling.specs.Working.{HasRoom}
+use Rattle.fz_filling.proofs.Starting.{has_room}
 use Rattle.fz_judge.proofs.judge.Judge.judge.Goals as goal
 use Rattle.fz_judge.proofs.judge.Judge.judge.Goals.{in-Off, in-On+in_ok-verdict-in-On}
 

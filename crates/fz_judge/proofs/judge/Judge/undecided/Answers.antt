@@ -4,15 +4,15 @@ use Rattle.fz_search.specs.of_model.Meaning.{Assignment, Model, Partial, objecti
 use Rattle.fz_search.specs.of_model.Openings.{HasEach}
 use Rattle.fz_search.specs.of_model.States.{IsKnownSolution}
 use Rattle.fz_search.specs.of_model.Shown.{point_name}
-use Rattle.fz_judge.specs.Solutions.{Block}
-use Rattle.fz_judge.specs.Completed.{IsCompleted, LacksValuesAtMost}
-use Rattle.fz_judge.specs.Completed.IsCompleted.{Found, AsFilled}
-use Rattle.fz_judge.specs.Verdict.{Reason, Verdict}
-use Rattle.fz_judge.specs.Verdict.Verdict.{Satisfied, Undecided, Violated}
-use Rattle.fz_judge.specs.BlockView.{located_block}
-use Rattle.fz_judge.specs.Judged.{IsOfPoint, JudgeState}
-use Rattle.fz_judge.specs.View.{fault_view, reason_view}
-use Rattle.fz_judge.specs.Working.{IsFound}
+use Rattle.fz_filling.specs.Solutions.{Block}
+use Rattle.fz_filling.specs.Completed.{IsCompleted, LacksValuesAtMost}
+use Rattle.fz_filling.specs.Completed.IsCompleted.{Found, AsFilled}
+use Rattle.fz_filling.specs.Verdict.{Reason, Verdict}
+use Rattle.fz_filling.specs.Verdict.Verdict.{Satisfied, Undecided, Violated}
+use Rattle.fz_filling.specs.BlockView.{located_block}
+use Rattle.fz_filling.specs.Judged.{IsOfPoint, JudgeState}
+use Rattle.fz_filling.specs.View.{fault_view, reason_view}
+use Rattle.fz_filling.specs.Working.{IsFound}
 use Rattle.fz_judge.proofs.Refuting.{of_point, refuted_told}
 use Rattle.fz_judge.proofs.judge.Judge.undecided.Goals as goal
 

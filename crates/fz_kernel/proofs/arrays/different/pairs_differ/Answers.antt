@@ -1,6 +1,6 @@
 use Rattle.std.proofs.Common.{pos, not, get_or, ◌≡◌, length, ◌∙◌, arith, rules}
 use Rattle.std.proofs.lemmas.List.{drop_more}
-use Rattle.fz_data.specs.of_meaning.Relations.{◌=ℤ◌}
+use Rattle.fz_store.specs.of_meaning.Relations.{◌=ℤ◌}
 use Rattle.fz_kernel.specs.Views.{ints}
 use Rattle.fz_kernel.proofs.Between.{all_pairs_of, read_at}
 use Rattle.fz_kernel.proofs.Different.{pairs_are}

@@ -1,5 +1,5 @@
 use Rattle.std.proofs.Common.{◌≡◌, pos, get_or, length, ◌∙◌, rules}
-use Rattle.fz_data.specs.of_meaning.Relations.{◌=ℤ◌}
+use Rattle.fz_store.specs.of_meaning.Relations.{◌=ℤ◌}
 use Rattle.fz_kernel.specs.Views.{ints}
 use Rattle.fz_kernel.proofs.Between.{read_at, some_of}
 use Rattle.fz_kernel.proofs.Read.{ints_counted}

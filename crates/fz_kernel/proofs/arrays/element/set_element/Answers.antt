@@ -1,7 +1,7 @@
 use Rattle.std.proofs.Common.{◌≡◌, ◌+◌, Some, pos, w64, FitsSigned, rules, sym, ◌∙◌}
 use Rattle.std.specs.Int.{w128}
 use Rattle.std.proofs.lemmas.Int.{to_z-of_z}
-use Rattle.fz_data.specs.of_meaning.Relations.{element_at}
+use Rattle.fz_store.specs.of_meaning.Relations.{element_at}
 use Rattle.fz_kernel.specs.Views.{sets}
 use Rattle.fz_kernel.proofs.Read.{sets_counted}
 use Rattle.fz_kernel.proofs.Passed.{element_found, none_found}

@@ -1,7 +1,7 @@
 use Rattle.std.proofs.Common.{◌≡◌, ◌+ℤ◌, ◌*ℤ◌, FitsSigned, to_z, of_z, [], drop, length, sym, ap, subst, ◌∙◌, arith, rules}
 use Rattle.std.specs.Int.{w128}
 use Rattle.std.proofs.lemmas.Int.{to_z-of_z}
-use Rattle.fz_data.specs.of_meaning.Relations.{products}
+use Rattle.fz_store.specs.of_meaning.Relations.{products}
 use Rattle.fz_kernel.specs.Views.{ints}
 use Rattle.fz_kernel.proofs.Left.{one_ends}
 use Rattle.fz_kernel.proofs.Read.{ints_counted}

@@ -2,7 +2,7 @@ use Rattle.std.proofs.Common.{◌≡◌, pos, neg_ℤ, ◌*◌, ◌+ℤ◌, ◌�
 use Rattle.std.specs.Int.{w128}
 use Rattle.std.proofs.lemmas.Int.{ints as numerals}
 use Rattle.std.proofs.lemmas.Option.{slice_get-get_or}
-use Rattle.fz_data.specs.of_meaning.Relations.{where_true}
+use Rattle.fz_store.specs.of_meaning.Relations.{where_true}
 use Rattle.fz_kernel.specs.Views.{ints, bools}
 use Rattle.fz_kernel.proofs.Left.{one_ends}
 use Rattle.fz_kernel.proofs.Read.{ints_counted, bools_counted}

@@ -1,5 +1,5 @@
 use Rattle.std.proofs.Common.{map, ap, ◌∙◌}
-use Rattle.fz_data.specs.of_meaning.Known.{shape_of}
+use Rattle.fz_store.specs.of_meaning.Known.{shape_of}
 use Rattle.fz_kernel.specs.Arguments.{reading_in, readings_are_read}
 use Rattle.fz_kernel.specs.Views.{assigned}
 use Rattle.fz_kernel.proofs.Standing.{read_all}

@@ -1,6 +1,6 @@
 use Rattle.std.proofs.Common.{◌≡◌, ◌+◌, ◌-◌, length, ap, ◌∙◌, arith}
 use Rattle.fz_builtins.specs.of_meaning.Meaning.{points, row_of}
-use Rattle.fz_builtins.specs.of_data.Parts.{kept_row}
+use Rattle.fz_builtins.specs.of_store.Parts.{kept_row}
 use Rattle.fz_model.specs.Overviews.{others_from}
 use Rattle.fz_model.proofs.Together.{declared_first, enough, same_length}
 use Rattle.fz_model.proofs.overview.Overview.new.Goals as goal

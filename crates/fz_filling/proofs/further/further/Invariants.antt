@@ -1,0 +1,13 @@
+use Rattle.fz_index.specs.of_model.Meaning.{IsPartial}
+use Rattle.fz_index.specs.of_model.Partial.{unset_count}
+use Rattle.fz_filling.specs.Givers.{AddsSteps}
+use Rattle.fz_filling.proofs.further.further.Given as goal
+
+abbrev pub invariant-loop : goal.invariant-loop
+invariant-loop l = record {
+  steps : AddsSteps l.model l.fn.partial l.partial l.fn.steps.items l.steps.items;
+  fits : IsPartial l.model l.partial;
+}
+
+abbrev pub decreases-loop : goal.decreases-loop
+decreases-loop l = unset_count l.partial

@@ -1,0 +1,1 @@
+pub use Rattle.fz_model.proofs as of_model

@@ -1,0 +1,1 @@
+pub use Rattle.fz_model.specs as of_model

@@ -1,8 +1,0 @@
-use Rattle.std.proofs.Common.{◌≡◌, None, map, take}
-use Rattle.fz_search.specs.of_model.Meaning.{first_some}
-use Rattle.fz_search.specs.of_model.View.{located_literal}
-use Rattle.fz_judge.specs.BlockFaults.{literal_fault}
-use Rattle.fz_judge.proofs.faults.elements_fault.Given as goal
-
-abbrev pub invariant-loop-literal : goal.invariant-loop-literal
-invariant-loop-literal l = first_some (literal_fault l.kind) (map located_literal (take l.literal-index l.literals)) ≡ None

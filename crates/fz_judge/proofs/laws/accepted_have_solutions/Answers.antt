@@ -1,7 +1,0 @@
-use Rattle.fz_search.specs.of_model.Names.{model_of}
-use Rattle.fz_search.proofs.of_model.Scope.{sound_aims}
-use Rattle.fz_judge.proofs.Accepted.{accepted_solves}
-use Rattle.fz_judge.proofs.laws.accepted_have_solutions.Goals as goal
-
-pub returns : goal.returns
-returns c = λ t blocks verdicts n sound judged answer. accepted_solves (model_of t) blocks verdicts n (sound_aims t sound) judged answer

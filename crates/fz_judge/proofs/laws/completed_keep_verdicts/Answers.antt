@@ -1,5 +1,0 @@
-use Rattle.fz_judge.proofs.Lasting.{keeps_verdicts}
-use Rattle.fz_judge.proofs.laws.completed_keep_verdicts.Goals as goal
-
-pub returns : goal.returns
-returns c = keeps_verdicts

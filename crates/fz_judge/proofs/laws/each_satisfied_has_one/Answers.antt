@@ -1,5 +1,0 @@
-use Rattle.fz_judge.proofs.Each.{each_satisfied}
-use Rattle.fz_judge.proofs.laws.each_satisfied_has_one.Goals as goal
-
-pub returns : goal.returns
-returns c = each_satisfied

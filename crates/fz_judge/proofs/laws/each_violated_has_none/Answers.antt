@@ -1,5 +1,0 @@
-use Rattle.fz_judge.proofs.Each.{each_violated}
-use Rattle.fz_judge.proofs.laws.each_violated_has_none.Goals as goal
-
-pub returns : goal.returns
-returns c = each_violated

@@ -1,5 +1,0 @@
-use Rattle.fz_judge.proofs.Starts.{filling_proposed}
-use Rattle.fz_judge.proofs.laws.filling_is_proposed.Goals as goal
-
-pub returns : goal.returns
-returns c = filling_proposed

@@ -1,8 +1,0 @@
-use Rattle.std.proofs.Common.{◌≡◌, None, map, take}
-use Rattle.fz_search.specs.of_model.Meaning.{first_some}
-use Rattle.fz_judge.specs.Verdict.{printed_fails}
-use Rattle.fz_judge.specs.BlockView.{located_printed}
-use Rattle.fz_judge.proofs.printed.printed_fails.Given as goal
-
-abbrev pub invariant-loop-item : goal.invariant-loop-item
-invariant-loop-item l = first_some (printed_fails l.model l.partial) (map located_printed (take l.item-index l.items)) ≡ None
