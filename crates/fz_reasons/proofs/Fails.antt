@@ -1,44 +1,37 @@
--- A row fails by each of its reasons.
+-- A row fails by each of its reasons, and so does a form of it where it is so why.
 use Rattle.std.proofs.Common.{◌≡◌, ℤ, Bool, cond, true, false, not, ◌&&◌, ◌||◌, List, None, Some, int_le, option_and_then, refl, sym, ap, ◌∙◌, map}
 use Rattle.std.specs.List.{list_all, list_any}
 use Rattle.std.specs.FinSet as sets
 use Rattle.std.proofs.lemmas.Option.{none-some, same_Some}
-use Rattle.fz_builtins.specs.of_meaning.declared.builtin.Builtin.{Builtin}
+use Rattle.fz_builtins.proofs.of_meaning.of_base.Covers.{and-false}
+use Rattle.fz_reasons.specs.Rows.{Argument, Builtin, Partial, bool_at, bools_at, int_at, ints_at, row_at, row_outcome, set_at, sets_at, sum_outcome}
 use Rattle.fz_builtins.specs.of_meaning.declared.builtin.Builtin.TheVariants as builtin
 use Rattle.fz_builtins.specs.of_meaning.declared.kind.Kind.TheVariants.{Int as IntKind, Bool as BoolKind}
-use Rattle.fz_builtins.specs.of_meaning.Builtins.{row_at}
-use Rattle.fz_builtins.specs.of_meaning.Meaning.{Argument, Partial}
 use Rattle.fz_builtins.specs.of_meaning.Relations.{◌=ℤ◌, ◌=ᴮ◌, ◌=ˢ◌, as_number, count_of, counts_are, counts_lie, all_both, all_neighbours, is_among, is_closed, is_nonzero, union_of}
-use Rattle.fz_builtins.specs.of_kernel.Given.{bool_at, bools_at, int_at, ints_at, set_at, sets_at}
-use Rattle.fz_builtins.specs.Outcomes.{row_outcome, sum_outcome}
+use Rattle.fz_builtins.specs.Outcomes.{compared, implied_by}
 use Rattle.fz_builtins.specs.declared.outcome.Outcome.{Outcome}
 use Rattle.fz_builtins.specs.declared.outcome.Outcome.TheVariants.{Truth}
 use Rattle.fz_builtins.specs.Said.{is_result}
 use Rattle.fz_builtins.proofs.RowTests.{holds_at, same_int_either_way}
 use Rattle.fz_reasons.specs.Compared.{comparison, leave, operands, sides_of}
-use Rattle.fz_reasons.specs.Relating.{relates}
-use Rattle.fz_reasons.specs.Elements.{AreUnlike, IsCount, IsOutside}
-use Rattle.fz_reasons.specs.Reasons.{AreSame, Clashes, Counts, HasEven, HasNoLiteral, HasOtherNumber, HasOtherTruth, LiesOutside, NotListed, RowsFail, Says, Unlike, element_kind, neighbours_of, numbers_at}
+use Rattle.fz_reasons.specs.Elements.{AreUnlike, IsCount, IsOutside, relates, Relation, Equal, AtMost, Below, AtLeast, Clash, Neighbours, Count, Element, Sides}
+use Rattle.fz_reasons.specs.Reasons.{AreSame, Clashes, Counts, HasEven, HasNoLiteral, HasOtherNumber, HasOtherTruth, LiesOutside, NotListed, RowsFail, Says, Unlike, element_kind, neighbours_of, numbers_at, OtherNumber, OtherTruth}
 use Rattle.fz_reasons.proofs.Arranging.{arranged_fails}
-use Rattle.fz_reasons.proofs.Lists.{and_false, both_fail, neighbours_fail, one_fails}
+use Rattle.fz_reasons.proofs.Lists.{both_fail, neighbours_fail, one_fails, clash, clash_of_kept}
 use Rattle.fz_reasons.proofs.BelowZero.{negative_fails}
-use Rattle.fz_reasons.proofs.Numbers.{clash, clash_of_kept}
 use Rattle.fz_reasons.proofs.Truths.{at_most, below, truth_neighbours}
 use Rattle.fz_reasons.proofs.Touring.{entered_twice}
 use Rattle.fz_reasons.proofs.Scheduled.{bin_fails, boxes_fail, load_fails, overlap_fails}
 use Rattle.fz_reasons.proofs.Ordered.{beginning_fails, difference_fails, early_fails, end_fails, near_row_fails, no_step_fails, one_way_fails}
 use Rattle.fz_reasons.proofs.SetRows.{member_fails, shared_fails}
 use Rattle.fz_reasons.specs.declared.reason.Operands.{Operands}
-use Rattle.fz_reasons.specs.declared.reason.Relation.{Relation}
-use Rattle.fz_reasons.specs.declared.reason.Relation.TheVariants.{Equal, AtMost, Below, AtLeast}
-use Rattle.fz_reasons.specs.declared.reason.Clash.{Clash}
-use Rattle.fz_reasons.specs.declared.reason.Neighbours.{Neighbours}
-use Rattle.fz_reasons.specs.declared.reason.Count.{Count}
-use Rattle.fz_reasons.specs.declared.reason.Element.{Element}
-use Rattle.fz_reasons.specs.declared.reason.OtherNumber.{OtherNumber}
-use Rattle.fz_reasons.specs.declared.reason.OtherTruth.{OtherTruth}
-use Rattle.fz_reasons.specs.declared.reason.Sides.{Sides}
 use Rattle.fz_reasons.specs.declared.reason.Reason.TheVariants as reasons
+use Rattle.fz_builtins.specs.of_meaning.declared.known.Form.{Form}
+use Rattle.fz_builtins.specs.of_meaning.declared.known.Form.TheVariants.{Base, Reified, Implied}
+use Rattle.fz_builtins.specs.of_meaning.Known.{form_at}
+use Rattle.fz_builtins.proofs.FormOutcomes.{implied_outcome, reified_outcome}
+use Rattle.fz_reasons.specs.Forms.{FormsFail, IsAsked, IsForbidden, control}
+use Rattle.fz_reasons.specs.declared.reason.Why.TheVariants as whys
 
 -- ---- two sides
 
@@ -184,14 +177,14 @@ count_fails builtin.FznGlobalCardinalityLowUp AtLeast K xs c e h =
 count_fails builtin.FznGlobalCardinalityLowUp AtMost K xs c e h =
     ap (λ s. Truth (all_both (λ v n. int_le n (count_of (ints_at K xs 0) v)) (ints_at K xs 1) (ints_at K xs 2) && s))
     (miscounted AtMost (ints_at K xs 0) (ints_at K xs 1) (ints_at K xs 3) c e h)
-    ∙ ap Truth (and_false (all_both (λ v n. int_le n (count_of (ints_at K xs 0) v)) (ints_at K xs 1) (ints_at K xs 2)))
+    ∙ ap Truth (and-false (all_both (λ v n. int_le n (count_of (ints_at K xs 0) v)) (ints_at K xs 1) (ints_at K xs 2)))
 count_fails builtin.FznGlobalCardinalityLowUpClosed AtLeast K xs c e h =
     ap (λ s. Truth ((s && all_both (λ v n. int_le (count_of (ints_at K xs 0) v) n) (ints_at K xs 1) (ints_at K xs 3)) && is_closed (ints_at K xs 0) (ints_at K xs 1)))
     (miscounted AtLeast (ints_at K xs 0) (ints_at K xs 1) (ints_at K xs 2) c e h)
 count_fails builtin.FznGlobalCardinalityLowUpClosed AtMost K xs c e h =
     ap (λ s. Truth ((all_both (λ v n. int_le n (count_of (ints_at K xs 0) v)) (ints_at K xs 1) (ints_at K xs 2) && s) && is_closed (ints_at K xs 0) (ints_at K xs 1)))
     (miscounted AtMost (ints_at K xs 0) (ints_at K xs 1) (ints_at K xs 3) c e h)
-    ∙ ap (λ s. Truth (s && is_closed (ints_at K xs 0) (ints_at K xs 1))) (and_false (all_both (λ v n. int_le n (count_of (ints_at K xs 0) v)) (ints_at K xs 1) (ints_at K xs 2)))
+    ∙ ap (λ s. Truth (s && is_closed (ints_at K xs 0) (ints_at K xs 1))) (and-false (all_both (λ v n. int_le n (count_of (ints_at K xs 0) v)) (ints_at K xs 1) (ints_at K xs 2)))
 count_fails builtin.FznDistribute Equal K xs c e h =
     ap Truth (miscounted Equal (ints_at K xs 2) (ints_at K xs 1) (ints_at K xs 0) c e h)
 count_fails b relation K xs c e h = absurd h
@@ -204,10 +197,10 @@ outside_fails : (b : Builtin) (K : Partial) (xs : List Argument) (e : Element) �
 unfolding row_outcome row_at
 outside_fails builtin.FznGlobalCardinalityClosed K xs e h =
     ap (λ s. Truth (counts_are (ints_at K xs 0) (ints_at K xs 1) (ints_at K xs 2) && s)) (outside (ints_at K xs 0) (ints_at K xs 1) e h)
-    ∙ ap Truth (and_false (counts_are (ints_at K xs 0) (ints_at K xs 1) (ints_at K xs 2)))
+    ∙ ap Truth (and-false (counts_are (ints_at K xs 0) (ints_at K xs 1) (ints_at K xs 2)))
 outside_fails builtin.FznGlobalCardinalityLowUpClosed K xs e h =
     ap (λ s. Truth (counts_lie (ints_at K xs 0) (ints_at K xs 1) (ints_at K xs 2) (ints_at K xs 3) && s)) (outside (ints_at K xs 0) (ints_at K xs 1) e h)
-    ∙ ap Truth (and_false (counts_lie (ints_at K xs 0) (ints_at K xs 1) (ints_at K xs 2) (ints_at K xs 3)))
+    ∙ ap Truth (and-false (counts_lie (ints_at K xs 0) (ints_at K xs 1) (ints_at K xs 2) (ints_at K xs 3)))
 outside_fails b K xs e h = absurd h
 
 not_listed_fails : (b : Builtin) (K : Partial) (xs : List Argument) (v : ℤ) → NotListed b K xs v
@@ -254,3 +247,19 @@ fails b K xs (reasons.Arranged a) h = arranged_fails b K xs a h
 fails b K xs (reasons.Member m) h = member_fails b K xs m h
 fails b K xs (reasons.NotListed v) h = not_listed_fails b K xs v h
 fails b K xs reasons.Same h = same_fails b K xs h
+
+asked_fails : (f : Form) (b : Builtin) (K : Partial) (xs : List Argument) → IsAsked f (control b K xs)
+    → row_outcome (row_at b) K xs ≡ Truth false → row_outcome (form_at f (row_at b)) K xs ≡ Truth false
+asked_fails Base b K xs h e = e
+asked_fails Reified b K xs h e = reified_outcome (row_at b) K xs ∙ (λ i. compared (h i) (e i))
+asked_fails Implied b K xs h e = implied_outcome (row_at b) K xs ∙ (λ i. implied_by (h i) (e i))
+
+forbidden_fails : (f : Form) (b : Builtin) (K : Partial) (xs : List Argument) → IsForbidden f (control b K xs)
+    → row_outcome (row_at b) K xs ≡ Truth true → row_outcome (form_at f (row_at b)) K xs ≡ Truth false
+forbidden_fails Base b K xs h e = absurd h
+forbidden_fails Reified b K xs h e = reified_outcome (row_at b) K xs ∙ (λ i. compared (h i) (e i))
+forbidden_fails Implied b K xs h e = absurd h
+
+pub forms_fail : FormsFail
+forms_fail k K xs (whys.Fails r) h = asked_fails k.form k.builtin K xs h.0 (fails k.builtin K xs r h.1)
+forms_fail k K xs whys.Holds h = forbidden_fails k.form k.builtin K xs h.0 h.1

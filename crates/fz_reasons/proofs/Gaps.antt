@@ -1,6 +1,7 @@
 -- A number between two elements of a set, and elements on either side of a number.
 use Rattle.std.proofs.Common.{◌≡◌, ◌↔◌, ℤ, pos, negsuc, ◌≤ℤ◌, int_lt, Bool, true, false, not, ◌&&◌, FitsSigned, w64, refl, sym, ◌∙◌, arith}
 use Rattle.std.specs.List.{list_any}
+use Rattle.std.proofs.lemmas.Bool.{false_from_ne_true, not-true, true_from_ne_false}
 use Rattle.std.specs.FinSet as sets
 use Rattle.std.proofs.lemmas.Int.{ints}
 use Rattle.fz_builtins.specs.of_meaning.of_syntax.Sets.{NumberSet}
@@ -18,10 +19,6 @@ not_less a b h k = grind (arith, ints)
 at_least : (a b : ℤ) → int_lt a b ≡ false → b ≤ℤ a
 at_least a b h = grind (arith, ints)
 
-is_false : (b : Bool) → not b ≡ true → b ≡ false
-is_false true e = no e
-is_false false e = refl
-
 pub has_gap : (s : NumberSet) (q : ℤ)
     → (list_any (λ x. int_lt x q) (sets.items s) && not (sets.contains s q)
     && list_any (λ x. int_lt q x) (sets.items s)) ≡ true → is_convex s ≡ false
@@ -30,7 +27,7 @@ has_gap s q e =
     let out = not (sets.contains s q) in
     let x = some_element (λ x. int_lt x q) s (and_first below out (and_first (below && out) _ e)) in
     let y = some_element (λ x. int_lt q x) s (and_second (below && out) _ e) in
-    gap s x.0 q y.0 x.1 y.1 (less x.0 q x.2) (less q y.0 y.2) (is_false _ (and_second below out (and_first (below && out) _ e)))
+    gap s x.0 q y.0 x.1 y.1 (less x.0 q x.2) (less q y.0 y.2) (not-true _ (and_second below out (and_first (below && out) _ e)))
 
 -- some element passes where not each is on the other side
 module _ (s : NumberSet) (p : ℤ → Bool) (lo hi : ℤ) where
@@ -38,21 +35,12 @@ module _ (s : NumberSet) (p : ℤ → Bool) (lo hi : ℤ) where
       → ((x : ℤ) → sets.contains s x ≡ true → p x ≡ true → (lo ≤ℤ x) × (x ≤ℤ hi) → ⊥)
       → ((x : ℤ) → sets.contains s x ≡ true → p x ≡ false → (lo ≤ℤ x) × (x ≤ℤ hi))
       → not r ≡ list_any p (sets.items s)
-  one_side true told out within = by (list_any p (sets.items s)) refl
+  one_side true told out within =
+      sym (false_from_ne_true _ (λ e. let x = some_element p s e in out x.0 x.1 x.2 (told.0 refl x.0 x.1)))
+  one_side false told out within = sym (true_from_ne_false _ (λ e. no (told.1 (λ x in_s. within x in_s (fails e x in_s)))))
     where
-      by : (b : Bool) → list_any p (sets.items s) ≡ b → false ≡ list_any p (sets.items s)
-      by true e = let x = some_element p s e in absurd (out x.0 x.1 x.2 (told.0 refl x.0 x.1))
-      by false e = sym e
-  one_side false told out within = by (list_any p (sets.items s)) refl
-    where
-      fails : list_any p (sets.items s) ≡ false → (x : ℤ) → sets.contains s x ≡ true → (b : Bool)
-          → p x ≡ b → p x ≡ false
-      fails e x in_s true h = no (sym e ∙ element_some p s x in_s h)
-      fails e x in_s false h = h
-
-      by : (b : Bool) → list_any p (sets.items s) ≡ b → true ≡ list_any p (sets.items s)
-      by true e = sym e
-      by false e = no (told.1 (λ x in_s. within x in_s (fails e x in_s (p x) refl)))
+      fails : list_any p (sets.items s) ≡ false → (x : ℤ) → sets.contains s x ≡ true → p x ≡ false
+      fails e x in_s = false_from_ne_true (p x) (λ h. no (sym e ∙ element_some p s x in_s h))
 
 pub some_less : (s : NumberSet) (q : ℤ) (r : Bool)
     → (r ≡ true ↔ LiesWithin q (pos 9223372036854775807) s) → Has64Bits s

@@ -2,16 +2,14 @@
 use Rattle.std.proofs.Common.{◌≡◌, ℤ, Bool, true, false, not, ◌&&◌, ◌||◌, refl, sym, ap, ◌∙◌, true≢false, int_cmp}
 use Rattle.std.specs.FinSet.{contains, difference, empty, intersection, is_subset, union, contains-difference, contains-empty, contains-intersection, contains-union, is_subset-contains}
 use Rattle.std.specs.Cmp.{int_cmp_total}
+use Rattle.std.proofs.lemmas.Bool.{false_from_ne_true}
 use Rattle.fz_builtins.specs.of_meaning.of_syntax.Sets.{NumberSet, symmetric_difference}
+use Rattle.fz_builtins.proofs.of_meaning.of_base.Covers.{and-false}
 use Rattle.fz_builtins.specs.of_meaning.Relations.{◌=ᴮ◌, ◌=ˢ◌, are_disjoint}
-use Rattle.fz_reasons.proofs.Lists.{and_false}
 
 pub not_within : (s t : NumberSet) (q : ℤ) → contains s q ≡ true → contains t q ≡ false → is_subset s t ≡ false
-not_within s t q here gone = by (is_subset s t) (λ e. is_subset-contains int_cmp_total s t e q here)
-  where
-    by : (b : Bool) → (b ≡ true → contains t q ≡ true) → b ≡ false
-    by true f = absurd (true≢false (sym (f refl) ∙ gone))
-    by false f = refl
+not_within s t q here gone =
+    false_from_ne_true (is_subset s t) (λ e. true≢false (sym (is_subset-contains int_cmp_total s t e q here) ∙ gone))
 
 pub not_same : (s t : NumberSet) (q : ℤ) → (contains s q =ᴮ contains t q) ≡ false → (s =ˢ t) ≡ false
 not_same s t q other = by (contains s q) (contains t q) refl refl other
@@ -20,7 +18,7 @@ not_same s t q other = by (contains s q) (contains t q) refl refl other
     by true true e f o = absurd (true≢false o)
     by false false e f o = absurd (true≢false o)
     by true false e f o = ap (λ x. x && is_subset t s) (not_within s t q e f)
-    by false true e f o = ap (λ x. is_subset s t && x) (not_within t s q f e) ∙ and_false (is_subset s t)
+    by false true e f o = ap (λ x. is_subset s t && x) (not_within t s q f e) ∙ and-false (is_subset s t)
 
 pub turned : (a b : Bool) → (a =ᴮ b) ≡ false → (b =ᴮ a) ≡ false
 turned true true e = e

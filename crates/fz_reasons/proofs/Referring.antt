@@ -10,14 +10,13 @@ use Rattle.std.proofs.lemmas.Option.{none-some, same_Some}
 use Rattle.fz_builtins.specs.of_meaning.of_syntax.Ranges.{is_between}
 use Rattle.fz_builtins.specs.of_meaning.of_syntax.Sets.{NumberSet}
 use Rattle.fz_builtins.proofs.of_meaning.of_base.Numbers.{contains-numbers_between}
+use Rattle.fz_builtins.proofs.of_meaning.of_base.Covers.{and-false}
 use Rattle.fz_builtins.specs.of_meaning.Relations.{◌=ᴮ◌, ◌=ˢ◌, chosen, element_at, has_only, indices_from, lies_between, precedes_in_sets, refer_back, union_of}
 use Rattle.fz_builtins.proofs.of_meaning.Values.{and_first, and_second}
-use Rattle.fz_reasons.specs.Elements.{IsEarlySet, IsNotBack}
+use Rattle.fz_reasons.specs.Elements.{IsEarlySet, IsNotBack, Early, OneWay}
 use Rattle.fz_reasons.proofs.Indexed.{index_or_none, last}
-use Rattle.fz_reasons.proofs.Lists.{and_false}
+use Rattle.fz_reasons.proofs.Lists.{indexed_fails, passing}
 use Rattle.fz_reasons.proofs.Misplaced.{not_same, not_within, turned}
-use Rattle.fz_reasons.specs.declared.reason.Early.{Early}
-use Rattle.fz_reasons.specs.declared.reason.OneWay.{OneWay}
 
 -- ---- one comes too early
 
@@ -31,7 +30,7 @@ too_early s t (x ∷ ss) zero there none =
 too_early s t (x ∷ ss) (suc i) there none =
     let rest : precedes_in_sets s t ss ≡ false = too_early s t ss i there (λ k h. none (suc k) (omega arith)) in
     let first : has_only s t x ≡ false = none 0 (omega arith) in
-    (λ j. not (has_only t s x) && (first j || rest j)) ∙ and_false (not (has_only t s x))
+    (λ j. not (has_only t s x) && (first j || rest j)) ∙ and-false (not (has_only t s x))
 
 pub set_too_early : (ss : List NumberSet) (e : Early) → IsEarlySet ss e
     → precedes_in_sets e.before e.value ss ≡ false
@@ -55,7 +54,7 @@ lacks n o (u ∷ ts) s (suc k) t at is other =
   where
     by : (b : Bool) → list_all (λ v. contains v n) (chosen (o +ℤ pos 1) ts s) ≡ false
         → list_all (λ v. contains v n) (if b then u ∷ chosen (o +ℤ pos 1) ts s else chosen (o +ℤ pos 1) ts s) ≡ false
-    by true e = ap (λ c. contains u n && c) e ∙ and_false (contains u n)
+    by true e = ap (λ c. contains u n && c) e ∙ and-false (contains u n)
     by false e = e
 
 -- the set with the index i has an element q that isn't the index of a set with i
@@ -72,26 +71,15 @@ one_astray i q o ts s there none =
       | inr h ↦
           let at = h.2 in
           ap (λ b. is_subset s (indices_from o (length ts)) && b) (lacks i o ts s h.0 h.1 at.1 (ap (contains s) (sym at.0) ∙ there) (ap (λ p. option_map_or (λ t. contains t i) p false) (sym at.2) ∙ none))
-          ∙ and_false (is_subset s (indices_from o (length ts)))
+          ∙ and-false (is_subset s (indices_from o (length ts)))
     ]
-
-astray : (i q o : ℤ) (ts ss : List NumberSet) (k : ℕ)
-    → option_map_or (λ s. contains s q) (slice_get ss k) false ≡ true
-    → option_map_or (λ t. contains t (i +ℤ pos k)) (element_at ts ((q -ℤ o) +ℤ pos 1)) false ≡ false
-    → refer_back i ss o ts ≡ false
-astray i q o ts [] k there none = absurd (true≢false (sym there))
-astray i q o ts (s ∷ ss) zero there none =
-    let here : (i +ℤ pos 0) ≡ i = omega (arith, ints) in
-    ap (λ b. b && refer_back (i +ℤ pos 1) ss o ts)
-    (one_astray i q o ts s there (ap (λ n. option_map_or (λ t. contains t n) (element_at ts ((q -ℤ o) +ℤ pos 1)) false) (sym here) ∙ none))
-astray i q o ts (s ∷ ss) (suc k) there none =
-    let next : (i +ℤ pos (suc k)) ≡ ((i +ℤ pos 1) +ℤ pos k) = omega (arith, ints) in
-    ap (λ b. leads_back i o ts s && b) (astray (i +ℤ pos 1) q o ts ss k there (ap (λ n. option_map_or (λ t. contains t n) (element_at ts ((q -ℤ o) +ℤ pos 1)) false) (sym next) ∙ none))
-    ∙ and_false (leads_back i o ts s)
 
 pub not_back : (ss : List NumberSet) (so : ℤ) (ts : List NumberSet) (to' : ℤ) (w : OneWay)
     → IsNotBack ss so ts to' w → refer_back so ss to' ts ≡ false
-not_back ss so ts to' w h = astray so w.value to' ts ss w.place h.there h.none
+not_back ss so ts to' w h =
+    let s = passing (λ s. contains s w.value) (slice_get ss w.place) h.there in
+    indexed_fails (λ i t. leads_back i to' ts t) (λ i us. refer_back i us to' ts) (λ i t us. refl) so ss w.place s.0 s.1
+    (one_astray (so +ℤ pos w.place) w.value to' ts s.0 s.2 h.none)
 
 -- ---- a union
 
@@ -127,4 +115,4 @@ module _ (a : NumberSet) (ts : List NumberSet) (c : NumberSet) (q : ℤ) where
           → (not b || (contains a q && not (lies_between (pos 1) (pos (length ts)) q))) ≡ true
           → (is_subset a (indices_from (pos 1) (length ts)) && (c =ˢ all)) ≡ false
       by true is e = ap (λ b. b && (c =ˢ all)) (no_index e)
-      by false is e = ap (λ b. is_subset a (indices_from (pos 1) (length ts)) && b) (other_union is) ∙ and_false (is_subset a (indices_from (pos 1) (length ts)))
+      by false is e = ap (λ b. is_subset a (indices_from (pos 1) (length ts)) && b) (other_union is) ∙ and-false (is_subset a (indices_from (pos 1) (length ts)))

@@ -1,13 +1,12 @@
 -- Lists of successors that make no tour.
-use Rattle.std.proofs.Common.{◌≡◌, ℕ, suc, zero, ◌+◌, ◌-◌, ◌<◌, ◌≤◌, ℤ, pos, negsuc, ◌+ℤ◌, ◌-ℤ◌, true, false, not, ◌&&◌, List, [], ◌∷◌, length, Option, Some, None, nat_eq, option_map, option_and_then, refl, sym, ap, ◌∙◌, arith}
+use Rattle.std.proofs.Common.{◌≡◌, ℕ, suc, zero, ◌+◌, ℤ, pos, negsuc, ◌+ℤ◌, ◌-ℤ◌, true, false, not, ◌&&◌, List, [], ◌∷◌, length, None, Some, nat_eq, option_map, refl, sym, ap, ◌∙◌, arith}
 use Rattle.std.specs.Option.{option_map_or}
 use Rattle.fz_builtins.proofs.of_meaning.of_base.Covers.{and-false}
 use Rattle.fz_builtins.specs.of_meaning.Relations.{◌=ℤ◌, all_different, are_places, as_places, element_at, end_of_tour, is_circuit, is_one_tour, is_subcircuit, moved_from, tour}
 use Rattle.fz_builtins.proofs.of_meaning.Values.{same_int}
 use Rattle.fz_builtins.proofs.of_globals.Led.{different_places}
-use Rattle.fz_builtins.proofs.of_globals.Walked.{back_early, tour_from}
-use Rattle.fz_reasons.specs.Tours.{IsShortRing, LeavesOut}
-use Rattle.fz_reasons.specs.declared.arrangement.Ring.{Ring}
+use Rattle.fz_builtins.proofs.of_globals.Walked.{back_early, one_further, tour_from}
+use Rattle.fz_reasons.specs.Arranged.{IsShortRing, LeavesOut, Ring}
 
 -- ---- laws
 
@@ -57,30 +56,25 @@ entered_twice o xs e =
 -- ---- steps
 
 -- the position that follows, as the index less the first one
-pub placed : (o : ℤ) (xs : List ℤ) (p : ℤ)
-    → option_map (λ x. (x -ℤ o) +ℤ pos 1) (element_at xs p) ≡ element_at (as_places o xs) p
-placed o [] p = refl
-placed o (x ∷ xs) (pos zero) = refl
-placed o (x ∷ xs) (pos (suc zero)) = refl
-placed o (x ∷ xs) (pos (suc (suc k))) = placed o xs (pos (suc k))
-placed o (x ∷ xs) (negsuc k) = refl
+pub place_of : (o : ℤ) (g : List ℤ) (n : ℤ)
+    → element_at (as_places o g) n ≡ option_map (λ y. (y -ℤ o) +ℤ pos 1) (element_at g n)
+place_of o [] n = refl
+place_of o (y ∷ g) (pos zero) = refl
+place_of o (y ∷ g) (pos (suc zero)) = refl
+place_of o (y ∷ g) (pos (suc (suc n))) = place_of o g (pos (suc n))
+place_of o (y ∷ g) (negsuc n) = refl
 
-pub followed : (o : ℤ) (xs : List ℤ) (p : ℤ) (r : Option ℤ) → r ≡ element_at xs p
-    → option_map (λ x. (x -ℤ o) +ℤ pos 1) r ≡ element_at (as_places o xs) p
-followed o xs p r is = ap (option_map (λ x. (x -ℤ o) +ℤ pos 1)) is ∙ placed o xs p
+pub followed : (o : ℤ) (xs : List ℤ) (p x : ℤ) → Some x ≡ element_at xs p
+    → Some ((x -ℤ o) +ℤ pos 1) ≡ element_at (as_places o xs) p
+followed o xs p x at = ap (option_map (λ y. (y -ℤ o) +ℤ pos 1)) at ∙ sym (place_of o xs p)
 
--- a way of n steps, of which k are taken
-pub one_taken : (f : List ℤ) (n k : ℕ) (p : ℤ) → k < n
-    → end_of_tour f (n - k) p ≡ option_and_then (end_of_tour f (n - (k + 1))) (element_at f p)
-one_taken f n k p more = let one : n - k ≡ suc (n - (k + 1)) = omega arith in ap (λ m. end_of_tour f m p) one
+pub not_followed : (o : ℤ) (xs : List ℤ) (p : ℤ) → None ≡ element_at xs p
+    → None ≡ element_at (as_places o xs) p
+not_followed o xs p at = ap (option_map (λ y. (y -ℤ o) +ℤ pos 1)) at ∙ sym (place_of o xs p)
 
-pub all_taken : (f : List ℤ) (n k : ℕ) (p : ℤ) → n ≤ k → end_of_tour f (n - k) p ≡ Some p
-all_taken f n k p end = let none : n - k ≡ 0 = omega arith in ap (λ m. end_of_tour f m p) none
-
-pub went_on : (f : List ℤ) (n k : ℕ) (p q : ℤ) (whole : Option ℤ) → whole ≡ end_of_tour f (n - k) p
-    → k < n → Some q ≡ element_at f p → whole ≡ end_of_tour f (n - (k + 1)) q
-went_on f n k p q whole so_far more leads = so_far ∙ one_taken f n k p more ∙ ap (option_and_then (end_of_tour f (n - (k + 1)))) (sym leads)
-
-pub went_out : (f : List ℤ) (n k : ℕ) (p : ℤ) (whole : Option ℤ) → whole ≡ end_of_tour f (n - k) p
-    → k < n → None ≡ element_at f p → None ≡ whole
-went_out f n k p whole so_far more leads = sym (so_far ∙ one_taken f n k p more ∙ ap (option_and_then (end_of_tour f (n - (k + 1)))) (sym leads))
+-- one step more
+pub went_on : (f : List ℤ) (n m : ℕ) (p q r : ℤ) → m ≡ n + 1 → end_of_tour f n p ≡ Some q
+    → element_at f q ≡ Some r → end_of_tour f m p ≡ Some r
+went_on f n m p q r more so_far leads =
+    let one : m ≡ suc n = omega arith in
+    ap (λ k. end_of_tour f k p) one ∙ one_further f n p q r so_far leads

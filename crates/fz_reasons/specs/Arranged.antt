@@ -1,24 +1,70 @@
 -- What a reason says of rows over tours, bins, knapsacks and runs (this project's profile). Each
 -- kind of reason belongs to the rows that are listed with it; of another row it says nothing that
 -- can be so.
-use Rattle.std.specs.Prelude.{◌≡◌, pos, false, List, [], ◌∷◌, length}
-use Rattle.fz_builtins.specs.of_meaning.declared.builtin.Builtin.{Builtin}
+use Rattle.std.specs.Prelude.{◌≡◌, ◌<◌, ◌≤◌, ◌+◌, ◌+ℤ◌, ◌-ℤ◌, ℕ, ℤ, pos, false, List, [], ◌∷◌, Some, drop, length, slice_get, take}
+use Rattle.fz_reasons.specs.Rows.{Argument, Builtin, Partial, int_at, ints_at, reads_beyond, row_at, set_at, sets_at}
 use Rattle.fz_builtins.specs.of_meaning.declared.builtin.Builtin.TheVariants as builtin
-use Rattle.fz_builtins.specs.of_meaning.Builtins.{row_at}
-use Rattle.fz_builtins.specs.of_meaning.Meaning.{Argument, Partial}
-use Rattle.fz_builtins.specs.of_meaning.Relations.{as_places, marks}
-use Rattle.fz_builtins.specs.Outcomes.{reads_beyond}
-use Rattle.fz_builtins.specs.of_kernel.Given.{int_at, ints_at, set_at, sets_at}
-use Rattle.fz_reasons.specs.Loads.{HasOtherLoad, IsOtherRun, IsOtherTotal}
-use Rattle.fz_reasons.specs.Places.{IsNoIndex}
-use Rattle.fz_reasons.specs.Tours.{IsShortRing, LeavesOut}
-use Rattle.fz_reasons.specs.declared.arrangement.Arrangement.{Arrangement}
+use Rattle.fz_builtins.specs.of_meaning.Relations.{◌=ℤ◌, as_places, end_of_tour, lies_between, load_of, marks, moved_from, products, total}
+pub use Rattle.fz_reasons.specs.declared.arrangement.Arrangement.{Arrangement}
 use Rattle.fz_reasons.specs.declared.arrangement.Arrangement.TheVariants as kinds
-use Rattle.fz_reasons.specs.declared.arrangement.BinLoad.{BinLoad}
-use Rattle.fz_reasons.specs.declared.arrangement.NoIndex.{NoIndex}
-use Rattle.fz_reasons.specs.declared.arrangement.Ring.{Ring}
-use Rattle.fz_reasons.specs.declared.arrangement.Run.{Run}
-use Rattle.fz_reasons.specs.declared.arrangement.Total.{Total}
+pub use Rattle.fz_reasons.specs.declared.arrangement.BinLoad.{BinLoad}
+pub use Rattle.fz_reasons.specs.declared.arrangement.NoIndex.{NoIndex}
+pub use Rattle.fz_reasons.specs.declared.arrangement.Ring.{Ring}
+pub use Rattle.fz_reasons.specs.declared.arrangement.Run.{Run}
+pub use Rattle.fz_reasons.specs.declared.arrangement.Total.{Total}
+
+-- ---- elements that are no index where they have to be one
+
+-- the element there isn't one of n numbers from `first` on
+pub record IsNoIndex (xs : List ℤ) (first : ℤ) (n : ℕ) (o : NoIndex) : Type 0 where
+  pub value : slice_get xs o.place ≡ Some o.value
+  pub low : first ≡ o.low
+  pub high : ((first +ℤ pos n) -ℤ pos 1) ≡ o.high
+  pub outside : lies_between o.low o.high o.value ≡ false
+
+-- ---- lists of successors that make no tour; positions are counted from 1
+
+-- from its start the successors come back to it in so many steps, which are fewer than n
+pub record ComesBack (next : List ℤ) (n : ℕ) (c : Ring) : Type 0 where
+  pub some : 0 < c.steps
+  pub fewer : c.steps < n
+  pub back : end_of_tour next c.steps c.start ≡ Some c.start
+
+-- as many steps from the first position as there are positions lead into a ring that is shorter
+pub record IsShortRing (next : List ℤ) (c : Ring) : Type 0 where
+  pub ring : ComesBack next (length next) c
+  pub reached : end_of_tour next (length next) (pos 1) ≡ Some c.start
+
+-- the ring of the first position that is moved has fewer positions than are moved
+pub record LeavesOut (next : List ℤ) (c : Ring) : Type 0 where
+  pub ring : ComesBack next (length (moved_from (pos 1) next)) c
+  pub first : slice_get (moved_from (pos 1) next) 0 ≡ Some c.start
+
+-- ---- bins with other loads than are given for them, knapsacks of another total, and runs of
+-- neighbours with too small or too great a sum
+
+-- the bin, of those that begin with `first`, has another load than the one that is given for it
+pub record HasOtherLoad (bins weights loads : List ℤ) (first : ℤ) (l : BinLoad) : Type 0 where
+  pub bin : (first +ℤ pos l.place) ≡ l.bin
+  pub load : load_of bins weights l.bin ≡ l.load
+  pub wanted : slice_get loads l.place ≡ Some l.wanted
+  pub other : (l.wanted =ℤ l.load) ≡ false
+
+-- the sum of products is another number
+pub record IsOtherTotal (weights numbers : List ℤ) (n : ℤ) (t : Total) : Type 0 where
+  pub is : total (products weights numbers) ≡ t.total
+  pub wanted : n ≡ t.wanted
+  pub other : (t.total =ℤ t.wanted) ≡ false
+
+-- the sum of a run of so many neighbours doesn't lie within the bounds
+pub record IsOtherRun (low high k : ℤ) (xs : List ℤ) (r : Run) : Type 0 where
+  pub count : k ≡ pos r.count
+  pub some : 0 < r.count
+  pub within : r.place + r.count ≤ length xs
+  pub is : total (take r.count (drop r.place xs)) ≡ r.sum
+  pub outside : lies_between low high r.sum ≡ false
+
+-- ---- what is said, by the row
 
 -- an element that has to be an index, a bin that has a load, or an index of a set
 abbrev pub HasNoIndex : Builtin → Partial → List Argument → NoIndex → Type 0

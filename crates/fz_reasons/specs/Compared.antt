@@ -4,9 +4,7 @@ use Rattle.std.specs.Prelude.{ℤ, Bool, cond, false, not, ◌&&◌, ◌||◌, O
 use Rattle.std.specs.List.{list_all, list_any}
 use Rattle.fz_builtins.specs.of_meaning.Relations.{◌=ᴮ◌, as_number, count_of, products, total, where_true}
 use Rattle.fz_builtins.specs.of_meaning.States.{leaves_128}
-use Rattle.fz_builtins.specs.of_meaning.Meaning.{Argument, Partial}
-use Rattle.fz_builtins.specs.of_kernel.Given.{bool_at, bools_at, int_at, ints_at}
-use Rattle.fz_builtins.specs.of_meaning.declared.builtin.Builtin.{Builtin}
+use Rattle.fz_reasons.specs.Rows.{Argument, Builtin, Partial, bool_at, bools_at, int_at, ints_at}
 use Rattle.fz_builtins.specs.of_meaning.declared.builtin.Builtin.TheVariants as builtin
 use Rattle.fz_reasons.specs.declared.reason.Operands.{Operands}
 use Rattle.fz_reasons.specs.declared.reason.Operands.TheVariants as of

@@ -1,5 +1,5 @@
 -- What reasons say of the elements of arrays (this project's profile). Indices count from 0.
-use Rattle.std.specs.Prelude.{◌≡◌, ◌<◌, ◌+◌, ◌*◌, ℕ, suc, ℤ, pos, ◌+ℤ◌, ◌-ℤ◌, Bool, true, false, not, List, Option, None, Some, length, slice_get, take, int_lt}
+use Rattle.std.specs.Prelude.{◌≡◌, ◌<◌, ◌+◌, ◌*◌, ℕ, suc, ℤ, pos, ◌+ℤ◌, ◌-ℤ◌, Bool, true, false, not, List, Option, None, Some, length, slice_get, take, int_le, int_lt}
 use Rattle.std.specs.List.{zip}
 use Rattle.std.specs.List.Sorted.{IsSorted, IsPermutation}
 use Rattle.std.specs.Ordering.{int_cmp}
@@ -7,23 +7,31 @@ use Rattle.std.specs.FinSet as sets
 use Rattle.std.specs.Option.{option_map_or}
 use Rattle.fz_builtins.specs.of_meaning.Relations.{◌=ℤ◌, Span, are_apart, count_of, element_at, has_only, is_among, lies_between, load_of, run, step, used_at}
 use Rattle.fz_builtins.specs.of_meaning.of_syntax.Sets.{NumberSet}
-use Rattle.fz_reasons.specs.Relating.{relates}
-use Rattle.fz_reasons.specs.declared.reason.Relation.{Relation}
-use Rattle.fz_reasons.specs.declared.reason.Relation.TheVariants.{AtMost}
-use Rattle.fz_reasons.specs.declared.reason.Sides.{Sides}
-use Rattle.fz_reasons.specs.declared.reason.Clash.{Clash}
-use Rattle.fz_reasons.specs.declared.reason.Neighbours.{Neighbours}
-use Rattle.fz_reasons.specs.declared.reason.Count.{Count}
-use Rattle.fz_reasons.specs.declared.reason.Element.{Element}
-use Rattle.fz_reasons.specs.declared.reason.Stretch.{Stretch}
-use Rattle.fz_reasons.specs.declared.reason.Overlap.{Overlap}
-use Rattle.fz_reasons.specs.declared.reason.Boxes.{Boxes}
-use Rattle.fz_reasons.specs.declared.reason.Load.{Load}
-use Rattle.fz_reasons.specs.declared.reason.Difference.{Difference}
-use Rattle.fz_reasons.specs.declared.reason.Early.{Early}
-use Rattle.fz_reasons.specs.declared.reason.OneWay.{OneWay}
-use Rattle.fz_reasons.specs.declared.reason.NoStep.{NoStep}
-use Rattle.fz_reasons.specs.declared.reason.NearRow.{NearRow}
+pub use Rattle.fz_reasons.specs.declared.reason.Relation.{Relation}
+pub use Rattle.fz_reasons.specs.declared.reason.Relation.TheVariants.{Equal, NotEqual, AtMost, Below, AtLeast, Above}
+pub use Rattle.fz_reasons.specs.declared.reason.Sides.{Sides}
+pub use Rattle.fz_reasons.specs.declared.reason.Clash.{Clash}
+pub use Rattle.fz_reasons.specs.declared.reason.Neighbours.{Neighbours}
+pub use Rattle.fz_reasons.specs.declared.reason.Count.{Count}
+pub use Rattle.fz_reasons.specs.declared.reason.Element.{Element}
+pub use Rattle.fz_reasons.specs.declared.reason.Stretch.{Stretch}
+pub use Rattle.fz_reasons.specs.declared.reason.Overlap.{Overlap}
+pub use Rattle.fz_reasons.specs.declared.reason.Boxes.{Boxes}
+pub use Rattle.fz_reasons.specs.declared.reason.Load.{Load}
+pub use Rattle.fz_reasons.specs.declared.reason.Difference.{Difference}
+pub use Rattle.fz_reasons.specs.declared.reason.Early.{Early}
+pub use Rattle.fz_reasons.specs.declared.reason.OneWay.{OneWay}
+pub use Rattle.fz_reasons.specs.declared.reason.NoStep.{NoStep}
+pub use Rattle.fz_reasons.specs.declared.reason.NearRow.{NearRow}
+
+-- how two numbers are compared
+abbrev pub relates : Relation → ℤ → ℤ → Bool
+relates Equal x y = x =ℤ y
+relates NotEqual x y = not (x =ℤ y)
+relates AtMost x y = int_le x y
+relates Below x y = int_lt x y
+relates AtLeast x y = int_le y x
+relates Above x y = int_lt y x
 
 -- two elements with the same value
 pub record IsClash (xs : List ℤ) (c : Clash) : Type 0 where

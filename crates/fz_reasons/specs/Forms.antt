@@ -1,14 +1,10 @@
 -- Why a row or one of its reified forms fails (this project's profile).
 use Rattle.std.specs.Prelude.{◌≡◌, ⊤, Bool, true, false, List, length}
-use Rattle.fz_builtins.specs.of_meaning.declared.builtin.Builtin.{Builtin}
+use Rattle.fz_reasons.specs.Rows.{Argument, Builtin, Partial, bool_at, row_at, row_outcome}
 use Rattle.fz_builtins.specs.of_meaning.declared.known.Form.{Form}
 use Rattle.fz_builtins.specs.of_meaning.declared.known.Form.TheVariants.{Base, Reified, Implied}
 use Rattle.fz_builtins.specs.of_meaning.declared.known.Known.{Known}
-use Rattle.fz_builtins.specs.of_meaning.Builtins.{row_at}
 use Rattle.fz_builtins.specs.of_meaning.Known.{known_row}
-use Rattle.fz_builtins.specs.of_meaning.Meaning.{Argument, Partial}
-use Rattle.fz_builtins.specs.of_kernel.Given.{bool_at}
-use Rattle.fz_builtins.specs.Outcomes.{row_outcome}
 use Rattle.fz_builtins.specs.declared.outcome.Outcome.TheVariants as outcomes
 use Rattle.fz_reasons.specs.Reasons.{Says}
 use Rattle.fz_reasons.specs.declared.reason.Why.{Why}

@@ -1,9 +1,6 @@
-pub mod Relating
+pub mod Rows
 pub mod Compared
 pub mod Elements
-pub mod Tours
-pub mod Places
-pub mod Loads
 pub mod Arranged
 pub mod Reasons
 pub mod Forms

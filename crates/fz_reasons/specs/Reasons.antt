@@ -6,44 +6,25 @@ use Rattle.std.specs.List.{filter, list_any, zip}
 use Rattle.std.specs.Option.{option_map_or}
 use Rattle.std.specs.FinSet as sets
 use Rattle.fz_builtins.specs.of_meaning.of_base.declared.value.Value.TheVariants.{Int, Bool as Truth}
-use Rattle.fz_builtins.specs.of_meaning.declared.builtin.Builtin.{Builtin}
+use Rattle.fz_reasons.specs.Rows.{Argument, Builtin, Partial, bool_at, bools_at, bools_of, int_at, ints_at, ints_of, row_at, row_outcome, set_at, sets_at, slots_at}
 use Rattle.fz_builtins.specs.of_meaning.declared.builtin.Builtin.TheVariants as builtin
 use Rattle.fz_builtins.specs.of_meaning.declared.kind.Kind.TheVariants.{Int as IntKind, Bool as BoolKind}
-use Rattle.fz_builtins.specs.of_meaning.Builtins.{row_at}
-use Rattle.fz_builtins.specs.of_meaning.Meaning.{Argument, Partial}
 use Rattle.fz_builtins.specs.of_meaning.declared.term.Term.{Term}
 use Rattle.fz_builtins.specs.of_meaning.Relations.{◌=ℤ◌, ◌=ᴮ◌, ◌=ˢ◌, Span, as_number, chosen, element_at, is_among, is_natural, is_nonzero, is_odd, is_row_of, lies_between, run}
-use Rattle.fz_builtins.specs.of_kernel.Given.{bool_at, bools_at, bools_of, int_at, ints_at, ints_of, set_at, sets_at, slots_at}
-use Rattle.fz_builtins.specs.Outcomes.{row_outcome}
 use Rattle.fz_builtins.specs.declared.outcome.Outcome.TheVariants as outcomes
 use Rattle.fz_builtins.specs.Said.{HasResult, is_result, row_with}
 use Rattle.fz_reasons.specs.Arranged.{AddsUp, SaysArranged}
 use Rattle.fz_reasons.specs.Compared.{sides}
-use Rattle.fz_reasons.specs.Elements.{AreBoxes, AreUnlike, BothLast, HasNoStep, IsBin, IsClash, IsCount, IsDifference, IsDifferentRow, IsEarly, IsEarlyInChain, IsEarlySet, IsInNoSet, IsLoad, IsNoIndexOf, IsNotBack, IsOneWay, IsOutside, IsOverlap, IsShared, IsUnsorted, agree, comes_before}
-use Rattle.fz_reasons.specs.Relating.{relates}
-use Rattle.fz_reasons.specs.declared.reason.ElementKind.{ElementKind}
+use Rattle.fz_reasons.specs.Elements.{AreBoxes, AreUnlike, BothLast, HasNoStep, IsBin, IsClash, IsCount, IsDifference, IsDifferentRow, IsEarly, IsEarlyInChain, IsEarlySet, IsInNoSet, IsLoad, IsNoIndexOf, IsNotBack, IsOneWay, IsOutside, IsOverlap, IsShared, IsUnsorted, agree, comes_before, relates, Relation, Equal, AtMost, Below, AtLeast, Sides, Clash, Count, Element, Overlap, Boxes, Load, Difference, Early, OneWay, NoStep, NearRow}
+pub use Rattle.fz_reasons.specs.declared.reason.ElementKind.{ElementKind}
 use Rattle.fz_reasons.specs.declared.reason.ElementKind.TheVariants as kinds
-use Rattle.fz_reasons.specs.declared.reason.Negative.{Negative}
-use Rattle.fz_reasons.specs.declared.reason.Quantity.{Quantity}
+pub use Rattle.fz_reasons.specs.declared.reason.Negative.{Negative}
+pub use Rattle.fz_reasons.specs.declared.reason.Quantity.{Quantity}
 use Rattle.fz_reasons.specs.declared.reason.Quantity.TheVariants as of
-use Rattle.fz_reasons.specs.declared.reason.Relation.{Relation}
-use Rattle.fz_reasons.specs.declared.reason.Relation.TheVariants.{Equal, AtMost, Below, AtLeast}
-use Rattle.fz_reasons.specs.declared.reason.Sides.{Sides}
-use Rattle.fz_reasons.specs.declared.reason.OtherNumber.{OtherNumber}
-use Rattle.fz_reasons.specs.declared.reason.OtherTruth.{OtherTruth}
-use Rattle.fz_reasons.specs.declared.reason.Clash.{Clash}
-use Rattle.fz_reasons.specs.declared.reason.Count.{Count}
-use Rattle.fz_reasons.specs.declared.reason.Element.{Element}
-use Rattle.fz_reasons.specs.declared.reason.Overlap.{Overlap}
-use Rattle.fz_reasons.specs.declared.reason.Boxes.{Boxes}
-use Rattle.fz_reasons.specs.declared.reason.Load.{Load}
-use Rattle.fz_reasons.specs.declared.reason.Difference.{Difference}
-use Rattle.fz_reasons.specs.declared.reason.Early.{Early}
-use Rattle.fz_reasons.specs.declared.reason.OneWay.{OneWay}
-use Rattle.fz_reasons.specs.declared.reason.NoStep.{NoStep}
-use Rattle.fz_reasons.specs.declared.reason.NearRow.{NearRow}
-use Rattle.fz_reasons.specs.declared.reason.Member.{Member}
-use Rattle.fz_reasons.specs.declared.reason.Reason.{Reason}
+pub use Rattle.fz_reasons.specs.declared.reason.OtherNumber.{OtherNumber}
+pub use Rattle.fz_reasons.specs.declared.reason.OtherTruth.{OtherTruth}
+pub use Rattle.fz_reasons.specs.declared.reason.Member.{Member}
+pub use Rattle.fz_reasons.specs.declared.reason.Reason.{Reason}
 use Rattle.fz_reasons.specs.declared.reason.Reason.TheVariants as reasons
 
 -- ---- two sides

@@ -4,8 +4,7 @@ ghost use Rattle.std.specs.Prelude.{◌∷◌, [], pos, length, IfSome, IsTrue};
 ghost use Rattle.fz_builtins.specs.of_meaning.declared.builtin.Builtin.TheVariants as builtin;
 ghost use Rattle.fz_builtins.specs.of_kernel.Views.{arguments_of, assigned};
 ghost use Rattle.fz_builtins.specs.Readings.{int, sets_of};
-ghost use Rattle.fz_reasons.specs.Arranged.{AddsUp, SaysArranged};
-ghost use Rattle.fz_reasons.specs.Places.{IsNoIndex};
+ghost use Rattle.fz_reasons.specs.Arranged.{AddsUp, IsNoIndex, SaysArranged};
 
 use crate::arrangement::{Arrangement, NoIndex};
 use crate::loads::{other_load, other_run, other_total};
@@ -22,8 +21,7 @@ pub(crate) fn by_arrangement(builtin: Builtin, view: &ArgumentView<'_, '_>) -> O
         (SaysArranged builtin (assigned view.now) (arguments_of view.now)) }
 {
     match builtin {
-        Builtin::GecodeCircuit => circuit(view),
-        Builtin::FzcheckSubcircuit => subcircuit(view),
+        Builtin::GecodeCircuit | Builtin::FzcheckSubcircuit => tour(builtin, view),
         Builtin::GecodeBinPackingLoad => bin_packing_load(view),
         Builtin::FznKnapsack => knapsack(view),
         Builtin::FznSlidingSum => {
@@ -41,27 +39,24 @@ pub(crate) fn by_arrangement(builtin: Builtin, view: &ArgumentView<'_, '_>) -> O
     }
 }
 
+/// An element that is no index, or a ring that is too short.
 #[tactic(auto, unfolding(crate::specs::Arranged::SaysArranged))]
-fn circuit(view: &ArgumentView<'_, '_>) -> Option<Arrangement>
+fn tour(builtin: Builtin, view: &ArgumentView<'_, '_>) -> Option<Arrangement>
     ensures { IfSome result
-        (SaysArranged builtin.GecodeCircuit (assigned view.now) (arguments_of view.now)) }
+        (SaysArranged builtin (assigned view.now) (arguments_of view.now)) }
 {
     let (first, next) = (view.int(0), &view.elements(1));
-    match no_index(next, first, number_count(next)) {
-        Some(found) => Some(Arrangement::NoIndex(found)),
-        None => Some(Arrangement::Ring(short_ring(first, next)?)),
-    }
-}
-
-#[tactic(auto, unfolding(crate::specs::Arranged::SaysArranged))]
-fn subcircuit(view: &ArgumentView<'_, '_>) -> Option<Arrangement>
-    ensures { IfSome result
-        (SaysArranged builtin.FzcheckSubcircuit (assigned view.now) (arguments_of view.now)) }
-{
-    let (first, next) = (view.int(0), &view.elements(1));
-    match no_index(next, first, number_count(next)) {
-        Some(found) => Some(Arrangement::NoIndex(found)),
-        None => Some(Arrangement::Ring(ring_of_moved(first, next)?)),
+    let stray = no_index(next, first, number_count(next));
+    match builtin {
+        Builtin::GecodeCircuit => match stray {
+            Some(found) => Some(Arrangement::NoIndex(found)),
+            None => Some(Arrangement::Ring(short_ring(first, next)?)),
+        },
+        Builtin::FzcheckSubcircuit => match stray {
+            Some(found) => Some(Arrangement::NoIndex(found)),
+            None => Some(Arrangement::Ring(ring_of_moved(first, next)?)),
+        },
+        _ => None,
     }
 }
 

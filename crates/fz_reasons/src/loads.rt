@@ -4,7 +4,7 @@ ghost use Rattle.std.specs.Prelude.{◌≡◌, ◌+◌, ◌<◌, ◌≤◌, pos,
 ghost use Rattle.fz_builtins.specs.of_meaning.Relations.{total};
 ghost use Rattle.fz_builtins.specs.of_kernel.Views.{ints};
 ghost use Rattle.fz_builtins.specs.of_scheduling.Places.{terms};
-ghost use Rattle.fz_reasons.specs.Loads.{HasOtherLoad, IsOtherRun, IsOtherTotal};
+ghost use Rattle.fz_reasons.specs.Arranged.{HasOtherLoad, IsOtherRun, IsOtherTotal};
 
 use crate::arrangement::{BinLoad, Run, Total};
 use crate::places::lies_between;

@@ -1,12 +1,12 @@
 //! A number that is in one set and not in another.
 
-ghost use Rattle.std.specs.Prelude.{◌≡◌, int_lt, ◌+ℤ◌, ◌-ℤ◌, pos, IfOk, IfSome, false};
+ghost use Rattle.std.specs.Prelude.{◌≡◌, ◌&&◌, not, int_lt, length, ◌+ℤ◌, ◌-ℤ◌, pos, IfOk, IfSome, false};
 ghost use Rattle.std.specs.FinSet as number_sets;
 ghost use Rattle.std.specs.List.{list_any};
 ghost use Rattle.std.specs.Option.{option_map_or};
-ghost use Rattle.fz_builtins.specs.of_meaning.Relations.{chosen, element_at};
+ghost use Rattle.fz_builtins.specs.of_meaning.Relations.{chosen, element_at, lies_between};
 ghost use Rattle.fz_builtins.specs.of_kernel.Views.{arguments_of, assigned, sets};
-ghost use Rattle.fz_builtins.specs.Readings.{int, sets_of, truths};
+ghost use Rattle.fz_builtins.specs.Readings.{int, numbers, sets_of, truths};
 ghost use Rattle.fz_reasons.specs.Reasons.{IsMisplaced, Says, in_sets, is_misplaced};
 
 use crate::places::lies_between;
@@ -134,13 +134,9 @@ fn in_sets(builtin: Builtin, view: &ArgumentView<'_, '_>, number: i64) -> (bool,
             (first, view.set(2).contains(number), false)
         }
         Builtin::GecodeArraySetElementUnion => {
-            let (indices, parts) = (view.set(0), view.elements(1));
-            let is_index = lies_between(1, parts.len() as i128, i128::from(number));
-            (
-                is_in_chosen(indices, &parts, number),
-                view.set(2).contains(number),
-                indices.contains(number) && !is_index,
-            )
+            let first = is_in_chosen(view.set(0), &view.elements(1), number);
+            let third = is_no_index(view, number);
+            (first, view.set(2).contains(number), third)
         }
         Builtin::FznPartitionSet => {
             let first = is_in_one(&view.elements(0), number);
@@ -173,6 +169,15 @@ fn has_more(set: &IntSet, number: i64) -> bool
     ensures { result ≡ list_any (λ x. int_lt number x) (number_sets.items set.now) }
 {
     !set.within(i64::MIN, number)
+}
+
+/// Whether a number is in the set of indices and isn't the index of a set.
+fn is_no_index(view: &ArgumentView<'_, '_>, number: i64) -> bool
+    ensures { result ≡ (number_sets.contains (numbers view.now 0) number
+        && not (lies_between (pos 1) (pos (length (sets_of view.now 1))) number)) }
+{
+    let last = view.elements(1).len() as i128;
+    view.set(0).contains(number) && !lies_between(1, last, i128::from(number))
 }
 
 /// Whether a number is in the element at the index.

@@ -1,9 +1,9 @@
 //! Elements that have to be indices.
 
-ghost use Rattle.std.specs.Prelude.{◌≡◌, IfSome};
+ghost use Rattle.std.specs.Prelude.{◌≡◌, ◌+ℤ◌, ◌-ℤ◌, pos, IfSome};
 ghost use Rattle.fz_builtins.specs.of_meaning.Relations.{lies_between};
 ghost use Rattle.fz_builtins.specs.of_kernel.Views.{ints};
-ghost use Rattle.fz_reasons.specs.Places.{IsNoIndex};
+ghost use Rattle.fz_reasons.specs.Arranged.{IsNoIndex};
 
 use crate::arrangement::NoIndex;
 use fz_builtins::Elements;
@@ -12,8 +12,7 @@ use fz_builtins::Elements;
 pub(crate) fn no_index(elements: &Elements, first: i64, count: usize) -> Option<NoIndex>
     ensures { IfSome result (IsNoIndex (ints elements.now) first count) }
 {
-    let low = i128::from(first);
-    let high = i128::from(first) + count as i128 - 1;
+    let (low, high) = (i128::from(first), last_index(first, count));
     for place in 0..elements.len() {
         let value = elements.int(place);
         if !lies_between(low, high, i128::from(value)) {
@@ -26,6 +25,13 @@ pub(crate) fn no_index(elements: &Elements, first: i64, count: usize) -> Option<
         }
     }
     None
+}
+
+/// The last of `count` numbers from `first` on.
+fn last_index(first: i64, count: usize) -> i128
+    ensures { ((first +ℤ pos count) -ℤ pos 1) ≡ result }
+{
+    i128::from(first) + count as i128 - 1
 }
 
 /// Whether the number is from `low` to `high`.

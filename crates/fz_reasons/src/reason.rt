@@ -1,7 +1,7 @@
 //! What a reason says, in values. Indices of arguments and of elements count from 0.
 
 ghost use Rattle.std.specs.Prelude.{◌≡◌};
-ghost use Rattle.fz_reasons.specs.Relating.{relates};
+ghost use Rattle.fz_reasons.specs.Elements.{relates};
 
 use crate::arrangement::Arrangement;
 

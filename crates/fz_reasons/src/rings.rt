@@ -1,28 +1,24 @@
 //! Lists of successors. Positions count from 1, and the indices in a list from `first`.
 
-ghost use Rattle.std.specs.Prelude.{◌≡◌, ◌+◌, ◌+ℤ◌, ◌-ℤ◌, pos, IfSome};
+ghost use Rattle.std.specs.Prelude.{◌≡◌, ◌+◌, ℤ, pos, length, IfSome, Some};
 ghost use Rattle.fz_builtins.specs.of_meaning.Relations.{as_places, element_at, end_of_tour};
 ghost use Rattle.fz_builtins.specs.of_kernel.Views.{ints};
-ghost use Rattle.fz_reasons.specs.Tours.{ComesBack, IsShortRing, LeavesOut};
+ghost use Rattle.fz_reasons.specs.Arranged.{ComesBack, IsShortRing, LeavesOut};
 
 use crate::arrangement::Ring;
+use crate::readings::number_count;
+use crate::tours::as_place;
 use fz_builtins::{Elements, count_moved, first_moved, int_element_at};
 
 /// The position that follows a position; none where that is no position.
+#[tactic(auto, using(crate::proofs::Touring::not_followed))]
 pub fn follow(first: i64, next: &Elements, position: i128) -> Option<i128>
     ensures exact { result ≡ element_at (as_places first (ints next.now)) position }
 {
     match int_element_at(position, next) {
-        Some(index) => Some(position_of(first, index)),
+        Some(index) => Some(as_place(first, index)),
         None => None,
     }
-}
-
-// The position of an index.
-fn position_of(first: i64, index: i64) -> i128
-    ensures { result ≡ (index -ℤ first) +ℤ pos 1 }
-{
-    i128::from(index) - i128::from(first) + 1
 }
 
 // The position of a place, which counts from 0.
@@ -32,44 +28,57 @@ fn position_at(place: usize) -> i128
     place as i128 + 1
 }
 
-// The position after so many steps.
+// How many positions there are.
+fn position_count(next: &Elements) -> usize
+    ensures { (first : ℤ) → result ≡ length (as_places first (ints next.now)) }
+{
+    number_count(next)
+}
+
+// The position after so many steps, where there is one.
 fn walk(first: i64, next: &Elements, start: i128, steps: usize) -> Option<i128>
-    ensures { result ≡ end_of_tour (as_places first (ints next.now)) steps start }
+    ensures { IfSome result
+        (λ p. end_of_tour (as_places first (ints next.now)) steps start ≡ Some p) }
 {
     let mut position = start;
     for _step in 0..steps {
-        match follow(first, next, position) {
-            Some(following) => position = following,
-            None => return None,
-        }
+        position = follow(first, next, position)?;
     }
     Some(position)
 }
 
-// The ring from a position back to it, in fewer than so many steps.
+// After how many steps, fewer than `most`, the successors come back to a position.
+fn steps_back(first: i64, next: &Elements, start: i128, most: usize) -> Option<usize> {
+    let mut position = start;
+    for steps in 1..most {
+        position = follow(first, next, position)?;
+        if position == start {
+            return Some(steps);
+        }
+    }
+    None
+}
+
+// The ring from a position back to it, in fewer than so many steps. What is found is walked again.
 fn ring_from(first: i64, next: &Elements, start: i128, most: usize) -> Option<Ring>
     ensures ring { IfSome result (ComesBack (as_places first (ints next.now)) most) }
     ensures start { IfSome result (λ c. c.start ≡ start) }
 {
-    let mut position = start;
-    for before in 1..most {
-        position = follow(first, next, position)?;
-        if position == start {
-            return Some(Ring {
-                start,
-                steps: before,
-            });
-        }
+    let steps = steps_back(first, next, start, most)?;
+    let end = walk(first, next, start, steps)?;
+    if steps < 1 || steps >= most || end != start {
+        return None;
     }
-    None
+    Some(Ring { start, steps })
 }
 
 /// The ring into which the successors lead from the first position, where it is too short.
 pub(crate) fn short_ring(first: i64, next: &Elements) -> Option<Ring>
     ensures { IfSome result (IsShortRing (as_places first (ints next.now))) }
 {
-    let start = walk(first, next, 1, next.len())?;
-    let ring = ring_from(first, next, start, next.len())?;
+    let count = position_count(next);
+    let start = walk(first, next, 1, count)?;
+    let ring = ring_from(first, next, start, count)?;
     Some(ring)
 }
 

@@ -152,7 +152,7 @@ pub fn a_row_fails_by_its_reason()
 {}
 
 /// A row, or a reified form of it, fails at all values of which it is so why.
-#[tactic(auto, using(crate::proofs::Forms::forms_fail))]
+#[tactic(auto, using(crate::proofs::Fails::forms_fail))]
 pub fn a_form_fails_by_its_reason()
     ensures fails { FormsFail }
 {}

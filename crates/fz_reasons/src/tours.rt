@@ -49,7 +49,7 @@ pub(crate) fn by_tour(
 }
 
 /// The position, counted from 1, of an index.
-fn as_place(first: i64, index: i64) -> i128
+pub(crate) fn as_place(first: i64, index: i64) -> i128
     ensures { result ≡ ((index -ℤ first) +ℤ pos 1) }
 {
     i128::from(index) - i128::from(first) + 1

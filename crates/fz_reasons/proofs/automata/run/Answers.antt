@@ -2,7 +2,7 @@ use Rattle.std.proofs.Common.{◌≡◌, Some, pos, true, take, FitsSigned, w64,
 use Rattle.std.proofs.lemmas.Int.{to_z-of_z}
 use Rattle.fz_builtins.specs.of_meaning.Relations.{lies_between, run, step}
 use Rattle.fz_builtins.specs.of_kernel.Views.{ints}
-use Rattle.fz_reasons.proofs.Turning.{goes_on}
+use Rattle.fz_reasons.proofs.Ordered.{goes_on}
 use Rattle.fz_reasons.proofs.automata.run.Goals as goal
 
 pub loop-place-preserved : goal.loop-place-preserved

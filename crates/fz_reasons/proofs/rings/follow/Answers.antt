@@ -1,4 +1,4 @@
-use Rattle.std.proofs.Common.{◌≡◌, ℤ, ◌+ℤ◌, ◌-ℤ◌, pos, Some, option_map, FitsSigned, w64, sym, ap, ◌∙◌, rules}
+use Rattle.std.proofs.Common.{◌≡◌, ◌+ℤ◌, ◌-ℤ◌, pos, Some, FitsSigned, w64, sym, ap, ◌∙◌, rules}
 use Rattle.std.specs.Int.{w128}
 use Rattle.std.proofs.lemmas.Int.{to_z-of_z}
 use Rattle.fz_builtins.specs.of_meaning.Relations.{element_at}
@@ -14,20 +14,7 @@ returns-in-Some c =
     let fits_o : FitsSigned w64 o = c.ranges.first in
     let fits_p : FitsSigned w128 p = c.ranges.position in
     let fits_i : FitsSigned w64 i = search rules in
-    let fits_r : FitsSigned w128 c.position_of.result = search rules in
+    let fits_r : FitsSigned w128 c.as_place.result = search rules in
     let there : c.int_element_at.result ≡ element_at (ints c.args.next.now) p = simp to_z-of_z at c.int_element_at.ensures.exact in
-    let told : c.position_of.result ≡ ((i -ℤ o) +ℤ pos 1) = simp to_z-of_z at c.position_of.ensures in
-    record {
-      exact = simp to_z-of_z (ap Some told ∙ ap (option_map (λ (x : ℤ). (x -ℤ o) +ℤ pos 1)) (sym c.in-Some.is) ∙ followed o (ints c.args.next.now) p c.int_element_at.result there);
-    }
-
-pub returns-in-None : goal.returns-in-None
-returns-in-None c =
-    let o = c.args.first in
-    let p = c.args.position in
-    let fits_o : FitsSigned w64 o = c.ranges.first in
-    let fits_p : FitsSigned w128 p = c.ranges.position in
-    let there : c.int_element_at.result ≡ element_at (ints c.args.next.now) p = simp to_z-of_z at c.int_element_at.ensures.exact in
-    record {
-      exact = ap (option_map (λ (x : ℤ). (x -ℤ o) +ℤ pos 1)) (sym c.in-None.is) ∙ followed o (ints c.args.next.now) p c.int_element_at.result there;
-    }
+    let told : c.as_place.result ≡ ((i -ℤ o) +ℤ pos 1) = simp to_z-of_z at c.as_place.ensures in
+    record { exact = simp to_z-of_z (ap Some told ∙ followed o (ints c.args.next.now) p i (sym c.in-Some.is ∙ there)) }
