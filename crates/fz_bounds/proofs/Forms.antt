@@ -13,7 +13,7 @@ use Rattle.fz_index.specs.of_model.of_builtins.Outcomes.{argument_at, test_from}
 use Rattle.fz_bounds.specs.Between.{AreBelow, at_most}
 use Rattle.fz_bounds.specs.Decided.{Decides}
 use Rattle.fz_bounds.specs.Within.{Foretells, IsBetween, TellsTruth, TruthLies, given}
-use Rattle.fz_bounds.specs.declared.limits.Limits.{Limits}
+use Rattle.fz_bounds.specs.declared.limits.BoundedConstraint.{BoundedConstraint}
 use Rattle.fz_bounds.specs.declared.outlook.Outlook.{Outlook}
 
 -- ---- the Boolean after the arguments of the base row
@@ -44,7 +44,7 @@ last_below K L xs i (s ∷ ss) h =
     let place : length ss + suc i ≡ length (s ∷ ss) + i = omega arith in
     subst (λ n. at_most BoolKind (bool_at K xs n) (bool_at L xs n) ≡ true) place (last_below K L xs (suc i) ss h.1)
 
-module _ (s : Limits) (b : Builtin) where
+module _ (s : BoundedConstraint) (b : Builtin) where
   abbrev base : Row
   base = row_at b
 

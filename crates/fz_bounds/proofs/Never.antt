@@ -23,7 +23,7 @@ use Rattle.fz_bounds.specs.Bounds.{IsInside, NeverHolds, Ranges}
 use Rattle.fz_bounds.specs.Between.{AreBetween}
 use Rattle.fz_bounds.specs.Decided.{Decides}
 use Rattle.fz_bounds.specs.Within.{AreKnown, Foretells, given}
-use Rattle.fz_bounds.specs.declared.limits.Limits.{Limits}
+use Rattle.fz_bounds.specs.declared.limits.BoundedConstraint.{BoundedConstraint}
 use Rattle.fz_bounds.specs.declared.outlook.Outlook.{Outlook}
 use Rattle.fz_bounds.specs.declared.outlook.Outlook.TheVariants.{Never}
 use Rattle.fz_bounds.proofs.Between.{are_between}
@@ -69,7 +69,7 @@ module _ (B : Ranges) (k : ℕ) (p : Posted) (r : Row) (fits : row_of p ≡ Some
       ]) refl h
 
 -- the same by what is foretold of the row
-pub row_never : (s : Limits) (B : Ranges) (k : ℕ) (q : Option Known) (known : Known) (o : Outlook)
+pub row_never : (s : BoundedConstraint) (B : Ranges) (k : ℕ) (q : Option Known) (known : Known) (o : Outlook)
     → s.lowest.now ≡ B.lowest → s.highest.now ≡ B.highest
     → option_map known_row q ≡ row_of (constraint_view s.parts) → q ≡ Some known
     → (known.builtin ≡ IntPow → ⊥) → AreKnown s (known_row known).shapes → Foretells s (known_row known) o → o ≡ Never

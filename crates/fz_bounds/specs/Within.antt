@@ -8,50 +8,50 @@ use Rattle.fz_index.specs.of_model.of_builtins.of_kernel.Given.{are_read, bool_a
 use Rattle.fz_index.specs.of_model.of_builtins.Outcomes.{test_from}
 use Rattle.fz_bounds.specs.Between.{AreAtMost, AreBetween, at_most}
 use Rattle.fz_bounds.specs.Decided.{Decides}
-use Rattle.fz_bounds.specs.declared.limits.Limits.{Limits}
+use Rattle.fz_bounds.specs.declared.limits.BoundedConstraint.{BoundedConstraint}
 use Rattle.fz_bounds.specs.declared.outlook.Outlook.{Outlook}
 
 -- the arguments
-abbrev pub given : Limits → List Argument
+abbrev pub given : BoundedConstraint → List Argument
 given s = (constraint_view s.parts).arguments
 
 -- the argument at an index lies between its least and its greatest value
-pub record NumberLies (s : Limits) (i : ℕ) (K : Partial) : Type 0 where
+pub record NumberLies (s : BoundedConstraint) (i : ℕ) (K : Partial) : Type 0 where
   pub low : at_most IntKind (int_at s.lowest.now (given s) i) (int_at K (given s) i) ≡ true
   pub high : at_most IntKind (int_at K (given s) i) (int_at s.highest.now (given s) i) ≡ true
 
-pub record TruthLies (s : Limits) (i : ℕ) (K : Partial) : Type 0 where
+pub record TruthLies (s : BoundedConstraint) (i : ℕ) (K : Partial) : Type 0 where
   pub low : at_most BoolKind (bool_at s.lowest.now (given s) i) (bool_at K (given s) i) ≡ true
   pub high : at_most BoolKind (bool_at K (given s) i) (bool_at s.highest.now (given s) i) ≡ true
 
 -- a set lies only within itself
-pub record SetLies (s : Limits) (i : ℕ) (K : Partial) : Type 0 where
+pub record SetLies (s : BoundedConstraint) (i : ℕ) (K : Partial) : Type 0 where
   pub low : at_most SetKind (set_at s.lowest.now (given s) i) (set_at K (given s) i) ≡ true
   pub high : at_most SetKind (set_at K (given s) i) (set_at s.highest.now (given s) i) ≡ true
 
 -- each element does
-pub record NumbersLie (s : Limits) (i : ℕ) (K : Partial) : Type 0 where
+pub record NumbersLie (s : BoundedConstraint) (i : ℕ) (K : Partial) : Type 0 where
   pub low : AreAtMost IntKind (ints_at s.lowest.now (given s) i) (ints_at K (given s) i)
   pub high : AreAtMost IntKind (ints_at K (given s) i) (ints_at s.highest.now (given s) i)
 
-pub record TruthsLie (s : Limits) (i : ℕ) (K : Partial) : Type 0 where
+pub record TruthsLie (s : BoundedConstraint) (i : ℕ) (K : Partial) : Type 0 where
   pub low : AreAtMost BoolKind (bools_at s.lowest.now (given s) i) (bools_at K (given s) i)
   pub high : AreAtMost BoolKind (bools_at K (given s) i) (bools_at s.highest.now (given s) i)
 
 -- all arguments, read as these kinds ask
-abbrev pub IsBetween : Limits → Partial → List Shape → Type 0
+abbrev pub IsBetween : BoundedConstraint → Partial → List Shape → Type 0
 IsBetween s K ss = AreBetween s.lowest.now K s.highest.now (given s) ss
 
 -- the row has this outcome at all arguments within the bounds
-abbrev pub Foretells : Limits → Row → Outlook → Type 0
+abbrev pub Foretells : BoundedConstraint → Row → Outlook → Type 0
 Foretells s r o = (K : Partial) → IsBetween s K r.shapes
     → Decides o (test_from 0 K (given s) r.shapes r.holds)
 
 -- what is said of the Boolean at an index
-abbrev pub TellsTruth : Limits → ℕ → Outlook → Type 0
+abbrev pub TellsTruth : BoundedConstraint → ℕ → Outlook → Type 0
 TellsTruth s i o = (K : Partial) → TruthLies s i K → Decides o (bool_at K (given s) i)
 
 -- each scalar has a least and a greatest value, of the kinds that are asked for
-pub record AreKnown (s : Limits) (ss : List Shape) : Type 0 where
+pub record AreKnown (s : BoundedConstraint) (ss : List Shape) : Type 0 where
   pub low : are_read s.lowest.now ss (given s) ≡ true
   pub high : are_read s.highest.now ss (given s) ≡ true

@@ -8,11 +8,11 @@ ghost use Rattle.fz_index.specs.of_model.of_builtins.of_kernel.Given.{int_at, in
 ghost use Rattle.fz_bounds.specs.Decided.{Decides, LiesIn};
 ghost use Rattle.fz_bounds.specs.Within.{NumberLies, NumbersLie, given};
 
-use crate::limits::Limits;
+use crate::limits::BoundedConstraint;
 use crate::outlook::Outlook;
 use crate::range::Range;
 
-impl<'s, 'a> Limits<'s, 'a> {
+impl<'s, 'a> BoundedConstraint<'s, 'a> {
     /// The load of a bin. The second argument has the items' bins, and the third their weights.
     fn load_of(&self, bin: Range) -> Range
         ensures { (K : Values) → NumbersLie self.now 1 K → NumbersLie self.now 2 K → (v : ℤ)

@@ -3,13 +3,13 @@
 ghost use Rattle.fz_index.specs.of_model.Builtins.{row_at};
 ghost use Rattle.fz_bounds.specs.Within.{Foretells};
 
-use crate::limits::Limits;
+use crate::limits::BoundedConstraint;
 use crate::order::Order;
 use crate::outlook::Outlook;
 use fz_index::Builtin;
 
 /// Whether the row of a builtin holds at no arguments inside the bounds, or at all of them.
-pub(crate) fn foretold(builtin: Builtin, at: &Limits<'_, '_>) -> Outlook
+pub(crate) fn foretold(builtin: Builtin, at: &BoundedConstraint<'_, '_>) -> Outlook
     ensures { Foretells at.now (row_at builtin) result }
 {
     match builtin {

@@ -7,10 +7,10 @@ ghost use Rattle.fz_index.specs.of_model.of_builtins.of_kernel.Given.{ints_at};
 ghost use Rattle.fz_bounds.specs.Decided.{Decides};
 ghost use Rattle.fz_bounds.specs.Within.{NumbersLie, given};
 
-use crate::limits::Limits;
+use crate::limits::BoundedConstraint;
 use crate::outlook::Outlook;
 
-impl<'s, 'a> Limits<'s, 'a> {
+impl<'s, 'a> BoundedConstraint<'s, 'a> {
     /// Whether each value of a cover comes as often in an array as the number beside it says.
     pub(crate) fn counts_are(&self, array: usize, cover: usize, numbers: usize) -> Outlook
         ensures { (K : Values) → NumbersLie self.now array K → NumbersLie self.now cover K

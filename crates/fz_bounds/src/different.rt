@@ -8,10 +8,10 @@ ghost use Rattle.fz_index.specs.of_model.of_builtins.of_kernel.Given.{ints_at, s
 ghost use Rattle.fz_bounds.specs.Decided.{Decides};
 ghost use Rattle.fz_bounds.specs.Within.{NumbersLie, given};
 
-use crate::limits::Limits;
+use crate::limits::BoundedConstraint;
 use crate::outlook::Outlook;
 
-impl<'s, 'a> Limits<'s, 'a> {
+impl<'s, 'a> BoundedConstraint<'s, 'a> {
     /// Whether an element before a place can only be this number.
     fn stands_before(&self, place: usize, number: i64) -> bool
         requires in_range { place < length (slots_at (given self.now) 0) }

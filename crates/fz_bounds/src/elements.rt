@@ -8,11 +8,11 @@ ghost use Rattle.fz_index.specs.of_model.of_builtins.of_kernel.Given.{bool_at, b
 ghost use Rattle.fz_bounds.specs.Decided.{Decides, LiesIn};
 ghost use Rattle.fz_bounds.specs.Within.{NumberLies, NumbersLie, TruthLies, TruthsLie, given};
 
-use crate::limits::Limits;
+use crate::limits::BoundedConstraint;
 use crate::outlook::Outlook;
 use crate::range::Range;
 
-impl<'s, 'a> Limits<'s, 'a> {
+impl<'s, 'a> BoundedConstraint<'s, 'a> {
     /// How many elements the argument at an index has.
     pub(crate) fn count(&self, index: usize) -> usize
         ensures { result ≡ length (slots_at (given self.now) index) }

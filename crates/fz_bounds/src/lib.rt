@@ -32,8 +32,8 @@ pub use bounds::Bounds;
 pub use ends::KindEnds;
 pub use fz_index::{
     Claim, Domain, End, Ends, Goal, IntSet, Kind, Left, Model, Narrower, Narrowing, Overview,
-    Partial, PointParts, Product, Refutation, Relation, Row, Rule, Scalars, Search, Slot, State,
-    Sums, Term, Value, forced_any, kind_of, known_of, same_kind, state,
+    Partial, PointParts, Product, Refutation, Relation, Row, Scalars, Search, Slot, State, Sums,
+    Term, Value, Visit, forced_any, kind_of, known_of, same_kind, state,
 };
 pub use refuting::cannot_hold;
 pub use tightening::Tightened;

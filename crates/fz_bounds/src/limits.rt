@@ -14,13 +14,13 @@ use fz_index::{ArgumentView, ConstraintParts, Partial, all_true, any_false, any_
 
 /// A constraint with the least and the greatest values of variables.
 #[derive(Clone, Copy)]
-pub(crate) struct Limits<'s, 'a> {
+pub(crate) struct BoundedConstraint<'s, 'a> {
     pub(crate) parts: ConstraintParts<'s, 'a>,
     pub(crate) lowest: &'s Partial,
     pub(crate) highest: &'s Partial,
 }
 
-impl<'s, 'a> Limits<'s, 'a> {
+impl<'s, 'a> BoundedConstraint<'s, 'a> {
     /// The arguments at their least.
     pub(crate) fn low(&self) -> ArgumentView<'s, 'a>
         ensures arguments { arguments_of result ≡ given self.now }

@@ -9,11 +9,11 @@ ghost use Rattle.fz_bounds.specs.Decided.{Decides, LiesIn};
 ghost use Rattle.fz_bounds.specs.Within.{NumberLies, NumbersLie, SetLies, given};
 
 use crate::declarations::membership;
-use crate::limits::Limits;
+use crate::limits::BoundedConstraint;
 use crate::outlook::Outlook;
 use crate::range::Range;
 
-impl<'s, 'a> Limits<'s, 'a> {
+impl<'s, 'a> BoundedConstraint<'s, 'a> {
     /// Whether the first argument is in the set that is the second.
     pub(crate) fn is_in(&self) -> Outlook
         ensures { (K : Values) → NumberLies self.now 0 K → SetLies self.now 1 K → Decides result

@@ -7,7 +7,7 @@ ghost use Rattle.fz_index.specs.of_model.of_builtins.of_kernel.Given.{bools_at, 
 ghost use Rattle.fz_bounds.specs.Decided.{Decides, LiesIn, in_order};
 ghost use Rattle.fz_bounds.specs.Within.{NumbersLie, TruthsLie, given};
 
-use crate::limits::Limits;
+use crate::limits::BoundedConstraint;
 use crate::outlook::Outlook;
 use crate::range::Range;
 
@@ -34,7 +34,7 @@ impl Order {
     }
 }
 
-impl<'s, 'a> Limits<'s, 'a> {
+impl<'s, 'a> BoundedConstraint<'s, 'a> {
     /// Whether each element of the first argument compares so with the next one.
     pub(crate) fn are_in_order(&self, order: Order) -> Outlook
         ensures { (K : Values) → NumbersLie self.now 0 K → Decides result

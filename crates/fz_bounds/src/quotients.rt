@@ -7,7 +7,7 @@ ghost use Rattle.fz_index.specs.of_model.of_builtins.of_kernel.Given.{int_at};
 ghost use Rattle.fz_bounds.specs.Decided.{Decides, LiesIn};
 ghost use Rattle.fz_bounds.specs.Within.{NumberLies, given};
 
-use crate::limits::Limits;
+use crate::limits::BoundedConstraint;
 use crate::outlook::Outlook;
 use crate::range::Range;
 
@@ -24,7 +24,7 @@ impl Range {
     }
 }
 
-impl<'s, 'a> Limits<'s, 'a> {
+impl<'s, 'a> BoundedConstraint<'s, 'a> {
     /// Whether the second argument isn't 0, and the third is the quotient of the first by it. That
     /// is so where the product of the second and the third leaves the remainder of the first.
     pub(crate) fn is_quotient(&self) -> Outlook

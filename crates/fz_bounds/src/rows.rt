@@ -12,7 +12,7 @@ ghost use Rattle.fz_bounds.specs.Within.{AreKnown, Foretells, TellsTruth};
 
 use crate::bounds::Bounds;
 use crate::builtins::foretold;
-use crate::limits::Limits;
+use crate::limits::BoundedConstraint;
 use crate::outlook::Outlook;
 use fz_index::{Builtin, ConstraintParts, Form, Known, Readiness, control_index};
 
@@ -31,7 +31,7 @@ pub(crate) fn row_fails(parts: &ConstraintParts<'_, '_>, bounds: &Bounds) -> boo
     if known.builtin == Builtin::IntPow {
         return false;
     }
-    let at = Limits {
+    let at = BoundedConstraint {
         parts: *parts,
         lowest: bounds.lowest(),
         highest: bounds.highest(),
@@ -40,7 +40,7 @@ pub(crate) fn row_fails(parts: &ConstraintParts<'_, '_>, bounds: &Bounds) -> boo
 }
 
 /// Whether a row, or a reified form of it, holds at no arguments inside the bounds, or at all.
-fn form_foretold(known: Known, at: &Limits<'_, '_>) -> Outlook
+fn form_foretold(known: Known, at: &BoundedConstraint<'_, '_>) -> Outlook
     ensures { Foretells at.now (known_row known) result }
 {
     let base = foretold(known.builtin, at);
@@ -52,14 +52,14 @@ fn form_foretold(known: Known, at: &Limits<'_, '_>) -> Outlook
 }
 
 /// The Boolean of a reified form, after the arguments of the base row.
-fn control(known: Known, at: &Limits<'_, '_>) -> Outlook
+fn control(known: Known, at: &BoundedConstraint<'_, '_>) -> Outlook
     requires { HasTruth known.form }
     ensures { TellsTruth at.now (length (row_at known.builtin).shapes) result }
 {
     at.truth(control_index(known))
 }
 
-impl<'s, 'a> Limits<'s, 'a> {
+impl<'s, 'a> BoundedConstraint<'s, 'a> {
     /// Whether each scalar has bounds of the kinds that the row asks for.
     fn are_known(&self, known: Known) -> bool
         ensures { IsTrue result → AreKnown self.now (known_row known).shapes }

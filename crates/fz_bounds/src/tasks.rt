@@ -10,11 +10,11 @@ ghost use Rattle.fz_bounds.specs.Decided.{Decides, LiesIn};
 ghost use Rattle.fz_bounds.specs.Spans.{keep_apart};
 ghost use Rattle.fz_bounds.specs.Within.{NumberLies, NumbersLie, given};
 
-use crate::limits::Limits;
+use crate::limits::BoundedConstraint;
 use crate::outlook::Outlook;
 use crate::range::Range;
 
-impl<'s, 'a> Limits<'s, 'a> {
+impl<'s, 'a> BoundedConstraint<'s, 'a> {
     /// The end of a task: the first time at which it no longer runs.
     fn end_of(&self, task: usize) -> Range
         requires starts { task < length (slots_at (given self.now) 0) }

@@ -3,7 +3,7 @@ use Rattle.std.proofs.Common.{◌≡◌, List, [], ◌∷◌, ◌++◌, refl, ap
 use Rattle.std.specs.Option.{option_or}
 use Rattle.std.proofs.lemmas.List.{map-append}
 use Rattle.fz_judge.specs.of_model.Meaning.{first_some}
-use Rattle.fz_judge.specs.of_model.Names.{HasNoFault, kinds, scalar_kind, fault_at_decl, decl_fault, decls_fault, constraint_fault, goal_fault, first_fault}
+use Rattle.fz_judge.specs.of_model.Names.{HasNoFault, kinds, scalar_kind, fault_at_decl, decls_fault, constraint_fault, goal_fault, first_fault}
 use Rattle.fz_judge.specs.of_model.Located.{Decl, LocatedTree}
 use Rattle.fz_check.specs.Outputs.{printed_decl, with_all_printed}
 use Rattle.fz_check.proofs.Same.{printed, looked_up}
@@ -17,7 +17,7 @@ decls_still before [] = refl
 decls_still before (d ∷ ds) =
     (λ i. option_or (fault_at_decl (kinds_still before i) d)
     (decls_fault (sym (map-append printed_decl before (d ∷ [])) i) (printed ds)))
-    ∙ ap (option_or (decl_fault before d)) (decls_still (before ++ d ∷ []) ds)
+    ∙ ap (option_or (fault_at_decl (kinds before) d)) (decls_still (before ++ d ∷ []) ds)
 
 fault_still : (t : LocatedTree) → first_fault (with_all_printed t) ≡ first_fault t
 fault_still t = λ i. option_or (decls_still [] t.decls i) (option_or

@@ -8,7 +8,7 @@ use Rattle.fz_judge.specs.of_syntax.Mark.TheVariants.{Colon, ColonColon, Semicol
 use Rattle.fz_judge.specs.of_syntax.Print.{CanBeWritten}
 use Rattle.fz_judge.specs.of_syntax.Tree as tree
 use Rattle.fz_judge.specs.of_syntax.Tokens.{decl_toks, predicate_toks, constraint_toks, solve_toks, notes_toks, note_toks, value_toks, prefix_toks, toks, var_toks, base_toks, word, mark}
-use Rattle.fz_judge.specs.of_model.Located.{Decl, LocatedTree, bare_decl, bare_constraint, bare_solve, bare_of}
+use Rattle.fz_judge.specs.of_model.Located.{Decl, LocatedTree, bare_decl, bare_constraint, bare_of}
 use Rattle.fz_judge.proofs.of_model.Lists.{all_append}
 use Rattle.fz_check.specs.Outputs.{output_var, is_unprinted, printed_decl, with_all_printed}
 
@@ -67,7 +67,7 @@ module _ (P : TokenValue → Type 0) (colons : P (Marked ColonColon)) (named : P
   tree_kept t =
       let decls = flat_map decl_toks (map bare_decl t.decls) in
       let with_notes = flat_map decl_toks (map bare_decl (map printed_decl t.decls)) in
-      in_front P _ _ (solve_toks (bare_solve t.solve))
+      in_front P _ _ (solve_toks (bare_of t).solve)
       (in_front P _ _ (flat_map constraint_toks (map bare_constraint t.constraints)) (behind P (flat_map predicate_toks t.predicates) decls with_notes (decls_kept t.decls)))
 
 pub can_be_written : (t : LocatedTree) → CanBeWritten (bare_of t)

@@ -2,9 +2,7 @@
 use Rattle.std.specs.Prelude.{◌≡◌, ◌≢◌, ◌↔◌, ℕ, ◌+◌, ◌<◌, ◌≤◌, List, ◌∷◌, ◌++◌, length, map, None, ⊤}
 use Rattle.std.specs.List.{AllByRecursion}
 use Rattle.fz_judge.specs.of_syntax.Limits.{Limits}
-use Rattle.fz_judge.specs.of_syntax.Lexing.{standard_limits}
-use Rattle.fz_judge.specs.of_syntax.Places.{most_bytes}
-use Rattle.fz_judge.specs.of_syntax.Places.{IsPlacedWithin}
+use Rattle.fz_judge.specs.of_syntax.Places.{most_bytes, standard_limits, IsPlacedWithin}
 use Rattle.fz_judge.specs.of_syntax.SyntaxError.{SyntaxError}
 use Rattle.fz_judge.specs.of_syntax.SyntaxError.TheVariants.{TooLong as TextTooLong, Memory as TextMemory}
 use Rattle.fz_judge.specs.of_syntax.Text.{IsTextOfTreeWithin}

@@ -1,7 +1,7 @@
 -- What holds of a report (this project's profile).
 use Rattle.std.specs.Prelude.{◌≡◌, ℕ, suc, ℤ, List, map, Some}
 use Rattle.std.specs.List.{slice_get}
-use Rattle.fz_judge.specs.of_syntax.Lexing.{standard_limits}
+use Rattle.fz_judge.specs.of_syntax.Places.{standard_limits}
 use Rattle.fz_judge.specs.of_syntax.Limits.{Limits}
 use Rattle.fz_judge.specs.of_model.Meaning.{Model, Assignment, IsSolution}
 use Rattle.fz_judge.specs.of_model.States.{IsKnownSolution}

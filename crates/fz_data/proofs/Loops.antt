@@ -6,7 +6,7 @@ use Rattle.fz_store.proofs.of_meaning.ScanSteps.{first_stops, take_one_more, fir
 use Rattle.fz_tree.specs.Tree as tree
 use Rattle.fz_tree.specs.View.{arg_list, bare_arg}
 use Rattle.fz_tree.specs.declared.tree.NoteArg.{NoteArg}
-use Rattle.fz_store.specs.of_meaning.Names.{only_arg}
+use Rattle.fz_store.specs.of_meaning.Names.{only_name}
 
 pub two_more : {A B C : Type 0} (f : B → C) (g : A → B) (xs : List A) (i : ℕ) (x : A)
     → i < length xs → x ≡ get_or xs i x
@@ -35,8 +35,19 @@ answer_found f g xs i x o lt at none is some =
     let (y, found) = some_answer o some in
     found ∙ sym (first_stops f g xs i x y lt at none (sym is ∙ found))
 
-pub not_only : (args : List NoteArg) → 2 ≤ length args → ◌≡◌ {A = Option tree.NoteArg} None (only_arg (arg_list (map bare_arg args)))
-not_only (a ∷ b ∷ args) h = refl
+-- of two arguments or more none is the only one
+two_arguments : (a b : tree.NoteArg) (args : tree.NoteArgs)
+    → ◌≡◌ {A = Option (List ℕ)} None (only_name (tree.MoreArgs a (tree.MoreArgs b args)))
+two_arguments (tree.OneBasic (tree.Inner (tree.Called x tree.NoMoreArgs))) b args = refl
+two_arguments (tree.OneBasic (tree.Inner (tree.Called x (tree.MoreArgs c cs)))) b args = refl
+two_arguments (tree.OneBasic (tree.NoteLiteral l)) b args = refl
+two_arguments (tree.OneBasic (tree.NoteFloat t)) b args = refl
+two_arguments (tree.OneBasic (tree.NoteString t)) b args = refl
+two_arguments (tree.ListOf bs) b args = refl
+
+pub not_only : (args : List NoteArg) → 2 ≤ length args
+    → ◌≡◌ {A = Option (List ℕ)} None (only_name (arg_list (map bare_arg args)))
+not_only (a ∷ b ∷ args) h = two_arguments (bare_arg a) (bare_arg b) (arg_list (map bare_arg args))
 not_only _ h = absurd (omega arith)
 
 -- what `target_of` cites

@@ -3,7 +3,7 @@ use Rattle.std.proofs.Common.{◌≡◌, ℕ, true, cond, List, [], ◌∷◌, �
 use Rattle.std.specs.Map.{lookup}
 use Rattle.std.proofs.lemmas.List.{length-map}
 use Rattle.fz_store.specs.of_meaning.Located.{Decl}
-use Rattle.fz_store.specs.of_meaning.Names.{parts, kind_of_base, variable_declared, Fault, name_fault, fault_at_decl, decl_fault}
+use Rattle.fz_store.specs.of_meaning.Names.{parts, kind_of_base, variable_declared, Fault, name_fault, fault_at_decl, kinds}
 use Rattle.fz_store.specs.of_meaning.Laws.{scalar_variables}
 use Rattle.fz_store.proofs.of_meaning.KnownNames.{is_new, parts_clean, next_number}
 use Rattle.fz_store.proofs.of_meaning.ScanSteps.{first_none}
@@ -31,7 +31,7 @@ new_name s d e =
     not_some place_kind (declared_place s.variables.items s.arrays.items) (lookup (has_text d.name.text) s.names) _ _ (first_none (name_fault (kinds_in s) d) _ e)
 
 module _ (all known rest : List Decl) (d : Decl) (split : all ≡ known ++ d ∷ rest) (s : Scope) (st : StandsFor all known s) (clean : fault_at_decl (kinds_in s) d ≡ None) (k : List ℕ) (named : k ≡ d.name.text) where
-  clean_here : decl_fault known d ≡ None
+  clean_here : fault_at_decl (kinds known) d ≡ None
   clean_here = ap (λ at. fault_at_decl at d) (sym (same_kinds all known s st)) ∙ clean
 
   count : length s.variables.items ≡ next_number known

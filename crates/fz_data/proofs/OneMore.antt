@@ -1,7 +1,7 @@
 -- One more declaration is taken in, and one more constraint.
 use Rattle.std.proofs.Common.{◌≡◌, List, [], ◌∷◌, ◌++◌, None, map, refl, sym, ap, subst, ◌∙◌, append_assoc}
 use Rattle.fz_store.specs.of_meaning.Located.{Decl}
-use Rattle.fz_store.specs.of_meaning.Names.{decl_fault, fault_at_decl, posted_of}
+use Rattle.fz_store.specs.of_meaning.Names.{fault_at_decl, posted_of, kinds}
 use Rattle.fz_store.proofs.of_meaning.ScanSteps.{decls_one_more}
 use Rattle.fz_data.specs.declared.scope.Item.{Item}
 use Rattle.fz_store.specs.declared.scope.Scope.{Scope}
@@ -26,7 +26,7 @@ declares_none s names variables arrays points = record { clean = refl; stands = 
 
 -- the fault at a declaration is that of the scope
 pub fault_same : (known : List Decl) (s : Scope) (d : Decl) → Declares known s
-    → fault_at_decl (kinds_in s) d ≡ decl_fault known d
+    → fault_at_decl (kinds_in s) d ≡ fault_at_decl (kinds known) d
 fault_same known s d h = ap (λ at. fault_at_decl at d) (same_kinds (known ++ []) known s (h.stands []))
 
 pub declares_more : (known : List Decl) (d : Decl) (s new : Scope) (it : Item) → Declares known s

@@ -8,7 +8,7 @@ use Rattle.fz_tree.specs.of_lex.declared.error.SyntaxError.{SyntaxError}
 use Rattle.fz_tree.specs.declared.tree.Decl.{Decl}
 use Rattle.fz_tree.specs.declared.tree.Constraint.{Constraint}
 use Rattle.fz_tree.specs.declared.tree.Solve.{Solve}
-use Rattle.fz_store.specs.of_meaning.Names.{decl_fault, decls_fault, first_fault}
+use Rattle.fz_store.specs.of_meaning.Names.{decls_fault, first_fault, fault_at_decl, kinds}
 use Rattle.fz_store.specs.of_meaning.Meaning.{first_some}
 use Rattle.fz_store.specs.of_meaning.View.{Tells, located_all, located_constraint, located_decl}
 use Rattle.fz_store.specs.of_meaning.declared.error.ModelError.{ModelError}
@@ -37,7 +37,7 @@ module _ {Q R : Type 0} (Left : Q → Type 0) (all : Q → TreeItems) (Before : 
 
 pub told_at_decl : (ds : List Decl) (d : Decl) (r : List Decl × (List Constraint × Solve))
     (e : ModelError) → decls_fault [] (map located_decl ds) ≡ None
-    → Tells e (decl_fault (map located_decl ds) (located_decl d))
+    → Tells e (fault_at_decl (kinds (map located_decl ds)) (located_decl d))
     → Tells e (first_fault (located_all (all_items ([], (ds ++ d ∷ r.0, r.1)))))
 told_at_decl ds d r e clean tells =
     tells_further e _ (first_fault (located_all (all_items ([], (ds ++ d ∷ r.0, r.1)))))

@@ -2,7 +2,7 @@
 use Rattle.std.specs.Prelude.{◌≡◌, ◌⊎◌, ℕ, List, map}
 use Rattle.fz_store.specs.of_meaning.of_syntax.Offering.{TreeItems, IsTextOfAllWithin, IsLeft, TookAll, from_decls, from_constraints}
 use Rattle.fz_tree.specs.of_lex.declared.limits.Limits.{Limits}
-use Rattle.fz_tree.specs.of_lex.Lexing.{standard_limits}
+use Rattle.fz_tree.specs.of_lex.View.{standard_limits}
 use Rattle.fz_tree.specs.of_lex.declared.error.SyntaxError.{SyntaxError}
 use Rattle.fz_tree.specs.Text.{IsTextOfTreeWithin}
 use Rattle.fz_store.specs.of_meaning.of_syntax.declared.reader.Rest.{Rest}

@@ -1,5 +1,5 @@
-//! Loading a model: of a tree (`load`), or of a text item by item (`load_text`). What is loaded is a
-//! `Model` of `fz_store`. An internal crate of `fz_model`, which offers all of it.
+//! Loading a model: of a tree (`load`), or of a text item by item (`load_text`). What is loaded is
+//! a `Model` of `fz_store`. An internal crate of `fz_model`, which offers all of it.
 //!
 //! Its worked cases are in `tests/cases` (`calls.txt`) and `tests/broken`.
 #![tactic(auto)]

@@ -4,7 +4,7 @@
 ghost use Rattle.std.specs.Prelude.{◌≡◌, ◌++◌, ◌∷◌, [], IfErr, IfOk, List, OnOk, map};
 ghost use Rattle.fz_store.specs.of_meaning.Located.{Decl as LocatedDecl};
 ghost use Rattle.fz_store.specs.of_meaning.declared.error.ModelError.TheVariants.{Memory};
-ghost use Rattle.fz_store.specs.of_meaning.Names.{model_of, HasNoFault, decl_fault, decls_fault, first_fault};
+ghost use Rattle.fz_store.specs.of_meaning.Names.{model_of, HasNoFault, decls_fault, first_fault, fault_at_decl, kinds};
 ghost use Rattle.fz_store.specs.of_meaning.View.{Tells, located, located_decl};
 ghost use Rattle.fz_data.specs.Scope.{HasKinds};
 ghost use Rattle.fz_data.specs.Stands.{Declares};
@@ -12,7 +12,7 @@ ghost use Rattle.fz_data.specs.Stands.{Declares};
 use crate::declaring::item_of;
 use crate::posting::{all_posted, goal_of};
 use crate::scope::add;
-use fz_store::{Model, ModelError, Names, Scope, Store};
+use fz_store::{Model, ModelError, Names, Scope, Store, assembled};
 use fz_tree::{Ast, Decl};
 use std::alloc::Global;
 
@@ -45,7 +45,7 @@ pub(crate) fn declare<'a>(
         → OnOk result (Declares (known ++ located_decl decl.now ∷ []) scope.new) }
     ensures kinds { OnOk result (HasKinds scope.new) }
     ensures tells { (known : List LocatedDecl) → Declares known scope.old
-        → IfErr result (λ e. Tells e (decl_fault known (located_decl decl.now))) }
+        → IfErr result (λ e. Tells e (fault_at_decl (kinds known) (located_decl decl.now))) }
 {
     let item = item_of(alloc, scope, decl)?;
     add(scope, decl.name.text, item)?;
@@ -79,5 +79,5 @@ pub fn load<'a>(alloc: Global, ast: &Ast<'a>) -> Result<Model<'a>, ModelError>
     let mut store = Store::new(alloc);
     let constraints = all_posted(alloc, &scope, &mut store, &ast.constraints)?;
     let goal = goal_of(alloc, &scope, &ast.solve.goal)?;
-    Ok(Model::assembled(scope, store, constraints, goal))
+    Ok(assembled(scope, store, constraints, goal))
 }

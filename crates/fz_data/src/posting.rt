@@ -4,10 +4,12 @@ ghost use Rattle.std.specs.Prelude.{◌≡◌, ◌++◌, ◌∷◌, [], IfErr, I
 ghost use Rattle.fz_store.specs.of_meaning.Located.{Constraint as LocatedConstraint};
 ghost use Rattle.fz_store.specs.of_meaning.Located.Basic.{Named};
 ghost use Rattle.fz_store.specs.of_meaning.Meaning.{first_some, row_of};
-ghost use Rattle.fz_store.specs.of_meaning.Names.{aim_of, argument_fault, argument_of, bare_name_of, defined_by, goal_fault, inner_of, only_arg, part_fault, parts_fault, place_of, posted_of, variable_at};
+ghost use Rattle.fz_store.specs.of_meaning.Names.{aim_of, argument_fault, argument_of, defined_by, goal_fault, only_name, part_fault, parts_fault, place_of, posted_of, variable_at};
 ghost use Rattle.fz_store.specs.of_meaning.View.{Tells, located_basic, located_constraint, located_expr, located_goal, located_name};
-ghost use Rattle.fz_tree.specs.View.{arg_list, bare_arg, bare_basic, bare_note, bare_notes};
+ghost use Rattle.fz_tree.specs.View.{arg_list, bare_arg, bare_note, bare_notes};
 ghost use Rattle.fz_tree.specs.Tree.NoteArg.{OneBasic};
+ghost use Rattle.fz_tree.specs.Tree.NoteArgs.{MoreArgs, NoMoreArgs};
+ghost use Rattle.fz_tree.specs.Tree.NoteBasic.{Inner};
 ghost use Rattle.fz_store.specs.Parts.{goal_view, kept_row, posted_view};
 ghost use Rattle.fz_data.specs.Posting.{AreArgumentsOf, ArePlacesOf, IsArgumentOf, IsLonger, IsPlaceOf, IsPostedOf, Posts};
 ghost use Rattle.fz_data.specs.Scope.{HasKinds, constraint_fault_in, kinds_in, place_in};
@@ -172,49 +174,30 @@ fn variable_named(scope: &Scope<'_>, name: &[u8]) -> Option<usize>
     }
 }
 
-/// The argument of an annotation, where it has exactly one.
-#[tactic(auto, using(crate::proofs::Loops::not_only))]
-fn only<'t, 'a>(args: &'t [NoteArg<'a>]) -> Option<&'t NoteArg<'a>>
-    ensures { option_map (λ a. bare_arg a.now) result
-        ≡ only_arg (arg_list (map bare_arg args.now)) }
-{
-    match args {
-        [] => None,
-        [arg] => Some(arg),
-        [_, _, ..] => None,
-    }
-}
-
-/// The annotation that an argument is.
-fn inner<'t, 'a>(arg: &'t NoteArg<'a>) -> Option<&'t Note<'a>>
-    ensures { option_map (λ n. bare_note n.now) result ≡ inner_of (bare_arg arg.now) }
-{
-    match arg {
-        NoteArg::One(basic) => inner_basic(basic),
-        NoteArg::List(_) => None,
-    }
-}
-
-fn inner_basic<'t, 'a>(basic: &'t NoteBasic<'a>) -> Option<&'t Note<'a>>
-    ensures { option_map (λ n. bare_note n.now) result
-        ≡ inner_of (OneBasic (bare_basic basic.now)) }
-{
-    match basic {
-        NoteBasic::Inner(note) => Some(note),
-        NoteBasic::Lit(_) => None,
-        NoteBasic::Float(_) => None,
-        NoteBasic::Str(_) => None,
-    }
-}
-
 /// The name of an annotation, where that has no arguments.
 fn bare_name<'a>(note: &Note<'a>) -> Option<&'a [u8]>
-    ensures { option_map (λ x. x.now) result ≡ bare_name_of (bare_note note.now) }
+    ensures { option_map (λ x. x.now) result
+        ≡ only_name (MoreArgs (OneBasic (Inner (bare_note note.now))) NoMoreArgs) }
 {
     if note.args.is_empty() {
         return Some(note.name.text);
     }
     None
+}
+
+/// The name that is the only argument of an annotation, where it is a name by itself.
+#[tactic(auto, using(crate::proofs::Loops::not_only))]
+fn only_name<'a>(args: &[NoteArg<'a>]) -> Option<&'a [u8]>
+    ensures { option_map (λ x. x.now) result ≡ only_name (arg_list (map bare_arg args.now)) }
+{
+    match args {
+        [] => None,
+        [arg] => match arg {
+            NoteArg::One(NoteBasic::Inner(note)) => bare_name(note),
+            _ => None,
+        },
+        [_, _, ..] => None,
+    }
 }
 
 /// The variable that an annotation of the form `defines_var(x)` names.
@@ -224,8 +207,7 @@ fn defined(scope: &Scope<'_>, note: &Note<'_>) -> Option<usize>
     if !same_text(note.name.text, b"defines_var") {
         return None;
     }
-    let name = bare_name(inner(only(&note.args)?)?)?;
-    variable_named(scope, name)
+    variable_named(scope, only_name(&note.args)?)
 }
 
 /// The first variable that an annotation of that form names.

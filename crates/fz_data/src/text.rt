@@ -7,7 +7,7 @@ ghost use Rattle.fz_tree.specs.of_lex.declared.error.SyntaxError.{SyntaxError as
 ghost use Rattle.fz_tree.specs.of_lex.declared.error.SyntaxError.TheVariants.{TooLong};
 ghost use Rattle.fz_tree.specs.declared.tree.Decl as the_decl;
 ghost use Rattle.fz_tree.specs.declared.tree.Predicate as the_predicate;
-ghost use Rattle.fz_store.specs.of_meaning.Names.{decl_fault};
+ghost use Rattle.fz_store.specs.of_meaning.Names.{fault_at_decl, kinds};
 ghost use Rattle.fz_store.specs.of_meaning.View.{Tells, located_constraint, located_decl};
 ghost use Rattle.fz_store.specs.of_meaning.declared.error.ModelError.{ModelError as NameFault};
 ghost use Rattle.fz_store.specs.of_meaning.declared.error.ModelError.TheVariants.{Memory};
@@ -21,6 +21,7 @@ use crate::loading::{declare, empty};
 use crate::posting::{goal_of, post};
 use fz_store::{
     ConstraintItems, DeclItems, Model, ModelError, Offer, Posted, PredicateItems, Scope, Store,
+    assembled,
 };
 use fz_tree::{Constraint, Decl, Limits, Solve, SyntaxError};
 use std::alloc::Global;
@@ -83,7 +84,7 @@ fn take_decl<'a>(
         → OnOk result (Declares (known ++ located_decl decl.entry ∷ []) scope.new) }
     ensures kinds { OnOk result (HasKinds scope.new) }
     ensures tells { (known : List LocatedDecl) → Declares known scope.old
-        → IfErr result (λ e. Tells e (decl_fault known (located_decl decl.entry))) }
+        → IfErr result (λ e. Tells e (fault_at_decl (kinds known) (located_decl decl.entry))) }
     ensures same { Took from_decls [] items.old.rest items.new.rest }
     ensures left { left_of items.new.rest ≡ left_of items.old.rest }
 {
@@ -193,7 +194,7 @@ fn read_text<'a>(alloc: Global, source: &'a [u8], limits: Limits) -> Result<Mode
     let mut store = Store::new(alloc);
     let (constraints, solve) = posted_in(alloc, items, &scope, &mut store)?;
     let goal = goal_of(alloc, &scope, &solve.goal)?;
-    Ok(Model::assembled(scope, store, constraints, goal))
+    Ok(assembled(scope, store, constraints, goal))
 }
 
 /// The model of a text, read under these limits. No tree of it is held.

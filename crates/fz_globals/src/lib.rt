@@ -1,5 +1,5 @@
 //! The relations of global constraints that order, count and arrange, each exactly as
-//! `fz_meaning`'s `Globals` has it, over the elements of arrays under a partial assignment; those
+//! `fz_meaning`'s `Relations` has it, over the elements of arrays under a partial assignment; those
 //! of scheduling and packing are in `fz_scheduling`. An internal crate of `fz_model`: `fz_builtins`
 //! and `fz_model` use these relations as they use those of `fz_kernel`.
 //!

@@ -3,7 +3,7 @@
 use crate::arguments::{declared_elements, elements_in, scalar_in};
 use crate::points::Points;
 use crate::relations::{Shape, Terms, shape_of};
-use crate::row::{Claim, Product, Relation, Row, Rule};
+use crate::row::{Claim, Product, Relation, Row, Visit};
 use fz_model::{
     Argument, ConstraintParts, Form, Kind, Model, PointParts, Scalar, Scalars, Slot, Term, part,
     scalar_at,
@@ -64,7 +64,7 @@ impl Builder {
             points: Points {
                 ends: Vec::new(alloc),
                 products: Vec::new(alloc),
-                rules: Vec::new(alloc),
+                visits: Vec::new(alloc),
                 costs: Vec::new(alloc),
                 domains,
             },
@@ -79,41 +79,41 @@ impl Builder {
         self.first = self.points.products.len();
         self.constant = 0;
         self.cost = 1;
-        let rule = match parts {
+        let visit = match parts {
             PointParts::Domain(_, own) => {
                 if let Some(domain) = self.points.domains.get_mut(*own) {
-                    *domain = self.points.rules.len();
+                    *domain = self.points.visits.len();
                 }
-                Rule::Plain
+                Visit::Plain
             }
-            PointParts::Elements(..) => Rule::Plain,
+            PointParts::Elements(..) => Visit::Plain,
             PointParts::Definition(variable, own, side) => {
                 self.add_definition(variable.kind, *own, side)?
             }
             PointParts::Constraint(parts) => self.add_constraint(parts)?,
         };
-        self.points.rules.push(rule)?;
+        self.points.visits.push(visit)?;
         self.points.costs.push(self.cost)?;
         self.points.ends.push(self.points.products.len())?;
         Ok(())
     }
 
-    fn add_definition(&mut self, kind: Kind, own: usize, side: &Term) -> Result<Rule, AllocError> {
+    fn add_definition(&mut self, kind: Kind, own: usize, side: &Term) -> Result<Visit, AllocError> {
         self.add_variable(own, 1)?;
         match side {
             Term::Var(other) => self.add_variable(*other, -1)?,
-            Term::Fixed(_) => return Ok(Rule::Plain),
+            Term::Fixed(_) => return Ok(Visit::Plain),
         }
         match kind {
-            Kind::Set => Ok(Rule::Plain),
-            Kind::Int | Kind::Bool => Ok(Rule::Linear(Row {
+            Kind::Set => Ok(Visit::Plain),
+            Kind::Int | Kind::Bool => Ok(Visit::Linear(Row {
                 relation: Relation::Equal(0),
                 claim: Claim::Holds,
             })),
         }
     }
 
-    fn add_constraint(&mut self, parts: &ConstraintParts<'_, '_>) -> Result<Rule, AllocError> {
+    fn add_constraint(&mut self, parts: &ConstraintParts<'_, '_>) -> Result<Visit, AllocError> {
         let row = match parts.posted.known {
             Some(known) => match shape_of(known) {
                 Some(shape) if has_coefficients(parts, shape.terms) => {
@@ -124,10 +124,10 @@ impl Builder {
             None => None,
         };
         match row {
-            Some(row) => Ok(Rule::Linear(row)),
+            Some(row) => Ok(Visit::Linear(row)),
             None => {
                 self.add_arguments(parts)?;
-                Ok(Rule::Plain)
+                Ok(Visit::Plain)
             }
         }
     }

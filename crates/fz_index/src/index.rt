@@ -3,7 +3,7 @@
 
 use crate::builder::points_of;
 use crate::points::{Points, items_of};
-use crate::row::{Place, Product, Rule};
+use crate::row::{Place, Product, Visit};
 use fz_model::Model;
 use std::alloc::{AllocError, Global};
 
@@ -47,10 +47,10 @@ impl Search {
     }
 
     /// How a point is visited.
-    pub fn rule_of(&self, point: usize) -> Rule {
-        match self.points.rules.get(point) {
-            Some(rule) => *rule,
-            None => Rule::Plain,
+    pub fn visit_of(&self, point: usize) -> Visit {
+        match self.points.visits.get(point) {
+            Some(visit) => *visit,
+            None => Visit::Plain,
         }
     }
 

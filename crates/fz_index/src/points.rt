@@ -1,6 +1,6 @@
 //! The points of a model, in the form that a search uses.
 
-use crate::row::{Product, Rule};
+use crate::row::{Product, Visit};
 
 /// The points of a model: the variables of each, how it is visited, and what that costs.
 #[derive(Drop)]
@@ -10,7 +10,7 @@ pub(crate) struct Points {
     /// the variables of each point, each once, the list of one point after that of another
     pub(crate) products: Vec<Product>,
     /// how each point is visited
-    pub(crate) rules: Vec<Rule>,
+    pub(crate) visits: Vec<Visit>,
     /// one more than the number of scalars of each point
     pub(crate) costs: Vec<usize>,
     /// the point that is the domain of each variable

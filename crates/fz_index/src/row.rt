@@ -130,7 +130,7 @@ fn is_equal(sums: Sums, number: i128) -> Option<bool> {
 
 /// How a point is visited.
 #[derive(Clone, Copy)]
-pub enum Rule {
+pub enum Visit {
     /// as a linear row
     Linear(Row),
     /// variable by variable, from both ends of its bounds

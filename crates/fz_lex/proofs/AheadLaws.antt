@@ -7,8 +7,8 @@ use Rattle.std.proofs.lemmas.List.{length-drop, append-nil, get_or_past}
 use Rattle.std.proofs.lemmas.Bool.{eqb-true, eqb-false, cases_Bool, cases_lt, ltb-true, ltb-false}
 use Rattle.std.proofs.lemmas.Int.{ints}
 use Rattle.fz_lex.specs.Token.{is_blank, is_line_feed, TokenValue, Whole}
-use Rattle.fz_lex.specs.Lexing.{SpannedToken, CutBetween, nothing, blank, comment, spelling, IsWholeComment, IsLongestSpelling, LexesToSpanned, IsWithinLimit, IsTokenWithinLimit, LexesWithin, standard_limits}
-use Rattle.fz_lex.specs.View.{NothingBegins, spanned, IsSpelledAtSpan, IsLexicalFaultWithin, IsPlacedWithin, AreWithinLimit}
+use Rattle.fz_lex.specs.Lexing.{SpannedToken, CutBetween, nothing, blank, comment, spelling, IsWholeComment, IsLongestSpelling, IsWithinLimit, IsTokenWithinLimit, LexesWithin}
+use Rattle.fz_lex.specs.View.{NothingBegins, spanned, IsSpelledAtSpan, IsLexicalFaultWithin, IsPlacedWithin, AreWithinLimit, LexesToSpanned, standard_limits}
 use Rattle.fz_lex.specs.Found.{AreInOrder, NextFrom, FaultFrom, IsScanned, IsScanFault}
 use Rattle.fz_lex.specs.Scan.{FrontToken, found, none, front_of}
 use Rattle.fz_lex.specs.Ahead.{comma_at, gap_from, is_whole_within, is_within, tokens_at, tokens_from, tokens_ahead, stop_at, stop_from, stop_ahead}

@@ -89,7 +89,7 @@ fault_after source place before c w (BadByte span) f = (before ++ [], cut_then c
 fault_after source place before c w (TooLarge span) f = (before ++ [], f.0, f.1, cut_then c f.2, rw append-nil w, f.3, f.4, f.5)
 fault_after source place before c w _ f = absurd f
 
--- what a fault is not
+-- no fault is one of memory, or of a text that is too long
 pub fault_is_not : (source : List ℕ) (place : ℕ) (e : SyntaxError) → FaultFrom source place e
     → (e ≢ Memory) × (e ≢ TooLong)
 fault_is_not source place (BadByte span) f = (λ m. cc m, λ m. cc m)

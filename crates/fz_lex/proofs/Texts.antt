@@ -3,10 +3,10 @@
 use Rattle.std.proofs.Common.{◌≡◌, ℕ, ◌-◌, ◌≤◌, List, [], ◌∷◌, length, take, drop, slice_range, map, sym, ap, ◌∙◌, subst, arith}
 use Rattle.std.specs.List.{AllByRecursion}
 use Rattle.fz_lex.specs.Token.{TokenValue, Word, FloatText, StringText, Spells, IsTokenText, IsWordText, IsFloatText, IsStringText}
-use Rattle.fz_lex.specs.Lexing.{SpannedToken, CutBetween, nothing, blank, comment, spelling, LexesToSpanned, IsTokenWithinLimit, IsTextOfTokensWithin}
+use Rattle.fz_lex.specs.Lexing.{SpannedToken, CutBetween, nothing, blank, comment, spelling, IsTokenWithinLimit, IsTextOfTokensWithin}
 use Rattle.fz_lex.specs.declared.limits.Limits.{Limits}
 use Rattle.fz_lex.specs.AnyLength.{LexesTo, LexesWithNumbersInLimit}
-use Rattle.fz_lex.specs.View.{IsSpelledAtSpan}
+use Rattle.fz_lex.specs.View.{IsSpelledAtSpan, LexesToSpanned}
 
 pub spelled_text : (t : TokenValue) (b : List ℕ) → Spells t b → IsTokenText t
 spelled_text (Word text) b s = subst IsWordText s.0 s.1

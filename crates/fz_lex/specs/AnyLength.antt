@@ -3,7 +3,8 @@
 use Rattle.std.specs.Prelude.{◌≡◌, ℕ, List, map}
 use Rattle.fz_lex.specs.Token.{TokenValue}
 use Rattle.std.specs.List.{AllByRecursion}
-use Rattle.fz_lex.specs.Lexing.{SpannedToken, LexesToSpanned, IsTokenWithinLimit}
+use Rattle.fz_lex.specs.Lexing.{SpannedToken, IsTokenWithinLimit}
+use Rattle.fz_lex.specs.View.{LexesToSpanned}
 
 -- The source lexes to the tokens.
 abbrev pub LexesTo : List ℕ → List TokenValue → Type 0

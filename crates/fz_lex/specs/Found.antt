@@ -2,8 +2,8 @@
 -- what the crate promises doesn't speak of it.
 use Rattle.std.specs.Prelude.{Bool, ◌⊎◌, Option, Some, None, ◌≡◌, ◌≢◌, ℕ, ◌+◌, ◌<◌, List, [], ◌∷◌, length, take, drop, slice_range, ℤ, ◌≤◌}
 use Rattle.fz_lex.specs.Token.{Whole}
-use Rattle.fz_lex.specs.Lexing.{SpannedToken, LexesToSpanned, IsLongestSpelling, CutBetween, IsWithinLimit, IsTokenWithinLimit}
-use Rattle.fz_lex.specs.View.{NothingBegins, token_value, spanned, all_spanned, TextsAreSlices, IsLexicalFaultWithin, AreWithinLimit}
+use Rattle.fz_lex.specs.Lexing.{SpannedToken, IsLongestSpelling, CutBetween, IsWithinLimit, IsTokenWithinLimit}
+use Rattle.fz_lex.specs.View.{NothingBegins, token_value, spanned, all_spanned, TextsAreSlices, IsLexicalFaultWithin, AreWithinLimit, LexesToSpanned}
 use Rattle.fz_lex.specs.Scan.{found, none, front_of, signed}
 use Rattle.fz_lex.specs.declared.token.TokenKind.TheVariants as kinds
 use Rattle.fz_lex.specs.declared.limits.Limits.{Limits}

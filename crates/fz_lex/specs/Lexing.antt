@@ -39,16 +39,6 @@ pub data CutBetween (source : List ℕ) : ℕ → ℕ → List SpannedToken → 
       (drop place source) n token.token → CutBetween source (place + n) end tokens
       → CutBetween source place end (token ∷ tokens)
 
--- The source lexes to the tokens, each with the byte range of its text: it is cut up to its end.
-abbrev pub LexesToSpanned : List ℕ → List SpannedToken → Type 0
-LexesToSpanned source tokens = CutBetween source 0 (length source) tokens
-
--- The limits where no others are given: the most bytes of a text, elements of a list in brackets or
--- braces and levels of annotations in one another, and the greatest length of an array (this
--- project's profile).
-abbrev pub standard_limits : Limits
-standard_limits = record { bytes = 2 ^ 24; elements = 2 ^ 20; size = 2 ^ 20; depth = 32 }
-
 -- The integers that are accepted are those of 64 bits.
 abbrev pub IsWithinLimit : ℤ → Type 0
 IsWithinLimit z = (neg_ℤ (pos (2 ^ 63)) ≤ℤ z) × (z ≤ℤ pos (2 ^ 63 - 1))
@@ -58,11 +48,11 @@ abbrev pub IsTokenWithinLimit : TokenValue → Type 0
 IsTokenWithinLimit (Whole z) = IsWithinLimit z
 IsTokenWithinLimit _ = Unit {0}
 
--- The source lexes to the tokens, and both are within the limits.
+-- The source lexes to the tokens: it is cut into them up to its end, and both are within the limits.
 pub record LexesWithin (limits : Limits) (source : List ℕ)
     (tokens : List SpannedToken) : Type 0 where
   pub short : length source ≤ limits.bytes
-  pub lexes : LexesToSpanned source tokens
+  pub lexes : CutBetween source 0 (length source) tokens
   pub numbers : AllByRecursion (λ t. IsTokenWithinLimit t.token) tokens
 
 -- The source is a text of the tokens: it lexes to them, and both are within the limits.

@@ -1,10 +1,10 @@
 -- From tokens of the code to the plain data that the definitions speak of, and what a refusal says
 -- about the source (this project's profile).
-use Rattle.std.specs.Prelude.{◌≡◌, ℕ, ◌+◌, ◌<◌, ◌≤◌, List, length, drop, slice_range, map, ℤ, ◌≢◌, take, slice_index, IsFalse}
+use Rattle.std.specs.Prelude.{◌≡◌, ℕ, ◌+◌, ◌^◌, ◌<◌, ◌≤◌, List, length, drop, slice_range, map, ℤ, ◌≢◌, take, slice_index, IsFalse}
 use Rattle.std.specs.List.{AllByRecursion}
 use Rattle.fz_base.specs.declared.span.Span.{Span}
 use Rattle.fz_lex.specs.Token.{TokenValue, Word, Whole, FloatText, StringText, Marked, Spells, is_blank}
-use Rattle.fz_lex.specs.Lexing.{SpannedToken, CutBetween, IsLongestSpelling, IsTokenWithinLimit, LexesWithin, standard_limits, IsWithinLimit}
+use Rattle.fz_lex.specs.Lexing.{SpannedToken, CutBetween, IsLongestSpelling, IsTokenWithinLimit, LexesWithin, IsWithinLimit}
 use Rattle.fz_lex.specs.declared.limits.Limits.{Limits}
 use Rattle.fz_lex.specs.declared.token.TokenKind.{TokenKind}
 use Rattle.fz_lex.specs.declared.token.TokenKind.TheVariants as kinds
@@ -37,6 +37,10 @@ all_spanned tokens = map spanned tokens
 -- The part of the source before the offset is cut into the tokens.
 abbrev pub CutUpTo : List ℕ → ℕ → List SpannedToken → Type 0
 CutUpTo source place tokens = CutBetween source 0 place tokens
+
+-- The source lexes to the tokens, each with the byte range of its text: it is cut up to its end.
+abbrev pub LexesToSpanned : List ℕ → List SpannedToken → Type 0
+LexesToSpanned source tokens = CutUpTo source (length source) tokens
 
 -- Their integers are within the limit.
 abbrev pub AreWithinLimit : List SpannedToken → Type 0
@@ -85,12 +89,18 @@ IsLexicalFaultWithin limits source (TooDeep span) = ⊥
 IsLexicalFaultWithin limits source (TooMany span) = ⊥
 IsLexicalFaultWithin limits source Memory = Unit {0}
 
+-- The limits where no others are given: the most bytes of a text, elements of a list in brackets or
+-- braces and levels of annotations in one another, and the greatest length of an array.
+abbrev pub standard_limits : Limits
+standard_limits = record { bytes = 2 ^ 24; elements = 2 ^ 20; size = 2 ^ 20; depth = 32 }
+
 abbrev pub IsLexicalFault : List ℕ → SyntaxError → Type 0
 IsLexicalFault = IsLexicalFaultWithin standard_limits
 
--- The most bytes that a text may have at the standard limits, and its tokens within these.
+-- The most bytes that a text may have at the standard limits.
 abbrev pub most_bytes : ℕ
 most_bytes = standard_limits.bytes
 
+-- The source lexes to the tokens within the standard limits.
 abbrev pub LexesWithinLimits : List ℕ → List SpannedToken → Type 0
 LexesWithinLimits = LexesWithin standard_limits

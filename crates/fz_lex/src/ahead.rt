@@ -2,9 +2,9 @@
 
 ghost use Rattle.std.specs.Prelude.{◌≡◌, ◌≢◌, ◌∷◌, [], List, length, drop, IsOk, IfErr, IfSome, IfNone, OnOk};
 ghost use Rattle.std.specs.List.{AllByRecursion};
-ghost use Rattle.fz_lex.specs.Lexing.{LexesWithin, SpannedToken, LexesToSpanned};
+ghost use Rattle.fz_lex.specs.Lexing.{LexesWithin, SpannedToken};
 ghost use Rattle.fz_lex.specs.Found.{AreInOrder, IsScanned, IsScanFault};
-ghost use Rattle.fz_lex.specs.View.{spanned, IsSpelledAtSpan, IsLexicalFaultWithin, IsPlacedWithin, AreWithinLimit};
+ghost use Rattle.fz_lex.specs.View.{spanned, IsSpelledAtSpan, IsLexicalFaultWithin, IsPlacedWithin, AreWithinLimit, LexesToSpanned};
 ghost use Rattle.fz_lex.specs.Ahead.{tokens_ahead};
 ghost use Rattle.fz_lex.specs.declared.limits.Limits.{Limits};
 ghost use Rattle.fz_lex.specs.Left.{left, listed_comma, source_of};

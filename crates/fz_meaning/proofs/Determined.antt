@@ -11,7 +11,7 @@ use Rattle.std.specs.Int.{int_min, int_max, int_pow}
 use Rattle.std.specs.FinSet as sets
 use Rattle.std.proofs.lemmas.Bool.Decides.{nat_tests}
 use Rattle.std.proofs.lemmas.Grind.{common_steps}
-use Rattle.fz_meaning.specs.Relations.{◌=ℤ◌, ◌=ᴮ◌, ◌=ˢ◌, products, total, as_number, is_among, element_at, where_true, count_in, count_of, index_from, is_index_of_best, is_weight_of, all_different, set_of, values_of, chosen, indices_from, union_of}
+use Rattle.fz_meaning.specs.Relations.{◌=ℤ◌, ◌=ᴮ◌, ◌=ˢ◌, products, total, as_number, is_among, element_at, where_true, count_in, count_of, index_from, is_index_of_best, is_weight_of, all_different, values_of, chosen, indices_from, union_of}
 use Rattle.fz_meaning.specs.Builtins.{Shape, Of, Plain, Test, Row, base_rows, builtins, implied, reified, row_at, rows, rows_with_forms, with_bool, with_truth}
 use Rattle.fz_meaning.specs.Builtins.Shape.{ScalarOf, ArrayOf}
 use Rattle.fz_meaning.specs.Results.{Result, result_of}
@@ -174,7 +174,7 @@ weight a b c = total (map (λ p. p.1) (filter (λ p. sets.contains c p.0) (zip a
 
 weighs : (a b : List ℤ) (c : NumberSet) (n : ℤ) → is_weight_of a b c n ≡ true
     → (n =ℤ weight a b c) ≡ true
-weighs a b c n e = and_second (all_different a && sets.is_subset c (set_of a)) _ e
+weighs a b c n e = and_second (all_different a && sets.is_subset c (sets.from_list a)) _ e
 
 -- ---- the table
 

@@ -14,7 +14,7 @@ use Rattle.fz_meaning.specs.Relations.{same_kind}
 use Rattle.fz_meaning.specs.Meaning.Place.{Array}
 use Rattle.fz_meaning.specs.Located.{Name, Decl}
 use Rattle.fz_meaning.specs.Located.Basic.{Named}
-use Rattle.fz_meaning.specs.Names.{declaration, named_as, parts, kind_of_base, is_scalar, is_scalar_variable, scalar_kind, kinds, number_of, scalar_term, scalar_place, scalars, declared_elements, place_of_declared, places, term_at, term_of, Fault, kind_fault, name_fault, parts_fault, decl_fault}
+use Rattle.fz_meaning.specs.Names.{declaration, named_as, parts, kind_of_base, is_scalar, is_scalar_variable, scalar_kind, kinds, number_of, scalar_term, scalar_place, scalars, declared_elements, place_of_declared, places, term_at, term_of, Fault, kind_fault, name_fault, parts_fault, fault_at_decl}
 use Rattle.fz_meaning.specs.Laws.{scalar_variables}
 use Rattle.fz_meaning.specs.Names.FaultKind.{UnknownName, WrongKind}
 use Rattle.fz_meaning.proofs.Values.{no'}
@@ -128,12 +128,12 @@ term_placed ds x d e scalar =
     ap (λ o. term_at (option_map_or (λ p. p) (option_map (place_of_declared ds) o) (Array x.text IntKind []))) e
     ∙ ap (λ b. term_at (cond b (scalar_place ds d) (Array d.name.text (kind_of_base d.base) (declared_elements ds d)))) scalar
 
-pub parts_clean : (before : List Decl) (d : Decl) → decl_fault before d ≡ None
+pub parts_clean : (before : List Decl) (d : Decl) → fault_at_decl (kinds before) d ≡ None
     → parts_fault (kinds before) (Some (kind_of_base d.base)) (parts d.value) ≡ None
 parts_clean before d e = second_none _ (parts_fault (kinds before) (Some (kind_of_base d.base)) (parts d.value)) e
 
 -- a declaration with no fault has a new name
-pub is_new : (before : List Decl) (d : Decl) → decl_fault before d ≡ None
+pub is_new : (before : List Decl) (d : Decl) → fault_at_decl (kinds before) d ≡ None
     → declares before d.name.text ≡ false
 is_new before d e =
     not_found (named_as d.name.text) before (nothing (declaration before d.name.text) _ _ (first_none (name_fault (kinds before) d) _ e))

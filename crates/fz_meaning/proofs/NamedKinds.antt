@@ -9,7 +9,7 @@ use Rattle.fz_meaning.specs.declared.kind.Kind.{Kind}
 use Rattle.fz_meaning.specs.Relations.{kind_of}
 use Rattle.fz_meaning.specs.Located.{Basic, Decl, Literal, LocatedTree}
 use Rattle.fz_meaning.specs.Located.Basic.{Lit, Named}
-use Rattle.fz_meaning.specs.Names.{HasNoFault, kind_fault, part_fault, parts_fault, decl_fault, decls_fault, declaration, kinds, is_scalar, number_of, scalar_term, scalars, term_of, declared_elements, literal_of, literal_value, kind_of_base, parts, model_of, place_of_declared}
+use Rattle.fz_meaning.specs.Names.{HasNoFault, kind_fault, part_fault, parts_fault, decls_fault, declaration, kinds, is_scalar, number_of, scalar_term, scalars, term_of, declared_elements, literal_of, literal_value, kind_of_base, parts, model_of, place_of_declared, fault_at_decl}
 use Rattle.fz_meaning.specs.Meaning.{Place, Model, find_name}
 use Rattle.fz_meaning.specs.declared.term.Term.{Term}
 use Rattle.fz_meaning.specs.declared.term.Term.TheVariants.{Var, Fixed}
@@ -76,8 +76,8 @@ module _ (Is : Kind → Value → Type 0) (t : LocatedTree) (clean : decls_fault
       → AllByRecursion ElementsFit ds
   elements_fit before [] all e = tt
   elements_fit before (d ∷ ds) all e = (
-    terms_fit before (d ∷ ds) all (kind_of_base d.base) (parts d.value) (parts_clean before d (first_none (decl_fault before d) (decls_fault (before ++ d ∷ []) ds) e)),
-    elements_fit (before ++ d ∷ []) ds (append_assoc before (d ∷ []) ds ∙ all) (second_none (decl_fault before d) (decls_fault (before ++ d ∷ []) ds) e),
+    terms_fit before (d ∷ ds) all (kind_of_base d.base) (parts d.value) (parts_clean before d (first_none (fault_at_decl (kinds before) d) (decls_fault (before ++ d ∷ []) ds) e)),
+    elements_fit (before ++ d ∷ []) ds (append_assoc before (d ∷ []) ds ∙ all) (second_none (fault_at_decl (kinds before) d) (decls_fault (before ++ d ∷ []) ds) e),
   )
 
   pub declared_fits : (x : List ℕ) (d : Decl) → declaration t.decls x ≡ Some d

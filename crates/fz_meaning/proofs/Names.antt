@@ -6,7 +6,7 @@ use Rattle.std.specs.Option.{option_or}
 use Rattle.std.proofs.lemmas.Grind.{common_steps}
 use Rattle.fz_meaning.specs.Located.{Decl, LocatedTree}
 use Rattle.fz_meaning.specs.Meaning.{Declared, numbered, numbered_from, name_of, place_named, place_if_named, find_name, first_some}
-use Rattle.fz_meaning.specs.Names.{HasNoFault, declaration, named_as, is_scalar_variable, number_of, place_of_declared, declared_of, model_of, decl_fault, decls_fault}
+use Rattle.fz_meaning.specs.Names.{HasNoFault, declaration, named_as, is_scalar_variable, number_of, place_of_declared, declared_of, model_of, decls_fault, fault_at_decl, kinds}
 use Rattle.fz_meaning.proofs.KnownNames.{declares, is_new, number_here, next_number, next_number_more}
 use Rattle.fz_meaning.proofs.ScanSteps.{first_none, second_none, declarations_clean}
 
@@ -20,7 +20,7 @@ AreNew before (d ∷ ds) = (declares before d.name.text ≡ false) × AreNew (be
 pub are_new : (before ds : List Decl) → decls_fault before ds ≡ None → AreNew before ds
 are_new before [] e = tt
 are_new before (d ∷ ds) e =
-    (is_new before d (first_none (decl_fault before d) (decls_fault (before ++ d ∷ []) ds) e), are_new (before ++ d ∷ []) ds (second_none (decl_fault before d) (decls_fault (before ++ d ∷ []) ds) e))
+    (is_new before d (first_none (fault_at_decl (kinds before) d) (decls_fault (before ++ d ∷ []) ds) e), are_new (before ++ d ∷ []) ds (second_none (fault_at_decl (kinds before) d) (decls_fault (before ++ d ∷ []) ds) e))
 
 -- the declarations of a tree without faults
 pub sound_names : (t : LocatedTree) → HasNoFault t → AreNew [] t.decls

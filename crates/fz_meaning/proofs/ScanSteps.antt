@@ -6,7 +6,7 @@ use Rattle.std.proofs.lemmas.List.{take-append-drop, map-append, append-nil}
 use Rattle.std.proofs.Math.Seq.{take-suc}
 use Rattle.fz_meaning.specs.Located.{Decl, LocatedTree}
 use Rattle.fz_meaning.specs.Meaning.{first_some}
-use Rattle.fz_meaning.specs.Names.{kinds, Fault, decl_fault, decls_fault, constraint_fault, goal_fault, first_fault}
+use Rattle.fz_meaning.specs.Names.{kinds, Fault, decls_fault, constraint_fault, goal_fault, first_fault, fault_at_decl}
 
 -- ---- a list of which a part was read
 
@@ -76,24 +76,24 @@ pub decls_append : (before xs ys : List Decl) → decls_fault before (xs ++ ys)
     ≡ option_or (decls_fault before xs) (decls_fault (before ++ xs) ys)
 decls_append before [] ys = ap (λ zs. decls_fault zs ys) (sym (append-nil before))
 decls_append before (d ∷ xs) ys =
-    ap (option_or (decl_fault before d)) (decls_append (before ++ d ∷ []) xs ys ∙ ap (λ zs. option_or (decls_fault (before ++ d ∷ []) xs) (decls_fault zs ys)) (append_assoc before (d ∷ []) xs))
-    ∙ sym (or_assoc (decl_fault before d) (decls_fault (before ++ d ∷ []) xs) (decls_fault (before ++ d ∷ xs) ys))
+    ap (option_or (fault_at_decl (kinds before) d)) (decls_append (before ++ d ∷ []) xs ys ∙ ap (λ zs. option_or (decls_fault (before ++ d ∷ []) xs) (decls_fault zs ys)) (append_assoc before (d ∷ []) xs))
+    ∙ sym (or_assoc (fault_at_decl (kinds before) d) (decls_fault (before ++ d ∷ []) xs) (decls_fault (before ++ d ∷ xs) ys))
 
 -- none in what was read, and none at the next
 pub decls_one_more : (before : List Decl) (d : Decl) → decls_fault [] before ≡ None
-    → decl_fault before d ≡ None → decls_fault [] (before ++ d ∷ []) ≡ None
-decls_one_more before d none here = decls_append [] before (d ∷ []) ∙ both_none (decls_fault [] before) (option_or (decl_fault before d) None) none (both_none (decl_fault before d) None here refl)
+    → fault_at_decl (kinds before) d ≡ None → decls_fault [] (before ++ d ∷ []) ≡ None
+decls_one_more before d none here = decls_append [] before (d ∷ []) ∙ both_none (decls_fault [] before) (option_or (fault_at_decl (kinds before) d) None) none (both_none (fault_at_decl (kinds before) d) None here refl)
 
 -- none in what was read, and one at the next
 pub decls_stop : (before : List Decl) (d : Decl) (rest : List Decl) (f : Fault)
-    → decls_fault [] before ≡ None → decl_fault before d ≡ Some f
+    → decls_fault [] before ≡ None → fault_at_decl (kinds before) d ≡ Some f
     → decls_fault [] (before ++ d ∷ rest) ≡ Some f
 decls_stop before d rest f none here = search (rules, decls_append)
 
 -- the same in a loop over the code's declarations, whose logical value is `g x`
 pub decls_stops : {A : Type 0} (g : A → Decl) (xs : List A) (i : ℕ) (x : A) (f : Fault)
     → i < length xs → x ≡ get_or xs i x → decls_fault [] (map g (take i xs)) ≡ None
-    → decl_fault (map g (take i xs)) (g x) ≡ Some f → decls_fault [] (map g xs) ≡ Some f
+    → fault_at_decl (kinds (map g (take i xs))) (g x) ≡ Some f → decls_fault [] (map g xs) ≡ Some f
 decls_stops g xs i x f h e none here = ap (decls_fault []) (whole_at g xs i x h e) ∙ decls_stop (map g (take i xs)) (g x) (map g (drop (i + 1) xs)) f none here
 
 -- ---- constraints and the objective

@@ -6,7 +6,7 @@ use Rattle.fz_meaning.specs.Relations.{kind_of, same_kind}
 use Rattle.fz_meaning.specs.Located.{Basic, Decl, Expr, Goal, Literal, LocatedTree}
 use Rattle.fz_meaning.specs.Located.Basic.{Lit, Named}
 use Rattle.fz_meaning.specs.Names.FaultKind.{WrongKind}
-use Rattle.fz_meaning.specs.Names.{HasNoFault, kind_fault, part_fault, parts_fault, decl_fault, decls_fault, goal_fault, declaration, kinds, named_as, is_scalar, is_scalar_variable, number_of, scalar_term, scalars, declared_elements, places, term_of, literal_value, literal_of, kind_of_base, parts, declared_of, variable_declared, model_of, aim_of, definition_of, domain_of, place_of_declared}
+use Rattle.fz_meaning.specs.Names.{HasNoFault, kind_fault, part_fault, parts_fault, decls_fault, goal_fault, declaration, kinds, named_as, is_scalar, is_scalar_variable, number_of, scalar_term, scalars, declared_elements, places, term_of, literal_value, literal_of, kind_of_base, parts, declared_of, variable_declared, model_of, aim_of, definition_of, domain_of, place_of_declared, fault_at_decl}
 use Rattle.fz_meaning.specs.Laws.{scalar_variables}
 use Rattle.std.proofs.lemmas.List.Folds.{find_at}
 use Rattle.std.proofs.lemmas.Option.{slice_get-map}
@@ -106,8 +106,8 @@ literal_kinds before [] e = tt
 literal_kinds before (d ∷ ds) e =
     let later : List Decl = before ++ d ∷ [] in (
       literal_kind before (kind_of_base d.base) d.value
-          (parts_clean before d (first_none (decl_fault before d) (decls_fault later ds) e)),
-      literal_kinds later ds (second_none (decl_fault before d) (decls_fault later ds) e),
+          (parts_clean before d (first_none (fault_at_decl (kinds before) d) (decls_fault later ds) e)),
+      literal_kinds later ds (second_none (fault_at_decl (kinds before) d) (decls_fault later ds) e),
     )
 
 module _ (t : LocatedTree) (clean : decls_fault [] t.decls ≡ None) where

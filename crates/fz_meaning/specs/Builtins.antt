@@ -117,7 +117,7 @@ abbrev pub int_lin : String → (ℤ → ℤ → Bool) → Row
 int_lin name says = row_with (0 ∷ 1 ∷ []) Absent (Products 0 1 ∷ []) true name []
     ([I] ∷ [I] ∷ I ∷ []) λ a b c. says (total (products a b)) c
 
--- the same of the sum of the numbers whose Booleans are true
+-- what is said of the sum of the numbers whose Booleans are true, and of the last argument
 abbrev pub bool_lin : String → (ℤ → ℤ → Bool) → Row
 bool_lin name says = equal (0 ∷ 1 ∷ []) name [] ([I] ∷ [B] ∷ I ∷ [])
     λ a b c. says (total (where_true a b)) c

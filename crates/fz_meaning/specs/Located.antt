@@ -83,13 +83,10 @@ bare_goal Satisfy = tree.Satisfy
 bare_goal (Minimize b) = tree.Minimize (bare_basic b)
 bare_goal (Maximize b) = tree.Maximize (bare_basic b)
 
-abbrev pub bare_solve : Solve → tree.Solve
-bare_solve s = record { notes = s.notes; goal = bare_goal s.goal }
-
 abbrev pub bare_of : LocatedTree → tree.Tree
 bare_of t = record {
   predicates = t.predicates;
   decls = map bare_decl t.decls;
   constraints = map bare_constraint t.constraints;
-  solve = bare_solve t.solve;
+  solve = record { notes = t.solve.notes; goal = bare_goal t.solve.goal };
 }

@@ -3,13 +3,14 @@
 use Rattle.std.specs.Prelude.{◌≡◌, ℕ, pos, Bool, false, not, cond, ◌&&◌, List, [], ◌∷◌, ◌++◌, length, map, ◌==◌, Option, Some, None, bytes_eq, find, codes, is_some, option_and_then, option_map}
 use Rattle.std.specs.List.{filter, position_or_len}
 use Rattle.std.specs.Option.{option_map_or, option_or}
+use Rattle.std.specs.FinSet.{from_list}
 use Rattle.fz_base.specs.Sets.{numbers_between}
 use Rattle.fz_base.specs.declared.span.Span.{Span}
 use Rattle.fz_base.specs.declared.value.Value.{Value}
 use Rattle.fz_base.specs.declared.value.Value.TheVariants.{Int, Bool as Truth, Set}
 use Rattle.fz_meaning.specs.declared.kind.Kind.{Kind}
 use Rattle.fz_meaning.specs.declared.kind.Kind.TheVariants.{Int as IntKind, Bool as BoolKind, Set as SetKind}
-use Rattle.fz_meaning.specs.Relations.{kind_of, same_kind, set_of}
+use Rattle.fz_meaning.specs.Relations.{kind_of, same_kind}
 use Rattle.fz_syntax.specs.Tree as tree
 use Rattle.fz_syntax.specs.Tree.{Number, Truth as TruthWord, Range, Braces, Called, NoMoreArgs, MoreArgs, OneBasic, Inner, BoolBase, IntBase, SetBase}
 use Rattle.fz_meaning.specs.Located.{Basic, Lit, Named, Expr, One, Several, Decl, Constraint, Goal, Satisfy, Minimize, Maximize, LocatedTree}
@@ -25,7 +26,7 @@ abbrev pub literal_value : tree.Literal → Value
 literal_value (Number n) = Int n
 literal_value (TruthWord b) = Truth b
 literal_value (Range lo hi) = Set (numbers_between lo hi)
-literal_value (Braces ns) = Set (set_of ns)
+literal_value (Braces ns) = Set (from_list ns)
 
 abbrev pub kind_of_base : tree.Base → Kind
 kind_of_base BoolBase = BoolKind
@@ -52,11 +53,6 @@ abbrev pub parts : Option Expr → List Basic
 parts None = []
 parts (Some (One b)) = b ∷ []
 parts (Some (Several bs)) = bs
-
-abbrev pub goal_parts : Goal → List Basic
-goal_parts Satisfy = []
-goal_parts (Minimize b) = b ∷ []
-goal_parts (Maximize b) = b ∷ []
 
 -- a declared array's value has another number of elements than its length says
 abbrev pub differs_in_length : Decl → Bool
@@ -129,14 +125,11 @@ abbrev pub fault_at_decl : Kinds → Decl → Option Fault
 fault_at_decl before d = option_or (name_fault before d)
     (parts_fault before (Some (kind_of_base d.base)) (parts d.value))
 
--- with the declarations before it
-abbrev pub decl_fault : List Decl → Decl → Option Fault
-decl_fault before d = fault_at_decl (kinds before) d
-
 -- at the first of several declarations, each with those before it
 abbrev pub decls_fault : List Decl → List Decl → Option Fault
 decls_fault before [] = None
-decls_fault before (d ∷ ds) = option_or (decl_fault before d) (decls_fault (before ++ d ∷ []) ds)
+decls_fault before (d ∷ ds) =
+    option_or (fault_at_decl (kinds before) d) (decls_fault (before ++ d ∷ []) ds)
 
 -- at a constraint: a name in its arguments is not declared
 abbrev pub argument_fault : Kinds → Expr → Option Fault
@@ -147,7 +140,9 @@ constraint_fault known c = first_some (argument_fault known) c.args
 
 -- at the objective, which is to be an integer
 abbrev pub goal_fault : Kinds → Goal → Option Fault
-goal_fault known g = parts_fault known (Some IntKind) (goal_parts g)
+goal_fault known Satisfy = None
+goal_fault known (Minimize b) = parts_fault known (Some IntKind) (b ∷ [])
+goal_fault known (Maximize b) = parts_fault known (Some IntKind) (b ∷ [])
 
 -- ---- in a tree
 
@@ -210,7 +205,7 @@ places ds x = option_map (place_of_declared ds) (declaration ds x)
 
 abbrev pub domain_of_literal : Option tree.Literal → Domain
 domain_of_literal (Some (Range lo hi)) = Within lo hi
-domain_of_literal (Some (Braces ns)) = Among (set_of ns)
+domain_of_literal (Some (Braces ns)) = Among (from_list ns)
 domain_of_literal _ = All
 
 abbrev pub domain_of : tree.Base → Domain
@@ -242,20 +237,9 @@ variable_at (Scalar k (Var n)) = Some n
 variable_at _ = None
 
 -- the name that is the only argument of an annotation, where it is a name by itself
-abbrev pub only_arg : tree.NoteArgs → Option tree.NoteArg
-only_arg (MoreArgs a NoMoreArgs) = Some a
-only_arg _ = None
-
-abbrev pub inner_of : tree.NoteArg → Option tree.Note
-inner_of (OneBasic (Inner n)) = Some n
-inner_of _ = None
-
-abbrev pub bare_name_of : tree.Note → Option (List ℕ)
-bare_name_of (Called x NoMoreArgs) = Some x
-bare_name_of _ = None
-
 abbrev pub only_name : tree.NoteArgs → Option (List ℕ)
-only_name args = option_and_then bare_name_of (option_and_then inner_of (only_arg args))
+only_name (MoreArgs (OneBasic (Inner (Called x NoMoreArgs))) NoMoreArgs) = Some x
+only_name _ = None
 
 -- the variable that an annotation of the form defines_var(x) names
 abbrev pub defined_by : Places → tree.Note → Option ℕ

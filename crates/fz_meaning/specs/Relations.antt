@@ -36,10 +36,6 @@ false =ᴮ b = not b
 abbrev pub ◌=ˢ◌ : NumberSet → NumberSet → Bool
 a =ˢ b = sets.is_subset a b && sets.is_subset b a
 
--- the set of the listed numbers, in any order, with repeats
-abbrev pub set_of : List ℤ → NumberSet
-set_of ns = sets.from_list ns
-
 -- the sum of integers
 abbrev pub total : List ℤ → ℤ
 total [] = pos 0
@@ -384,7 +380,7 @@ is_convex s = list_all (λ x. list_all (λ y. sets.is_subset (numbers_between x 
 
 -- The things differ, those in the set are some of them, and their weights sum to the number.
 abbrev pub is_weight_of : List ℤ → List ℤ → NumberSet → ℤ → Bool
-is_weight_of things weights s n = all_different things && sets.is_subset s (set_of things)
+is_weight_of things weights s n = all_different things && sets.is_subset s (sets.from_list things)
     && (n =ℤ total (map (λ p. p.1) (filter (λ p. sets.contains s p.0) (zip things weights))))
 
 abbrev pub union_of : List NumberSet → NumberSet

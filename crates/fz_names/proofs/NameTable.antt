@@ -13,9 +13,9 @@ use Rattle.indexmap.specs.IndexSet.{insert_key}
 use Rattle.fz_meaning.proofs.Points.{slice_get_at}
 use Rattle.fz_meaning.proofs.Lists.{all_append, all_map}
 use Rattle.fz_meaning.specs.declared.term.Term.{Term}
-use Rattle.fz_names.specs.declared.names.Entry.{Entry}
+use Rattle.fz_names.specs.declared.names.Citation.{Citation}
 use Rattle.fz_names.specs.declared.names.Kept.{Kept}
-use Rattle.fz_names.specs.declared.names.Entry.TheVariants as entries
+use Rattle.fz_names.specs.declared.names.Citation.TheVariants as entries
 use Rattle.fz_names.specs.Naming.{Declared, has_text, stands_for, IsAmongTerms, no_term}
 use Rattle.fz_names.specs.Names.{entry_stands, is_among_terms, is_key, same_key}
 
@@ -64,7 +64,7 @@ pub among_more : (ts us : List Term) (es : List Kept) → AllByRecursion (is_amo
     → AllByRecursion (is_among_terms (ts ++ us)) es
 among_more ts us es = all_map (is_among_terms ts) (is_among_terms (ts ++ us)) (λ k. one k.entry) es
   where
-    one : (e : Entry) → IsAmongTerms ts e → IsAmongTerms (ts ++ us) e
+    one : (e : Citation) → IsAmongTerms ts e → IsAmongTerms (ts ++ us) e
     one (entries.Parameter i) h = omega (arith, length-append ts us)
     one _ h = tt
 
@@ -73,7 +73,7 @@ pub all_stand_same : (ts us : List Term) (es : List Kept) → AllByRecursion (is
 all_stand_same ts us [] h = refl
 all_stand_same ts us (e ∷ es) h = λ i. (e.bytes.now, one e.entry h.0 i) ∷ all_stand_same ts us es h.1 i
   where
-    one : (e : Entry) → IsAmongTerms ts e → stands_for (ts ++ us) e ≡ stands_for ts e
+    one : (e : Citation) → IsAmongTerms ts e → stands_for (ts ++ us) e ≡ stands_for ts e
     one (entries.Parameter i) h = ap (λ o. Declared.Scalar (option_map_or (λ t. t) o no_term)) (get_front ts us i h)
     one _ h = refl
 

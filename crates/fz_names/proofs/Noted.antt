@@ -15,7 +15,7 @@ use Rattle.std.proofs.lemmas.Slice.Eq.{bytes_eq-Decides}
 use Rattle.std.proofs.Math.Nat.{pow-le-pow_right}
 use Rattle.fz_meaning.proofs.Points.{slice_get_at}
 use Rattle.fz_meaning.specs.declared.term.Term.{Term}
-use Rattle.fz_names.specs.declared.names.Entry.{Entry}
+use Rattle.fz_names.specs.declared.names.Citation.{Citation}
 use Rattle.fz_names.specs.declared.names.Kept.{Kept}
 use Rattle.fz_names.specs.declared.numbered.Place.{Place}
 use Rattle.fz_names.specs.declared.numbered.Place.TheVariants.{Free, Taken, Crowded}
@@ -141,7 +141,7 @@ not_found x ks absent = grind (arith, any_found x ks)
 stands_more : (ks ls os ps : List Kept) (n m : Numbered) (x : List ℕ) (o : Option Place)
     → AreKept n.shapes.items m.shapes.items → (IsAmongOthers ks os x → IsAmongOthers ls ps x)
     → (o ≡ Some Free → find (is_key x) ks ≡ None → find (is_key x) ls ≡ None)
-    → ((e : Entry) → IsListed ks n.seats.items x e → IsListed ls m.seats.items x e)
+    → ((e : Citation) → IsListed ks n.seats.items x e → IsListed ls m.seats.items x e)
     → StandsAt ks os n x o → StandsAt ls ps m x o
 stands_more ks ls os ps n m x (Some Free) keep same free listed h = (same h.0, free refl h.1)
 stands_more ks ls os ps n m x (Some (Taken s k i)) keep same free listed h =
@@ -159,7 +159,7 @@ module _ (k : Kept) where
       → IsAmongOthers (ks ++ k ∷ []) (os ++ k ∷ []) x
   both x ks os same = grind (arith, find-append (is_key x) os (k ∷ []), find-append (is_key x) ks (k ∷ []))
 
-  still_listed : (x : List ℕ) (ks : List Kept) (js : List ℕ) (e : Entry) → IsListed ks js x e
+  still_listed : (x : List ℕ) (ks : List Kept) (js : List ℕ) (e : Citation) → IsListed ks js x e
       → IsListed (ks ++ k ∷ []) js x e
   still_listed x ks js e h = (
     h.0,
@@ -184,7 +184,7 @@ module _ (ks os : List Kept) (n m : Numbered) (k : Kept) (keep : AreKept n.shape
   stands_apart : (ls ps : List Kept) (x : List ℕ) → (number_of x ≢ number_of k.bytes.now)
       → (IsAmongOthers ks os x → IsAmongOthers ls ps x)
       → (find (is_key x) ks ≡ None → find (is_key x) ls ≡ None)
-      → ((e : Entry) → IsListed ks n.seats.items x e → IsListed ls m.seats.items x e)
+      → ((e : Citation) → IsListed ks n.seats.items x e → IsListed ls m.seats.items x e)
       → StandsAt ls ps m x (place_at m.places.items (number_of x))
   stands_apart ls ps x apart same free listed =
       stands_more ks ls os ps n m x (place_at m.places.items (number_of x)) keep same (λ _. free) listed
@@ -195,7 +195,7 @@ module _ (ks os : List Kept) (n m : Numbered) (k : Kept) (keep : AreKept n.shape
     pub left_stands : IsNumbered ks os m
     left_stands x = by_number (number_of x == number_of k.bytes.now) refl
       where
-        listed : (e : Entry) → IsListed ks n.seats.items x e → IsListed ks m.seats.items x e
+        listed : (e : Citation) → IsListed ks n.seats.items x e → IsListed ks m.seats.items x e
         listed e h = (h.0, h.1, h.2, h.3, ap (λ zs. slice_get zs (number_of x)) seats ∙ h.4, h.5)
 
         by_left : (o q : Option Place) → IsLeft o q → StandsAt ks os n x o → StandsAt ks os n x q
@@ -274,12 +274,12 @@ module _ (ks os : List Kept) (n m : Numbered) (k : Kept) (keep : AreKept n.shape
 -- how a name is found, by its cell
 module _ (x : List ℕ) (ks os : List Kept) (n : Numbered) (h : IsNumbered ks os n) where
   -- a name in its cell is in the list, and one that isn't is found among the others
-  by_cell : (P : Option Entry → Type 0) → ((e : Entry) → IsListed ks n.seats.items x e → P (Some e))
+  by_cell : (P : Option Citation → Type 0) → ((e : Citation) → IsListed ks n.seats.items x e → P (Some e))
       → (IsAmongOthers ks os x → P None)
       → P (entry_there n.shapes.items n.places.items x)
   by_cell P there none = at_place (place_at n.places.items (number_of x)) (h x)
     where
-      by_shape : (t : Shape) (e : Entry) (b : Bool) → is_of t x ≡ b
+      by_shape : (t : Shape) (e : Citation) (b : Bool) → is_of t x ≡ b
           → (is_of t x ≡ true → IsListed ks n.seats.items x e)
           → (is_of t x ≡ false → IsAmongOthers ks os x) → P (if b then Some e else None)
       by_shape t e true is listed other = there e (listed is)
@@ -291,7 +291,7 @@ module _ (x : List ℕ) (ks os : List Kept) (n : Numbered) (h : IsNumbered ks os
       at_place None s = none s
       at_place (Some Crowded) s = none s
 
-  pub there_found : (e : Entry) → entry_there n.shapes.items n.places.items x ≡ Some e
+  pub there_found : (e : Citation) → entry_there n.shapes.items n.places.items x ≡ Some e
       → option_map (λ k. k.entry) (find (is_key x) ks) ≡ Some e
   there_found e = by_cell (λ o. o ≡ Some e → option_map (λ k. k.entry) (find (is_key x) ks) ≡ Some e) (λ f l is. ap (option_map (λ k. k.entry)) l.2 ∙ ap Some l.3 ∙ is) (λ same is. cc)
 
@@ -340,7 +340,7 @@ pub none_stands : (ts : List Term) (x : List ℕ) (ks : List Kept)
     → lookup (has_text x) (map (entry_stands ts) ks) ≡ None
 none_stands ts x ks none = grind (arith, looked_up ts x ks)
 
-module _ (ts : List Term) (x : List ℕ) (ks : List Kept) (e : Entry) (found : option_map (λ k. k.entry) (find (is_key x) ks) ≡ Some e) where
+module _ (ts : List Term) (x : List ℕ) (ks : List Kept) (e : Citation) (found : option_map (λ k. k.entry) (find (is_key x) ks) ≡ Some e) where
   -- it is what the name stands for
   pub there_stands : lookup (has_text x) (map (entry_stands ts) ks) ≡ Some (stands_for ts e)
   there_stands = grind (arith, looked_up ts x ks)

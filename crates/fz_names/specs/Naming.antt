@@ -4,8 +4,8 @@ use Rattle.std.specs.Option.{option_map_or}
 use Rattle.fz_meaning.specs.of_base.declared.value.Value.TheVariants.{Int}
 use Rattle.fz_meaning.specs.declared.term.Term.{Term}
 use Rattle.fz_meaning.specs.declared.term.Term.TheVariants.{Var, Fixed}
-use Rattle.fz_names.specs.declared.names.Entry.{Entry}
-use Rattle.fz_names.specs.declared.names.Entry.TheVariants as entries
+use Rattle.fz_names.specs.declared.names.Citation.{Citation}
+use Rattle.fz_names.specs.declared.names.Citation.TheVariants as entries
 use Rattle.fz_names.specs.declared.names.Standing.{Standing}
 use Rattle.fz_names.specs.declared.names.Standing.TheVariants as standings
 
@@ -22,13 +22,13 @@ abbrev pub no_term : Term
 no_term = Fixed (Int (pos 0))
 
 -- what an entry stands for; the parameters' terms are these
-abbrev pub stands_for : List Term → Entry → Declared
+abbrev pub stands_for : List Term → Citation → Declared
 stands_for ts (entries.Variable n) = Scalar (Var n)
 stands_for ts (entries.Parameter i) = Scalar (option_map_or (λ t. t) (slice_get ts i) no_term)
 stands_for ts (entries.Array i) = Array i
 
 -- a parameter's number is that of a term
-abbrev pub IsAmongTerms : List Term → Entry → Type 0
+abbrev pub IsAmongTerms : List Term → Citation → Type 0
 IsAmongTerms ts (entries.Variable n) = ⊤
 IsAmongTerms ts (entries.Parameter i) = i < length ts
 IsAmongTerms ts (entries.Array i) = ⊤

@@ -2,8 +2,8 @@
 -- functions use this file, and no public clause cites it.
 use Rattle.std.specs.Prelude.{◌≡◌, ℕ, zero, suc, ◌-◌, ◌+◌, ◌*◌, ◌/◌, ◌%◌, ◌^◌, ◌==◌, ltb, ◌&&◌, not, if◌then◌else◌, Bool, true, false, List, [], ◌∷◌, Option, Some, None, bytes_eq, take, slice_get, drop, length, option_map, ⊤}
 use Rattle.std.specs.List.{find, fold}
-use Rattle.fz_names.specs.declared.names.Entry.{Entry}
-use Rattle.fz_names.specs.declared.names.Entry.TheVariants as entries
+use Rattle.fz_names.specs.declared.names.Citation.{Citation}
+use Rattle.fz_names.specs.declared.names.Citation.TheVariants as entries
 use Rattle.fz_names.specs.declared.names.Kept.{Kept}
 use Rattle.fz_names.specs.Names.{is_key}
 use Rattle.fz_names.specs.declared.numbered.Numbered.{Numbered}
@@ -89,19 +89,19 @@ abbrev pub AreKept : List Shape → List Shape → Type 0
 AreKept ss ts = (k : ℕ) (s : Shape) → slice_get ss k ≡ Some s → slice_get ts k ≡ Some s
 
 -- the entry of a sort and a number
-abbrev pub entry_of : Sort → ℕ → Entry
+abbrev pub entry_of : Sort → ℕ → Citation
 entry_of sorts.Variable n = entries.Variable n
 entry_of sorts.Parameter n = entries.Parameter n
 entry_of sorts.Array n = entries.Array n
 
 -- the cell is taken by the name with this entry, or is crowded
-abbrev pub IsPlaceOf : List Shape → List ℕ → Entry → Place → Type 0
+abbrev pub IsPlaceOf : List Shape → List ℕ → Citation → Place → Type 0
 IsPlaceOf ss x e Free = ⊥
 IsPlaceOf ss x e (Taken s k n) = IsShapeAt ss x k × (entry_of s n ≡ e)
 IsPlaceOf ss x e Crowded = ⊤
 
 -- there is a cell, and it is taken by the name with this entry
-abbrev pub IsTakenBy : List Shape → List ℕ → Entry → Option Place → Type 0
+abbrev pub IsTakenBy : List Shape → List ℕ → Citation → Option Place → Type 0
 IsTakenBy ss x e None = ⊥
 IsTakenBy ss x e (Some Free) = ⊥
 IsTakenBy ss x e (Some (Taken s k n)) = IsShapeAt ss x k × (entry_of s n ≡ e)
@@ -115,22 +115,22 @@ IsLeft (Some (Taken s k n)) q = q ≡ Some (Taken s k n)
 IsLeft (Some Crowded) q = q ≡ Some Crowded
 
 -- the entry, where the name has that shape
-abbrev pub entry_as : Option Shape → List ℕ → Entry → Option Entry
+abbrev pub entry_as : Option Shape → List ℕ → Citation → Option Citation
 entry_as None x e = None
 entry_as (Some s) x e = if is_of s x then Some e else None
 
 -- the entry that a cell has for a name
-abbrev pub entry_at : List Shape → List ℕ → Option Place → Option Entry
+abbrev pub entry_at : List Shape → List ℕ → Option Place → Option Citation
 entry_at ss x None = None
 entry_at ss x (Some Free) = None
 entry_at ss x (Some (Taken s k n)) = entry_as (slice_get ss k) x (entry_of s n)
 entry_at ss x (Some Crowded) = None
 
 -- the entry of a name, where its cell has it
-abbrev pub entry_there : List Shape → List ℕ → List ℕ → Option Entry
+abbrev pub entry_there : List Shape → List ℕ → List ℕ → Option Citation
 entry_there ss ps x = entry_at ss x (place_at ps (number_of x))
 
-abbrev pub seat_if : Option Entry → Option ℕ → Option ℕ
+abbrev pub seat_if : Option Citation → Option ℕ → Option ℕ
 seat_if None j = None
 seat_if (Some e) j = j
 
@@ -149,7 +149,7 @@ abbrev pub is_free_there : List ℕ → List ℕ → Bool
 is_free_there ps x = is_free (place_at ps (number_of x))
 
 -- a name is in the list with that entry, at the index that its cell has
-abbrev pub IsListed : List Kept → List ℕ → List ℕ → Entry → Type 0
+abbrev pub IsListed : List Kept → List ℕ → List ℕ → Citation → Type 0
 IsListed ks js x e = (k : Kept) × (j : ℕ) × (find (is_key x) ks ≡ Some k) × (k.entry ≡ e)
     × (slice_get js (number_of x) ≡ Some j) × (slice_get ks j ≡ Some k)
 

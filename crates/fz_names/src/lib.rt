@@ -1,4 +1,4 @@
-//! Declared names, each with what it stands for (`Names`). An internal crate of `fz_data`.
+//! Declared names, each with what it stands for (`Names`). An internal crate of `fz_store`.
 #![tactic(auto)]
 
 mod names;

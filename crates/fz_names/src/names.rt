@@ -52,10 +52,10 @@ impl Hash for Text<'_> {
     }
 }
 
-/// What a declared name cites: a variable, a parameter or an array, by its number. An entry has two
+/// What a declared name cites: a variable, a parameter or an array, by its number. It has two
 /// words, so that a look-up seldom waits for memory.
 #[derive(Clone, Copy)]
-pub(crate) enum Entry {
+pub(crate) enum Citation {
     Variable(usize),
     Parameter(usize),
     Array(usize),
@@ -66,7 +66,7 @@ pub(crate) enum Entry {
 #[derive(Clone, Copy)]
 pub(crate) struct Kept<'a> {
     bytes: &'a [u8],
-    entry: Entry,
+    entry: Citation,
 }
 
 impl PartialEq for Kept<'_> {
@@ -154,14 +154,14 @@ impl<'a> std::marker::Model for Names<'a> {
 
 /// What an entry stands for. The parameters' values are these.
 #[inline]
-fn standing_of(parameters: &[Term], entry: Entry) -> Standing<'_>
+fn standing_of(parameters: &[Term], entry: Citation) -> Standing<'_>
     requires within { IsAmongTerms parameters.now entry }
     ensures stands { standing_view result ≡ stands_for parameters.now entry }
 {
     match entry {
-        Entry::Variable(number) => Standing::Variable(number),
-        Entry::Parameter(number) => Standing::Parameter(&parameters[number]),
-        Entry::Array(number) => Standing::Array(number),
+        Citation::Variable(number) => Standing::Variable(number),
+        Citation::Parameter(number) => Standing::Parameter(&parameters[number]),
+        Citation::Array(number) => Standing::Array(number),
     }
 }
 
@@ -171,7 +171,7 @@ fn put<'a>(
     others: &mut Table<'a>,
     numbered: &mut Numbered<'a>,
     name: &'a [u8],
-    entry: Entry,
+    entry: Citation,
 ) -> Result<(), AllocError>
     requires new { list_any (is_key name.now) listed.old.items ≡ false }
     requires distinct { IsDistinct same_key listed.old.items }
@@ -192,7 +192,7 @@ fn put<'a>(
 }
 
 /// The entry of a name in the hash table, where it is there.
-fn entry_among(others: &Table<'_>, name: &[u8]) -> Option<Entry>
+fn entry_among(others: &Table<'_>, name: &[u8]) -> Option<Citation>
     ensures { result ≡ option_map (λ k. k.entry) (find (is_key name.now) others.now.keys) }
 {
     let kept = others.get(Text { bytes: name })?;
@@ -277,7 +277,7 @@ impl<'a> Names<'a> {
             &mut self.others,
             &mut self.numbered,
             name,
-            Entry::Variable(number),
+            Citation::Variable(number),
         )
     }
 
@@ -292,7 +292,7 @@ impl<'a> Names<'a> {
             &mut self.others,
             &mut self.numbered,
             name,
-            Entry::Array(number),
+            Citation::Array(number),
         )
     }
 
@@ -309,7 +309,7 @@ impl<'a> Names<'a> {
             &mut self.others,
             &mut self.numbered,
             name,
-            Entry::Parameter(number),
+            Citation::Parameter(number),
         )
     }
 }

@@ -7,7 +7,7 @@ ghost use Rattle.std.specs.Prelude.{◌≡◌, ◌≢◌, ℕ, IfOk, IfSome, IsF
 ghost use Rattle.fz_names.specs.declared.numbered.Place.TheVariants.{Crowded, Free};
 ghost use Rattle.fz_names.specs.Numbered.{entry_of, entry_there, head_of, is_free, is_free_there, is_of, mark_of, marks_of, number_of, place_at, seat_there, unpacked, with_byte, AreKept, ArePackedOf, IsLeft, IsPlaceOf, IsShapeAt, IsTakenBy};
 
-use crate::names::Entry;
+use crate::names::Citation;
 use fz_meaning::same_text;
 use std::alloc::{AllocError, Global};
 
@@ -105,25 +105,25 @@ fn ending_of(name: &[u8]) -> Ending
 }
 
 /// The sort and the number of an entry.
-fn parts_of(entry: Entry) -> (Sort, usize)
+fn parts_of(entry: Citation) -> (Sort, usize)
     ensures { entry_of result.0 result.1 ≡ entry }
 {
     match entry {
-        Entry::Variable(number) => (Sort::Variable, number),
-        Entry::Parameter(number) => (Sort::Parameter, number),
-        Entry::Array(number) => (Sort::Array, number),
+        Citation::Variable(number) => (Sort::Variable, number),
+        Citation::Parameter(number) => (Sort::Parameter, number),
+        Citation::Array(number) => (Sort::Array, number),
     }
 }
 
 /// The entry of a sort and a number.
 #[inline(always)]
-fn entry_of(sort: Sort, number: usize) -> Entry
+fn entry_of(sort: Sort, number: usize) -> Citation
     ensures { result ≡ entry_of sort number }
 {
     match sort {
-        Sort::Variable => Entry::Variable(number),
-        Sort::Parameter => Entry::Parameter(number),
-        Sort::Array => Entry::Array(number),
+        Sort::Variable => Citation::Variable(number),
+        Sort::Parameter => Citation::Parameter(number),
+        Sort::Array => Citation::Array(number),
     }
 }
 
@@ -217,7 +217,12 @@ fn unpacked(bits: u32) -> Place
 }
 
 /// The bits of a cell whose first name is this one.
-fn place_of<'a>(shapes: &mut Vec<Shape<'a>>, name: &'a [u8], ending: &Ending, entry: Entry) -> u32
+fn place_of<'a>(
+    shapes: &mut Vec<Shape<'a>>,
+    name: &'a [u8],
+    ending: &Ending,
+    entry: Citation,
+) -> u32
     requires marks { ending.now.marks ≡ marks_of name.now }
     ensures kept { AreKept shapes.old.items shapes.new.items }
     ensures place { IsPlaceOf shapes.new.items name.now entry (unpacked result) }
@@ -260,7 +265,7 @@ impl<'a> Numbered<'a> {
 
     /// The entry of a name, where its cell has it.
     #[inline(always)]
-    pub(crate) fn get(&self, name: &[u8]) -> Option<Entry>
+    pub(crate) fn get(&self, name: &[u8]) -> Option<Citation>
         ensures { result ≡ entry_there self.now.shapes.items self.now.places.items name.now }
     {
         let ending = ending_of(name);
@@ -303,7 +308,7 @@ impl<'a> Numbered<'a> {
 
     /// Gives a name the cell of its number, where there is one and it is free, and tells whether it
     /// got it. The seat is the name's index in the list of all declared names.
-    pub(crate) fn note(&mut self, name: &'a [u8], entry: Entry, seat: usize) -> bool
+    pub(crate) fn note(&mut self, name: &'a [u8], entry: Citation, seat: usize) -> bool
         ensures others { (i : ℕ) → i ≢ number_of name.now
             → slice_get self.new.places.items i ≡ slice_get self.old.places.items i }
         ensures other_seats { (i : ℕ) → i ≢ number_of name.now

@@ -1,5 +1,5 @@
 //! The relations of the global constraints of scheduling and packing, each exactly as
-//! `fz_meaning`'s `Globals` has it: tasks, boxes, bins and knapsacks; and of those that go along
+//! `fz_meaning`'s `Relations` has it: tasks, boxes, bins and knapsacks; and of those that go along
 //! arrays as these do: sums of neighbours, lexicographic order, words of an automaton. An internal
 //! crate of `fz_model`: `fz_builtins` uses these relations as it uses those of `fz_globals`.
 //!

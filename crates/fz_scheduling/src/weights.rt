@@ -2,7 +2,8 @@
 ghost use Rattle.std.specs.Prelude.{◌≡◌, ℤ, false, map, IfOk, IfSome, IfNone};
 ghost use Rattle.std.specs.List.{filter, zip};
 ghost use Rattle.std.specs.FinSet as sets;
-ghost use Rattle.fz_kernel.specs.of_meaning.Relations.{◌=ℤ◌, is_weight_of, set_of, total};
+ghost use Rattle.std.specs.FinSet.{from_list};
+ghost use Rattle.fz_kernel.specs.of_meaning.Relations.{◌=ℤ◌, is_weight_of, total};
 ghost use Rattle.fz_kernel.specs.Views.{ints};
 
 use crate::reading::{common_places, number_at};
@@ -35,7 +36,7 @@ pub fn weight_of(
 
 // The set of the elements.
 fn set_of(alloc: Global, elements: &Elements) -> Result<IntSet, SetError>
-    ensures { IfOk result (λ s. s ≡ set_of (ints elements.now)) }
+    ensures { IfOk result (λ s. s ≡ from_list (ints elements.now)) }
 {
     IntSet::list(alloc, &numbers_of(alloc, elements)?)
 }

@@ -1,7 +1,7 @@
 //! Changes of a search: values that variables get, and bounds that become narrower.
 
 use crate::ends::{admits, number_of, value_of};
-use crate::grounds::Step;
+use crate::grounds::Deduction;
 use crate::stop::Stop;
 use crate::work::Work;
 use fz_bounds::{Domain, Ends, Value};
@@ -105,7 +105,7 @@ impl<'k, 'm, 'a> Work<'k, 'm, 'a> {
 
     /// Writes down what the point that is visited leaves to a variable.
     pub(crate) fn note(&mut self, variable: usize, ends: Ends) -> Result<(), AllocError> {
-        self.steps.push(Step {
+        self.steps.push(Deduction {
             point: self.point,
             variable,
             ends,

@@ -1,6 +1,6 @@
 //! Contradictions that a search meets.
 
-use crate::grounds::{NO_POINT, Step, grounds};
+use crate::grounds::{Deduction, NO_POINT, grounds};
 use crate::work::Work;
 use std::alloc::{AllocError, Global};
 
@@ -9,10 +9,10 @@ use std::alloc::{AllocError, Global};
 pub(crate) struct Conflict {
     pub(crate) point: usize,
     /// what was only supposed, and the steps before that
-    pub(crate) guess: Option<Step>,
-    pub(crate) before: Vec<Step>,
+    pub(crate) guess: Option<Deduction>,
+    pub(crate) before: Vec<Deduction>,
     /// the steps after that, or all where nothing was supposed
-    pub(crate) steps: Vec<Step>,
+    pub(crate) steps: Vec<Deduction>,
 }
 
 impl<'k, 'm, 'a> Work<'k, 'm, 'a> {
@@ -24,7 +24,7 @@ impl<'k, 'm, 'a> Work<'k, 'm, 'a> {
 }
 
 /// The steps before a guess, the guess, and those after it.
-fn split(alloc: Global, steps: &[Step], point: usize) -> Result<Option<Conflict>, AllocError> {
+fn split(alloc: Global, steps: &[Deduction], point: usize) -> Result<Option<Conflict>, AllocError> {
     let mut conflict = Conflict {
         point,
         guess: None,

@@ -8,7 +8,7 @@ pub(crate) const NO_POINT: usize = usize::MAX;
 
 /// A point leaves a variable no numbers but those within some bounds.
 #[derive(Clone, Copy)]
-pub(crate) struct Step {
+pub(crate) struct Deduction {
     pub(crate) point: usize,
     pub(crate) variable: usize,
     pub(crate) ends: Ends,
@@ -19,9 +19,9 @@ pub(crate) struct Step {
 pub(crate) fn grounds(
     alloc: Global,
     known: &Search,
-    steps: &[Step],
+    steps: &[Deduction],
     point: usize,
-) -> Result<Vec<Step>, AllocError> {
+) -> Result<Vec<Deduction>, AllocError> {
     let mut marked = Vec::new(alloc);
     marked.resize(known.variables(), false)?;
     if let Some(step) = steps.last() {

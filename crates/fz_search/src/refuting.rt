@@ -7,7 +7,7 @@ ghost use Rattle.fz_search.specs.Refuted.{HaveNoSolution, HoldAll, KeepSolutions
 
 use crate::conflict::Conflict;
 use crate::found::Found;
-use crate::grounds::Step;
+use crate::grounds::Deduction;
 use fz_bounds::{
     Bounds, Left, Model, Narrower, Narrowing, Partial, Refutation, Search, Tightened, cannot_hold,
 };
@@ -70,7 +70,7 @@ fn take(
     model: &Model<'_>,
     bounds: &mut Bounds,
     taken: &mut Vec<Narrowing>,
-    step: Step,
+    step: Deduction,
 ) -> Result<Option<usize>, AllocError>
     ensures in_range { IfOk result (λ o. IfSome o (λ k. k < length (points model.now))) }
     ensures kept { IfOk result (λ _. KeepSolutions model.now bounds.old bounds.new) }
@@ -97,7 +97,7 @@ fn retake(
     model: &Model<'_>,
     bounds: &mut Bounds,
     taken: &mut Vec<Narrowing>,
-    steps: &[Step],
+    steps: &[Deduction],
 ) -> Result<Option<usize>, AllocError>
     ensures in_range { IfOk result (λ o. IfSome o (λ k. k < length (points model.now))) }
     ensures kept { IfOk result (λ _. KeepSolutions model.now bounds.old bounds.new) }
@@ -119,7 +119,7 @@ fn refute(
     model: &Model<'_>,
     bounds: &mut Bounds,
     taken: &mut Vec<Narrowing>,
-    steps: &[Step],
+    steps: &[Deduction],
     point: usize,
 ) -> Result<Option<usize>, AllocError>
     ensures in_range { IfOk result (λ o. IfSome o (λ k. k < length (points model.now))) }
@@ -148,7 +148,7 @@ fn lose(
     bounds: &mut Bounds,
     taken: &mut Vec<Narrowing>,
     conflict: &Conflict,
-    guess: Step,
+    guess: Deduction,
 ) -> Result<bool, AllocError>
     ensures kept { IfOk result (λ _. KeepSolutions model.now bounds.old bounds.new) }
 {

@@ -13,8 +13,8 @@ use crate::refuting::learned;
 use crate::stop::Stop;
 use crate::work::{Budget, Work};
 use fz_bounds::{
-    Bounds, Domain, End, Ends, Goal, Kind, Model, Narrowing, Partial, PointParts, Rule, Scalars,
-    Search, Slot, Term, known_of,
+    Bounds, Domain, End, Ends, Goal, Kind, Model, Narrowing, Partial, PointParts, Scalars, Search,
+    Slot, Term, Visit, known_of,
 };
 use std::alloc::{AllocError, Global};
 
@@ -93,9 +93,9 @@ impl<'k, 'm, 'a> Work<'k, 'm, 'a> {
             };
             self.point = point;
             self.visit(1)?;
-            match self.known.rule_of(point) {
-                Rule::Linear(row) => self.visit_row(point, row)?,
-                Rule::Plain => self.visit_plain(point)?,
+            match self.known.visit_of(point) {
+                Visit::Linear(row) => self.visit_row(point, row)?,
+                Visit::Plain => self.visit_plain(point)?,
             }
         }
         Err(Stop::NothingFound)

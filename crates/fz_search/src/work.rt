@@ -1,11 +1,11 @@
 //! A search under way: the values and bounds so far, and the points that are to be visited.
 
 use crate::agenda::Agenda;
-use crate::grounds::Step;
+use crate::grounds::Deduction;
 use crate::proposal::Proposal;
 use crate::stop::Stop;
 use crate::tables::{Reach, all_open, all_sums, ends_in, no_reaches};
-use fz_bounds::{Bounds, Domain, Ends, Kind, Model, Partial, Rule, Search, Sums};
+use fz_bounds::{Bounds, Domain, Ends, Kind, Model, Partial, Search, Sums, Visit};
 use std::alloc::{AllocError, Global};
 
 /// At most this many visits are made for each point of the model. A value that is tried counts as
@@ -61,7 +61,7 @@ pub(crate) struct Work<'k, 'm, 'a> {
     /// the point that is visited
     pub(crate) point: usize,
     /// which bounds have become narrower so far
-    pub(crate) steps: Vec<Step>,
+    pub(crate) steps: Vec<Deduction>,
     pub(crate) budget: Budget,
 }
 
@@ -175,9 +175,9 @@ impl<'k, 'm, 'a> Work<'k, 'm, 'a> {
     /// only where one of their variables gets a value.
     pub(crate) fn wake(&mut self, point: usize, valued: bool) -> Result<(), Stop> {
         let open = self.open_in(point);
-        let tells = match self.known.rule_of(point) {
-            Rule::Linear(_) => true,
-            Rule::Plain => open <= 1 || self.known.cost_of(point) <= LONG,
+        let tells = match self.known.visit_of(point) {
+            Visit::Linear(_) => true,
+            Visit::Plain => open <= 1 || self.known.cost_of(point) <= LONG,
         };
         if tells || valued {
             self.agenda.add(point)?;

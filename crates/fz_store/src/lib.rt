@@ -21,7 +21,7 @@ pub use fz_names::{
     ModelError, Names, Offer, PredicateItems, SetError, Shape, Standing, State, Term, Value, Wide,
     same_text,
 };
-pub use model::Model;
+pub use model::{Model, assembled};
 pub use partial::{Partial, number_of, truth_of};
 pub use parts::{Array, DeclaredPoint, Goal, Posted, ScalarList, Variable};
 pub use point::{ConstraintParts, Constraints, Point, PointParts};

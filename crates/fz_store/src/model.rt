@@ -6,6 +6,7 @@ ghost use Rattle.fz_names.specs.of_meaning.Meaning.{constraint_points, find_name
 ghost use Rattle.fz_names.specs.of_meaning.States.{shown_point};
 ghost use Rattle.fz_names.specs.of_meaning.Known.{known_row};
 ghost use Rattle.fz_store.specs.Kinds.{PlaceFits, PostedFits};
+ghost use Rattle.fz_store.specs.Layout.{IsLaidOut, model_view};
 ghost use Rattle.fz_store.specs.Parts.{constraint_view, elements_of, goal_view, kept_row, posted_view, variable_view};
 ghost use Rattle.fz_store.specs.Shown.{IfConstraint, found_place, point_name, point_view, scalar_terms};
 
@@ -161,51 +162,47 @@ impl<'a> Model<'a> {
     }
 }
 
-impl<'a> Model<'a> {
-    ghost use Rattle.fz_store.specs.Layout.{IsLaidOut, model_view};
-
-    /// The model of what was declared, with constraints and a goal that cite it by number.
-    pub fn assembled(
-        scope: Scope<'a>,
-        store: Store,
-        constraints: Vec<Posted<'a>>,
-        goal: Goal,
-    ) -> Model<'a>
-        requires laid_out { IsLaidOut (record {
-          names = scope.names;
-          variables = scope.variables;
-          arrays = scope.arrays;
-          points = scope.points;
-          constraints = constraints;
-          goal = goal;
-          store = store;
-        }) }
-        ensures view { result ≡ model_view (record {
-          names = scope.entry.names;
-          variables = scope.entry.variables;
-          arrays = scope.entry.arrays;
-          points = scope.entry.points;
-          constraints = constraints.entry;
-          goal = goal;
-          store = store;
-        }) }
-    {
-        let Scope {
-            names,
-            variables,
-            kinds: _,
-            arrays,
-            points,
-        } = scope;
-        Model {
-            names,
-            variables,
-            arrays,
-            points,
-            constraints,
-            goal,
-            store,
-        }
+/// The model of what was declared, with constraints and a goal that cite it by number.
+pub fn assembled<'a>(
+    scope: Scope<'a>,
+    store: Store,
+    constraints: Vec<Posted<'a>>,
+    goal: Goal,
+) -> Model<'a>
+    requires laid_out { IsLaidOut (record {
+      names = scope.names;
+      variables = scope.variables;
+      arrays = scope.arrays;
+      points = scope.points;
+      constraints = constraints;
+      goal = goal;
+      store = store;
+    }) }
+    ensures view { result ≡ model_view (record {
+      names = scope.entry.names;
+      variables = scope.entry.variables;
+      arrays = scope.entry.arrays;
+      points = scope.entry.points;
+      constraints = constraints.entry;
+      goal = goal;
+      store = store;
+    }) }
+{
+    let Scope {
+        names,
+        variables,
+        kinds: _,
+        arrays,
+        points,
+    } = scope;
+    Model {
+        names,
+        variables,
+        arrays,
+        points,
+        constraints,
+        goal,
+        store,
     }
 }
 

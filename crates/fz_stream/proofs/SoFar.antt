@@ -3,7 +3,7 @@
 use Rattle.std.proofs.Common.{◌≡◌, ℕ, ◌+◌, ◌-◌, ◌≤◌, Option, Some, None, List, [], ◌∷◌, ◌++◌, length, refl, sym, ap, ◌∙◌, subst, append_assoc, append-nil, length-append, arith, take, drop, map}
 use Rattle.std.proofs.lemmas.List.{drop-drop, drop_all, drop_at, take_at, length-drop, map_push}
 use Rattle.std.specs.List.{AllByRecursion}
-use Rattle.fz_syntax.specs.Lexing.{standard_limits}
+use Rattle.fz_syntax.specs.Places.{standard_limits}
 use Rattle.fz_syntax.specs.Span.{Span}
 use Rattle.fz_syntax.specs.Tree.{Printed}
 use Rattle.fz_stream.specs.declared.error.StreamError.{StreamError}

@@ -1,7 +1,7 @@
 -- The blocks and claims of the code as the plain data that the definitions speak of, and what they
 -- say about the stream that was read.
 use Rattle.std.specs.Prelude.{◌≡◌, ◌≤◌, ℕ, ◌+◌, List, [], ◌∷◌, ◌++◌, length}
-use Rattle.fz_syntax.specs.Lexing.{standard_limits}
+use Rattle.fz_syntax.specs.Places.{standard_limits}
 use Rattle.fz_syntax.specs.Placed.{ArePlacedIn, placed_items}
 use Rattle.fz_syntax.specs.View.{bare_items}
 use Rattle.fz_stream.specs.declared.block.Block.{Block}

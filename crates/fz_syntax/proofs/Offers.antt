@@ -6,9 +6,9 @@ use Rattle.std.specs.List.{flat_map}
 use Rattle.std.proofs.lemmas.List.{append-nil}
 use Rattle.fz_tree.specs.of_lex.Ahead.{tokens_ahead}
 use Rattle.fz_tree.specs.of_lex.Left.{left, source_of}
-use Rattle.fz_tree.specs.of_lex.Lexing.{SpannedToken, LexesToSpanned, LexesWithin}
+use Rattle.fz_tree.specs.of_lex.Lexing.{SpannedToken, LexesWithin}
 use Rattle.fz_tree.specs.of_lex.declared.limits.Limits.{Limits}
-use Rattle.fz_tree.specs.of_lex.View.{IsLexicalFaultWithin, IsPlacedWithin, spanned, AreWithinLimit}
+use Rattle.fz_tree.specs.of_lex.View.{IsLexicalFaultWithin, IsPlacedWithin, spanned, AreWithinLimit, LexesToSpanned}
 use Rattle.fz_tree.specs.of_lex.declared.ahead.Tokens.{Tokens}
 use Rattle.fz_tree.specs.of_lex.declared.token.Token.{Token}
 use Rattle.fz_tree.specs.of_lex.Token.{TokenValue}

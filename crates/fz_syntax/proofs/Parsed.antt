@@ -4,8 +4,8 @@ use Rattle.std.specs.Prelude.{MatchResult}
 use Rattle.std.specs.List.{All, AllByRecursion}
 use Rattle.std.proofs.lemmas.List.Elements.{All-from_recursion}
 use Rattle.fz_tree.specs.of_lex.Token.{TokenValue, IsTokenText}
-use Rattle.fz_tree.specs.of_lex.Lexing.{SpannedToken, LexesToSpanned, nothing, IsTextOfTokensWithin}
-use Rattle.fz_tree.specs.of_lex.View.{AreWithinLimit}
+use Rattle.fz_tree.specs.of_lex.Lexing.{SpannedToken, nothing, IsTextOfTokensWithin}
+use Rattle.fz_tree.specs.of_lex.View.{AreWithinLimit, LexesToSpanned}
 use Rattle.fz_tree.specs.of_lex.declared.limits.Limits.{Limits}
 use Rattle.fz_tree.specs.of_lex.Found.{AreInOrder}
 use Rattle.fz_tree.specs.of_lex.Ahead.{tokens_ahead}

@@ -6,10 +6,10 @@ use Rattle.std.proofs.lemmas.List.{append-nil}
 use Rattle.fz_tree.specs.of_lex.Token.{TokenValue, Word, Whole, Marked, Spells}
 use Rattle.fz_tree.specs.of_lex.declared.token.Mark.{Mark}
 use Rattle.fz_tree.specs.of_lex.declared.token.Mark.TheVariants.{OpenParen, CloseParen, OpenBracket, CloseBracket, OpenBrace, CloseBrace, DotDot, Comma, Semicolon, Equals}
-use Rattle.fz_tree.specs.of_lex.Lexing.{SpannedToken, LexesToSpanned}
+use Rattle.fz_tree.specs.of_lex.Lexing.{SpannedToken}
 use Rattle.fz_tree.specs.of_lex.Found.{AreInOrder}
 use Rattle.fz_tree.specs.of_lex.Ahead.{tokens_ahead}
-use Rattle.fz_tree.specs.of_lex.View.{IsSpanWithin, IsSpelledAtSpan}
+use Rattle.fz_tree.specs.of_lex.View.{IsSpanWithin, IsSpelledAtSpan, LexesToSpanned}
 use Rattle.fz_tree.proofs.of_lex.Cuts.{cut_ordered}
 use Rattle.fz_tree.proofs.of_lex.Texts.{cut_spelled}
 use Rattle.fz_tree.specs.Tree as tree

@@ -6,7 +6,8 @@ use Rattle.std.specs.List.{flat_map}
 use Rattle.fz_tree.specs.of_lex.declared.token.Mark.{Mark}
 use Rattle.fz_tree.specs.of_lex.declared.token.Mark.TheVariants.{OpenParen, CloseParen, OpenBracket, CloseBracket, Comma, Semicolon, Colon, ColonColon, Equals}
 use Rattle.fz_tree.specs.of_lex.Token.{TokenValue, Word, FloatText, StringText, Marked}
-use Rattle.fz_tree.specs.of_lex.Lexing.{SpannedToken, LexesToSpanned}
+use Rattle.fz_tree.specs.of_lex.Lexing.{SpannedToken}
+use Rattle.fz_tree.specs.of_lex.View.{LexesToSpanned}
 use Rattle.fz_tree.specs.Tokens.{literal_toks, prefix_toks, param_prefix_toks, var_toks, array_word}
 use Rattle.fz_tree.specs.View.{bare_literal, bare_indexes}
 use Rattle.fz_tree.specs.declared.tree.Literal.{Literal}

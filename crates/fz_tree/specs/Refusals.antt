@@ -1,8 +1,8 @@
 -- What a call that reads a tree or printed items answers (the order of faults is this project's
 -- profile).
 use Rattle.std.specs.Prelude.{◌≡◌, ◌<◌, ℕ, List, length, Result, Ok, Err}
-use Rattle.fz_lex.specs.Lexing.{SpannedToken, LexesWithin, standard_limits}
-use Rattle.fz_lex.specs.View.{IsLexicalFaultWithin}
+use Rattle.fz_lex.specs.Lexing.{SpannedToken, LexesWithin}
+use Rattle.fz_lex.specs.View.{IsLexicalFaultWithin, standard_limits}
 use Rattle.fz_lex.specs.declared.limits.Limits.{Limits}
 use Rattle.fz_lex.specs.declared.error.SyntaxError.{SyntaxError}
 use Rattle.fz_lex.specs.declared.error.SyntaxError.TheVariants as errors

@@ -1,6 +1,6 @@
 -- Texts of a tree and of printed items, and what a call that reads them gives. (MiniZinc Handbook,
 -- FlatZinc grammar; the limits are this project's profile.)
-use Rattle.std.specs.Prelude.{◌≡◌, ℕ, List, bytes_eq, length, map, ◌≤◌, ◌+◌, zero, suc, Bool, true, false, ◌||◌, [], ◌∷◌, Option, Some, None, codes, IfSome}
+use Rattle.std.specs.Prelude.{◌≡◌, ℕ, List, bytes_eq, length, map, ◌≤◌, ◌+◌, zero, suc, Bool, true, false, [], ◌∷◌, Option, Some, None, codes, IfSome}
 use Rattle.std.specs.List.{AllByRecursion, list_any}
 use Rattle.fz_lex.specs.Lexing.{IsTextOfTokensWithin}
 use Rattle.fz_lex.specs.declared.limits.Limits.{Limits}
@@ -9,22 +9,12 @@ use Rattle.fz_tree.specs.Tokens.{toks, itoks}
 use Rattle.fz_lex.specs.Token.{IsTokenText}
 
 -- the words that are no names (MiniZinc Handbook; the list is this project's profile)
-abbrev pub type_words : List (List ℕ)
-type_words = map codes ("array" ∷ "of" ∷ "var" ∷ "bool" ∷ "int" ∷ "float" ∷ "set" ∷ [])
-
-abbrev pub item_words : List (List ℕ)
-item_words =
-    map codes ("predicate" ∷ "constraint" ∷ "solve" ∷ "satisfy" ∷ "minimize" ∷ "maximize" ∷ [])
-
-abbrev pub truth_words : List (List ℕ)
-truth_words = map codes ("true" ∷ "false" ∷ [])
-
-abbrev pub is_one_of : List (List ℕ) → List ℕ → Bool
-is_one_of words text = list_any (bytes_eq text) words
+abbrev pub reserved_words : List (List ℕ)
+reserved_words = map codes ("array" ∷ "of" ∷ "var" ∷ "bool" ∷ "int" ∷ "float" ∷ "set" ∷ "true"
+    ∷ "false" ∷ "predicate" ∷ "constraint" ∷ "solve" ∷ "satisfy" ∷ "minimize" ∷ "maximize" ∷ [])
 
 abbrev pub is_reserved : List ℕ → Bool
-is_reserved text =
-    is_one_of type_words text || (is_one_of item_words text || is_one_of truth_words text)
+is_reserved text = list_any (bytes_eq text) reserved_words
 
 abbrev pub IsName : List ℕ → Type 0
 IsName text = is_reserved text ≡ false

@@ -1,6 +1,6 @@
 //! What the grammar expected at the place of a fault.
 
-use crate::grammar::{Sort, Step, Symbol, begins_item, step_of, things};
+use crate::grammar::{Effect, Sort, Symbol, begins_item, step_of, things};
 use crate::text::Given;
 use fz_lex::{Token, Tokens};
 use std::alloc::{AllocError, Global};
@@ -65,15 +65,15 @@ impl Reading {
                 return Ok(Outcome::Lost);
             };
             match step_of(symbol, Sort::of(token)) {
-                Step::Take(symbols) => {
+                Effect::Take(symbols) => {
                     self.expect(symbols)?;
                     return Ok(Outcome::Taken);
                 }
-                Step::Become(symbols) => {
+                Effect::Become(symbols) => {
                     self.things.extend_from_slice(things(symbol))?;
                     self.expect(symbols)?;
                 }
-                Step::Stop => {
+                Effect::Stop => {
                     self.things.extend_from_slice(things(symbol))?;
                     return Ok(Outcome::Refused(symbol));
                 }

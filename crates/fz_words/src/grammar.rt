@@ -84,7 +84,7 @@ pub(crate) enum Element {
 }
 
 /// What a token does to what is expected.
-pub(crate) enum Step {
+pub(crate) enum Effect {
     /// It is taken, and these are expected.
     Take(&'static [Symbol]),
     /// These are expected in the place of the symbol, maybe nothing.
@@ -253,16 +253,16 @@ pub(crate) fn begins_item(word: &[u8]) -> bool {
     )
 }
 
-const TAKEN: Step = Step::Take(&[]);
+const TAKEN: Effect = Effect::Take(&[]);
 
-const SKIPPED: Step = Step::Become(&[]);
+const SKIPPED: Effect = Effect::Become(&[]);
 
-fn taken_if(fits: bool) -> Step {
-    if fits { TAKEN } else { Step::Stop }
+fn taken_if(fits: bool) -> Effect {
+    if fits { TAKEN } else { Effect::Stop }
 }
 
 /// What a token, or the end of the text, does to what is expected first.
-pub(crate) fn step_of(symbol: Symbol, token: Sort<'_>) -> Step {
+pub(crate) fn step_of(symbol: Symbol, token: Sort<'_>) -> Effect {
     match symbol {
         Symbol::Mark(mark) => taken_if(token.is_mark(mark)),
         Symbol::Semicolon(_) => taken_if(token.is_mark(Mark::Semicolon)),
@@ -274,13 +274,15 @@ pub(crate) fn step_of(symbol: Symbol, token: Sort<'_>) -> Step {
         Symbol::End => taken_if(matches!(token, Sort::End)),
         Symbol::First(element) => first_step(element, token),
         Symbol::Next(element) => next_step(element, token),
-        Symbol::Declared => Step::Become(&[
+        Symbol::Declared => Effect::Become(&[
             Symbol::Semicolon(Item::Declaration),
             Symbol::Declarations,
         ]),
-        Symbol::Named => Step::Become(&[COLON, Symbol::Name, Symbol::Notes]),
-        Symbol::Literals => { Step::Become(&[EQUALS, OPEN_LIST, Symbol::First(Element::Literal)]) }
-        Symbol::OfInt => Step::Become(&[Symbol::Of, Symbol::Int]),
+        Symbol::Named => Effect::Become(&[COLON, Symbol::Name, Symbol::Notes]),
+        Symbol::Literals => {
+            Effect::Become(&[EQUALS, OPEN_LIST, Symbol::First(Element::Literal)])
+        }
+        Symbol::OfInt => Effect::Become(&[Symbol::Of, Symbol::Int]),
         Symbol::Predicates
         | Symbol::Declarations
         | Symbol::Constraints
@@ -302,58 +304,58 @@ pub(crate) fn step_of(symbol: Symbol, token: Sort<'_>) -> Step {
     }
 }
 
-fn first_step(element: Element, token: Sort<'_>) -> Step {
+fn first_step(element: Element, token: Sort<'_>) -> Effect {
     if token.is_mark(element.end()) {
         TAKEN
     } else {
-        Step::Become(element.listed())
+        Effect::Become(element.listed())
     }
 }
 
-fn next_step(element: Element, token: Sort<'_>) -> Step {
+fn next_step(element: Element, token: Sort<'_>) -> Effect {
     if token.is_mark(Mark::Comma) {
-        Step::Take(element.listed())
+        Effect::Take(element.listed())
     } else {
         taken_if(token.is_mark(element.end()))
     }
 }
 
 /// A step at the beginning of an item, or of a goal.
-fn item_step(symbol: Symbol, word: &[u8]) -> Step {
+fn item_step(symbol: Symbol, word: &[u8]) -> Effect {
     match (symbol, word) {
-        (Symbol::Predicates, b"predicate") => Step::Take(PREDICATE),
+        (Symbol::Predicates, b"predicate") => Effect::Take(PREDICATE),
         (Symbol::Declarations, b"var") => {
-            Step::Take(&[Symbol::Base, Symbol::Named, Symbol::Value, Symbol::Declared])
+            Effect::Take(&[Symbol::Base, Symbol::Named, Symbol::Value, Symbol::Declared])
         }
-        (Symbol::Declarations, b"array") => Step::Take(ARRAY),
+        (Symbol::Declarations, b"array") => Effect::Take(ARRAY),
         (Symbol::Declarations, b"bool" | b"int") => {
-            Step::Take(&[Symbol::Named, EQUALS, Symbol::Literal, Symbol::Declared])
+            Effect::Take(&[Symbol::Named, EQUALS, Symbol::Literal, Symbol::Declared])
         }
-        (Symbol::Declarations, b"set") => Step::Take(&[
+        (Symbol::Declarations, b"set") => Effect::Take(&[
             Symbol::OfInt,
             Symbol::Named,
             EQUALS,
             Symbol::Literal,
             Symbol::Declared,
         ]),
-        (Symbol::Constraints, b"constraint") => Step::Take(CONSTRAINT),
+        (Symbol::Constraints, b"constraint") => Effect::Take(CONSTRAINT),
         (Symbol::Predicates | Symbol::Declarations | Symbol::Constraints, _) => SKIPPED,
-        (Symbol::Solve, b"solve") => Step::Take(&[
+        (Symbol::Solve, b"solve") => Effect::Take(&[
             Symbol::Notes,
             Symbol::Goal,
             Symbol::Semicolon(Item::Solve),
             Symbol::End,
         ]),
         (Symbol::Goal, b"satisfy") => TAKEN,
-        (Symbol::Goal, b"minimize" | b"maximize") => Step::Take(&[Symbol::Basic]),
-        _ => Step::Stop,
+        (Symbol::Goal, b"minimize" | b"maximize") => Effect::Take(&[Symbol::Basic]),
+        _ => Effect::Stop,
     }
 }
 
 /// A step in a type.
-fn type_step(symbol: Symbol, token: Sort<'_>) -> Step {
+fn type_step(symbol: Symbol, token: Sort<'_>) -> Effect {
     match (symbol, token.word()) {
-        (Symbol::Param, b"array") => Step::Take(&[
+        (Symbol::Param, b"array") => Effect::Take(&[
             OPEN_LIST,
             Symbol::ParamIndex,
             Symbol::Next(Element::ParamIndex),
@@ -362,83 +364,83 @@ fn type_step(symbol: Symbol, token: Sort<'_>) -> Step {
             COLON,
             Symbol::Name,
         ]),
-        (Symbol::Param, _) => Step::Become(&[Symbol::ParamBase, COLON, Symbol::Name]),
+        (Symbol::Param, _) => Effect::Become(&[Symbol::ParamBase, COLON, Symbol::Name]),
         (Symbol::ParamIndex, b"int") => TAKEN,
-        (Symbol::ParamIndex, _) => Step::Become(&[Symbol::One, DOTS, Symbol::Whole]),
-        (Symbol::ParamBase, b"var") => Step::Take(&[Symbol::Base]),
-        (Symbol::ParamBase, _) => Step::Become(&[Symbol::Base]),
-        (Symbol::OfElements, b"var") => Step::Take(&[
+        (Symbol::ParamIndex, _) => Effect::Become(&[Symbol::One, DOTS, Symbol::Whole]),
+        (Symbol::ParamBase, b"var") => Effect::Take(&[Symbol::Base]),
+        (Symbol::ParamBase, _) => Effect::Become(&[Symbol::Base]),
+        (Symbol::OfElements, b"var") => Effect::Take(&[
             Symbol::Base,
             Symbol::Named,
             EQUALS,
             OPEN_LIST,
             Symbol::First(Element::Basic),
         ]),
-        (Symbol::OfElements, b"bool" | b"int") => Step::Take(&[Symbol::Named, Symbol::Literals]),
+        (Symbol::OfElements, b"bool" | b"int") => Effect::Take(&[Symbol::Named, Symbol::Literals]),
         (Symbol::OfElements, b"set") => {
-            Step::Take(&[Symbol::OfInt, Symbol::Named, Symbol::Literals])
+            Effect::Take(&[Symbol::OfInt, Symbol::Named, Symbol::Literals])
         }
-        (Symbol::OfElements, _) => Step::Stop,
+        (Symbol::OfElements, _) => Effect::Stop,
         (Symbol::Base, b"bool") => TAKEN,
-        (Symbol::Base, b"set") => Step::Take(&[Symbol::Of, Symbol::SetBase]),
+        (Symbol::Base, b"set") => Effect::Take(&[Symbol::Of, Symbol::SetBase]),
         (_, b"int") => TAKEN,
         _ => bounds_step(token),
     }
 }
 
 /// A step in a range, or in numbers in braces.
-fn bounds_step(token: Sort<'_>) -> Step {
+fn bounds_step(token: Sort<'_>) -> Effect {
     match token {
-        Sort::Whole(_) => Step::Take(&[DOTS, Symbol::Whole]),
-        Sort::Mark(Mark::OpenBrace) => Step::Take(&[Symbol::First(Element::Whole)]),
-        _ => Step::Stop,
+        Sort::Whole(_) => Effect::Take(&[DOTS, Symbol::Whole]),
+        Sort::Mark(Mark::OpenBrace) => Effect::Take(&[Symbol::First(Element::Whole)]),
+        _ => Effect::Stop,
     }
 }
 
-fn value_step(symbol: Symbol, token: Sort<'_>) -> Step {
+fn value_step(symbol: Symbol, token: Sort<'_>) -> Effect {
     match (symbol, token) {
-        (Symbol::Value, Sort::Mark(Mark::Equals)) => Step::Take(&[Symbol::Basic]),
-        (Symbol::Upper, Sort::Mark(Mark::DotDot)) => Step::Take(&[Symbol::Whole]),
+        (Symbol::Value, Sort::Mark(Mark::Equals)) => Effect::Take(&[Symbol::Basic]),
+        (Symbol::Upper, Sort::Mark(Mark::DotDot)) => Effect::Take(&[Symbol::Whole]),
         (Symbol::Value | Symbol::Upper, _) => SKIPPED,
         (Symbol::Arg, Sort::Mark(Mark::OpenBracket)) => {
-            Step::Take(&[Symbol::First(Element::Basic)])
+            Effect::Take(&[Symbol::First(Element::Basic)])
         }
-        (Symbol::Arg, _) => Step::Become(&[Symbol::Basic]),
+        (Symbol::Arg, _) => Effect::Become(&[Symbol::Basic]),
         (Symbol::Basic, Sort::Name(_)) => TAKEN,
-        (Symbol::Basic, _) => Step::Become(&[Symbol::Literal]),
+        (Symbol::Basic, _) => Effect::Become(&[Symbol::Literal]),
         (_, Sort::Reserved(b"true" | b"false")) => TAKEN,
-        (_, Sort::Whole(_)) => Step::Take(&[Symbol::Upper]),
-        (_, Sort::Mark(Mark::OpenBrace)) => Step::Take(&[Symbol::First(Element::Whole)]),
-        _ => Step::Stop,
+        (_, Sort::Whole(_)) => Effect::Take(&[Symbol::Upper]),
+        (_, Sort::Mark(Mark::OpenBrace)) => Effect::Take(&[Symbol::First(Element::Whole)]),
+        _ => Effect::Stop,
     }
 }
 
 /// A step in annotations.
-fn note_step(symbol: Symbol, token: Sort<'_>) -> Step {
+fn note_step(symbol: Symbol, token: Sort<'_>) -> Effect {
     match (symbol, token) {
         (Symbol::Notes, Sort::Mark(Mark::ColonColon)) => {
-            Step::Take(&[Symbol::Note, Symbol::Notes])
+            Effect::Take(&[Symbol::Note, Symbol::Notes])
         }
         (Symbol::NoteArgs, Sort::Mark(Mark::OpenParen)) => {
-            Step::Take(&[Symbol::NoteArg, Symbol::Next(Element::NoteArg)])
+            Effect::Take(&[Symbol::NoteArg, Symbol::Next(Element::NoteArg)])
         },
         (Symbol::Notes | Symbol::NoteArgs, _) => SKIPPED,
-        (Symbol::Note, Sort::Name(_)) => Step::Take(&[Symbol::NoteArgs]),
-        (Symbol::Note, _) => Step::Stop,
+        (Symbol::Note, Sort::Name(_)) => Effect::Take(&[Symbol::NoteArgs]),
+        (Symbol::Note, _) => Effect::Stop,
         (Symbol::NoteArg, Sort::Mark(Mark::OpenBracket)) => {
-            Step::Take(&[Symbol::First(Element::NoteBasic)])
+            Effect::Take(&[Symbol::First(Element::NoteBasic)])
         }
-        (Symbol::NoteArg, _) => Step::Become(&[Symbol::NoteBasic]),
-        (_, Sort::Name(_)) => Step::Take(&[Symbol::NoteArgs]),
+        (Symbol::NoteArg, _) => Effect::Become(&[Symbol::NoteBasic]),
+        (_, Sort::Name(_)) => Effect::Take(&[Symbol::NoteArgs]),
         (_, Sort::Text) => TAKEN,
-        _ => Step::Become(&[Symbol::Literal]),
+        _ => Effect::Become(&[Symbol::Literal]),
     }
 }
 
 /// A step in printed items.
-fn printed_step(symbol: Symbol, token: Sort<'_>) -> Step {
+fn printed_step(symbol: Symbol, token: Sort<'_>) -> Effect {
     match (symbol, token) {
-        (Symbol::Printed, Sort::Name(_)) => Step::Take(&[
+        (Symbol::Printed, Sort::Name(_)) => Effect::Take(&[
             EQUALS,
             Symbol::PrintedValue,
             Symbol::Semicolon(Item::Printed),
@@ -446,26 +448,26 @@ fn printed_step(symbol: Symbol, token: Sort<'_>) -> Step {
         ]),
         (Symbol::Printed, Sort::End) => TAKEN,
         (Symbol::PrintedValue, Sort::Name(word)) => array_step(word),
-        (Symbol::PrintedValue, _) => Step::Become(&[Symbol::Literal]),
+        (Symbol::PrintedValue, _) => Effect::Become(&[Symbol::Literal]),
         (Symbol::Indexed(count), Sort::Mark(Mark::OpenParen)) => {
             let left_out = INDEX_SETS.saturating_sub(count.saturating_mul(2));
-            Step::Take(INDEXED.get(left_out..).unwrap_or(INDEXED))
+            Effect::Take(INDEXED.get(left_out..).unwrap_or(INDEXED))
         }
         (Symbol::IndexSet, _) => bounds_step(token),
-        _ => Step::Stop,
+        _ => Effect::Stop,
     }
 }
 
 /// A step at the word that a printed array begins with.
-fn array_step(word: &[u8]) -> Step {
+fn array_step(word: &[u8]) -> Effect {
     match word {
-        b"array1d" => Step::Take(&[Symbol::Indexed(1)]),
-        b"array2d" => Step::Take(&[Symbol::Indexed(2)]),
-        b"array3d" => Step::Take(&[Symbol::Indexed(3)]),
-        b"array4d" => Step::Take(&[Symbol::Indexed(4)]),
-        b"array5d" => Step::Take(&[Symbol::Indexed(5)]),
-        b"array6d" => Step::Take(&[Symbol::Indexed(6)]),
-        _ => Step::Become(&[Symbol::Literal]),
+        b"array1d" => Effect::Take(&[Symbol::Indexed(1)]),
+        b"array2d" => Effect::Take(&[Symbol::Indexed(2)]),
+        b"array3d" => Effect::Take(&[Symbol::Indexed(3)]),
+        b"array4d" => Effect::Take(&[Symbol::Indexed(4)]),
+        b"array5d" => Effect::Take(&[Symbol::Indexed(5)]),
+        b"array6d" => Effect::Take(&[Symbol::Indexed(6)]),
+        _ => Effect::Become(&[Symbol::Literal]),
     }
 }
 

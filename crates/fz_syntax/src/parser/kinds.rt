@@ -6,42 +6,13 @@ ghost use Rattle.fz_syntax.specs.Outcome.{plain_token, plain_kind};
 ghost use Rattle.fz_syntax.specs.Reading.{is_name, may_lack_value, begins_decl};
 ghost use Rattle.fz_syntax.specs.ReadingItems.{dimensions_of, token_dimensions};
 ghost use Rattle.fz_syntax.specs.Words.{may_be_reserved};
-ghost use Rattle.fz_tree.specs.Text.{is_one_of, type_words, item_words, truth_words, is_reserved};
+ghost use Rattle.fz_tree.specs.Text.{is_reserved};
 
 use fz_tree::{LiteralKind, Mark, Token, TokenKind};
 
 pub(crate) fn is_float(token: &Token<'_>) -> bool {
     token.kind == TokenKind::FloatText
         || token.kind == TokenKind::Word && token.text == b"float".as_slice()
-}
-
-#[inline(never)]
-fn is_type_word(word: &[u8]) -> bool
-    ensures { result ≡ is_one_of type_words word.now }
-{
-    matches!(
-        word,
-        b"array" | b"of" | b"var" | b"bool" | b"int" | b"float" | b"set"
-    )
-}
-
-#[inline(never)]
-fn is_item_word(word: &[u8]) -> bool
-    ensures { result ≡ is_one_of item_words word.now }
-{
-    word == b"predicate".as_slice()
-        || word == b"constraint".as_slice()
-        || word == b"solve".as_slice()
-        || word == b"satisfy".as_slice()
-        || word == b"minimize".as_slice()
-        || word == b"maximize".as_slice()
-}
-
-#[inline(never)]
-fn is_truth_word(word: &[u8]) -> bool
-    ensures { result ≡ is_one_of truth_words word.now }
-{
-    matches!(word, b"true" | b"false")
 }
 
 /// Whether some reserved word has the length of this word and its first byte. For nearly all names
@@ -67,12 +38,33 @@ fn may_be_reserved(word: &[u8]) -> bool
     }
 }
 
+#[inline(never)]
+fn is_listed_word(word: &[u8]) -> bool
+    ensures { result ≡ is_reserved word.now }
+{
+    word == b"array".as_slice()
+        || word == b"of".as_slice()
+        || word == b"var".as_slice()
+        || word == b"bool".as_slice()
+        || word == b"int".as_slice()
+        || word == b"float".as_slice()
+        || word == b"set".as_slice()
+        || word == b"true".as_slice()
+        || word == b"false".as_slice()
+        || word == b"predicate".as_slice()
+        || word == b"constraint".as_slice()
+        || word == b"solve".as_slice()
+        || word == b"satisfy".as_slice()
+        || word == b"minimize".as_slice()
+        || word == b"maximize".as_slice()
+}
+
 #[inline(always)]
 #[tactic(auto, using(crate::proofs::Words::not_reserved))]
 fn is_reserved(word: &[u8]) -> bool
     ensures { result ≡ is_reserved word.now }
 {
-    may_be_reserved(word) && (is_type_word(word) || is_item_word(word) || is_truth_word(word))
+    may_be_reserved(word) && is_listed_word(word)
 }
 
 #[inline(always)]

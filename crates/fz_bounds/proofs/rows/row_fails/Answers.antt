@@ -1,7 +1,7 @@
 use Rattle.std.proofs.Common.{◌≡◌, rules, true, sym, ◌∙◌}
 use Rattle.fz_index.specs.of_model.declared.Builtin.TheVariants.{IntPow}
 use Rattle.fz_index.proofs.of_model.Values.{no}
-use Rattle.fz_bounds.specs.declared.limits.Limits.{Limits}
+use Rattle.fz_bounds.specs.declared.limits.BoundedConstraint.{BoundedConstraint}
 use Rattle.fz_bounds.specs.declared.outlook.Outlook.TheVariants.{Never}
 use Rattle.fz_bounds.specs.Within.{AreKnown}
 use Rattle.fz_index.specs.of_model.of_builtins.of_meaning.Known.{known_row}
@@ -10,7 +10,7 @@ use Rattle.fz_bounds.proofs.rows.row_fails.Goals as goal
 
 pub returns-then-are_known : goal.returns-then-are_known
 returns-then-are_known c = λ is_never.
-    let s : Limits = record { parts = c.args.parts.now; lowest = c.lowest.result; highest = c.highest.result } in
+    let s : BoundedConstraint = record { parts = c.args.parts.now; lowest = c.lowest.result; highest = c.highest.result } in
     let at : AreKnown s (known_row c.in-Some.known).shapes = search rules in
     let never : c.form_foretold.result ≡ Never = search rules in
     let other : c.in-Some.known.builtin ≡ IntPow → ⊥ = λ e. let same : c.eq.result ≡ true = rw e at c.eq.ensures in no (sym c.if-eq.false ∙ same) in

@@ -1,6 +1,6 @@
 use Rattle.std.proofs.Common.{◌≡◌, ◌++◌, ◌∷◌, [], ℕ, Bor, List, Some, length, false, is_some, ap, arith, refl, ◌∙◌}
 use Rattle.std.specs.List.{list_any}
-use Rattle.fz_names.specs.declared.names.Entry.{Entry}
+use Rattle.fz_names.specs.declared.names.Citation.{Citation}
 use Rattle.fz_names.specs.declared.names.Kept.{Kept}
 use Rattle.fz_names.specs.Names.{same_key}
 use Rattle.fz_names.proofs.NameTable.{distinct_pushed, goes_last}
@@ -9,7 +9,7 @@ use Rattle.fz_names.proofs.names.put.Goals as goal
 use Rattle.fz_names.proofs.names.put.Goals.{then-not-note+in_ok-insert, else-not-note}
 
 -- the name with its entry
-abbrev kept_as : Bor (List ℕ) → Entry → Kept
+abbrev kept_as : Bor (List ℕ) → Citation → Kept
 kept_as name entry = record { bytes = name; entry = entry }
 
 pub returns-in_err-insert-clause-numbered : goal.returns-in_err-insert-clause-numbered

@@ -1,7 +1,7 @@
 use Rattle.std.proofs.Common.{refl, length, map, ◌≡◌, sym, ap, ◌∙◌, subst, arith}
 use Rattle.std.proofs.lemmas.List.{map_push, length-map, take_rest}
 use Rattle.std.proofs.lemmas.Result.{err_from_is_err_and, IfErr-weaker}
-use Rattle.fz_syntax.specs.Lexing.{standard_limits}
+use Rattle.fz_syntax.specs.Places.{standard_limits}
 use Rattle.fz_syntax.specs.View.{bare_items}
 use Rattle.fz_stream.specs.Found.{block_of, HasPlaces, EndsWithin, IsStreamText}
 use Rattle.fz_stream.proofs.PartLemmas.{every_append}

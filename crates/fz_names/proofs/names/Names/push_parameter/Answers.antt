@@ -3,7 +3,7 @@ use Rattle.std.specs.Map.{lookup}
 use Rattle.std.specs.List.{AllByRecursion}
 use Rattle.std.proofs.lemmas.Result.{on_ok_weaker}
 use Rattle.fz_meaning.specs.declared.term.Term.TheVariants.{Fixed}
-use Rattle.fz_names.specs.declared.names.Entry.TheVariants as entries
+use Rattle.fz_names.specs.declared.names.Citation.TheVariants as entries
 use Rattle.fz_names.specs.declared.names.Kept.{Kept}
 use Rattle.fz_names.specs.Naming.{has_text}
 use Rattle.fz_names.specs.Names.{entry_stands, is_among_terms}
