@@ -3,7 +3,8 @@
 crate promises", with the contracts in crates/, and the number of paths in docs/ARCHITECTURE.md with
 crates.txt, and the table of docs/TESTING.md, "What the prover refuses", with the edits of the gate.
 Those of tests/wrong, which the gate doesn't try, must still fit their files. Each file that a
-document names by its path must be there.
+document names by its path must be there. CONTRIBUTING.md, "A builtin", names each file in which its
+example stands.
 
 Each clause that a row names must stand at one of the row's calls, and each call must have one of
 them; where a row names none, each call must have an `ensures`. A call is looked for in the crates
@@ -17,7 +18,11 @@ import sys
 ROOT = pathlib.Path(os.path.abspath(__file__)).parent.parent
 CALL = re.compile(r"^(?:impl(?:<.*?>)? (\w+)|( *)pub (?:const )?fn (\w+)\b(.*?)^\2\{)", re.M | re.S)
 NAMES = re.compile(r"`([\w:]+)`")
-PATH = re.compile(r"`((?:crates|tests|tools|docs|companions|examples|bench|fz_\w+)/[\w./-]+\.\w+)`")
+FOLDERS = r"crates|tests|tools|docs|companions|examples|bench|minizinc|fz_\w+"
+PATH = re.compile(rf"`((?:{FOLDERS})/[\w./-]+\.\w+)`")
+EXAMPLE = re.compile(r"FznAllEqualInt|fzn_all_equal_int|\ball_equal\b")
+HOLDS_BUILTINS = ("crates/*/src", "crates/*/specs", "crates/*/proofs", "companions", "docs",
+                  "minizinc", "tests/cases", "tests/minizinc")
 BELOW = dict(re.findall(r"^(fz\w+):(.*)$", (ROOT / "crates.txt").read_text(), re.M))
 
 
@@ -90,7 +95,19 @@ def named_files():
                     yield document.name, path
 
 
+def unnamed_places():
+    """The files in which the example of a builtin stands, and that its steps don't name."""
+    steps = (ROOT / "CONTRIBUTING.md").read_text().split("\n## A builtin\n")[1].split("\n## ")[0]
+    named = {ROOT / folder / path for path in PATH.findall(steps) for folder in ("", "crates")}
+    folders = (folder for place in HOLDS_BUILTINS for folder in ROOT.glob(place))
+    files = {path for folder in folders for path in folder.rglob("*.*") if path.is_file()}
+    texts = ((path, path.read_bytes().decode(errors="replace")) for path in sorted(files - named))
+    return [path.relative_to(ROOT) for path, text in texts if EXAMPLE.search(text)]
+
+
 def wrong():
+    for path in unnamed_places():
+        yield f"CONTRIBUTING.md: a builtin stands in {path} too"
     for document, path in named_files():
         if not any((ROOT / folder / path).exists() for folder in ("", "crates")):
             yield f"{document}: there is no file {path}"
@@ -109,7 +126,7 @@ def wrong():
 
 
 EDITS = list(ROOT.glob("tests/wrong/*/*.edit"))
-CHECKS = len(list(rows())) + 2 + len(EDITS) + len(list(named_files()))
+CHECKS = len(list(rows())) + 3 + len(EDITS) + len(list(named_files()))
 faults = list(wrong())
 for fault in faults:
     print(f"failed: {fault}")
