@@ -1,17 +1,18 @@
 -- What is told of claims as the parts of a stream come, one more at the end; and what is told as
 -- refuted is false.
-use Rattle.std.proofs.Common.{◌≡◌, ℕ, suc, ◌+◌, ℤ, Bool, true, false, cond, nat_le, List, [], ◌∷◌, ◌++◌, length, map, Option, Some, None, option_map, refl, sym, ap, ◌∙◌, subst, subst₂, append_assoc, append-nil, add-zero, arith}
+use Rattle.std.proofs.Common.{◌≡◌, ℕ, suc, ◌+◌, ℤ, Bool, true, false, cond, nat_le, List, [], ◌∷◌, ◌++◌, length, Option, Some, None, option_map, refl, sym, ap, ◌∙◌, subst, subst₂, append_assoc, append-nil, add-zero, arith}
 use Rattle.std.specs.Prelude.{IfSome}
 use Rattle.std.specs.List.{AllByRecursion}
 use Rattle.std.specs.Option.{option_or}
-use Rattle.fz_judge.specs.of_model.Meaning.{Aim, Model, objective, whole}
+use Rattle.fz_judge.specs.of_model.Meaning.{Aim, Model, objective}
 use Rattle.fz_judge.specs.of_stream.declared.line.ClaimKind.{ClaimKind}
 use Rattle.fz_judge.specs.of_stream.Parts.{blocks_in, SolutionBlock, StreamPart, BlockPart, ClaimPart}
 use Rattle.fz_judge.specs.of_filling.declared.completion.Completion.{Completion}
 use Rattle.fz_judge.specs.of_filling.declared.completion.Completion.TheVariants.{Off, On}
 use Rattle.fz_judge.specs.of_filling.Judged.{JudgeState, IsJudged}
-use Rattle.fz_judge.specs.of_filling.Solutions.{Block}
-use Rattle.fz_judge.specs.of_filling.Verdict.{Answer, Verdict, verdict}
+use Rattle.fz_judge.specs.of_filling.Completed.{AreTold}
+use Rattle.fz_judge.specs.of_filling.Completed.AreTold.{NoneLeft, OneMore}
+use Rattle.fz_judge.specs.of_filling.Verdict.{Answer, Verdict}
 use Rattle.fz_judge.specs.of_filling.Verdict.Answer.{Accepted, Rejected, UndecidedAt, NoBlocks, ClaimRejected}
 use Rattle.fz_judge.specs.of_filling.Verdict.Verdict.{Satisfied, Violated, Undecided}
 use Rattle.fz_judge.proofs.of_filling.Accepted.{satisfied_solves}
@@ -21,14 +22,13 @@ use Rattle.fz_check.specs.declared.claims.Saying.TheVariants.{Nothing, NoSolutio
 use Rattle.fz_check.specs.declared.claims.Statement.{Statement}
 use Rattle.fz_check.specs.declared.claims.Source.{Source}
 use Rattle.fz_check.specs.declared.claims.Best.{Best}
-use Rattle.fz_check.specs.declared.claims.Refutation.{Refutation}
 use Rattle.fz_check.specs.declared.claims.Refuter.{Refuter}
 use Rattle.fz_check.specs.declared.claims.Refuter.TheVariants as refuters
 use Rattle.fz_check.specs.declared.claims.Known.{Known}
 use Rattle.fz_check.specs.declared.claims.Claims.{Claims}
 use Rattle.fz_check.specs.declared.claims.Claims.TheVariants.{NotJudged, Judged as ClaimsJudged}
 use Rattle.fz_check.specs.declared.ledger.Ledger.{Ledger}
-use Rattle.fz_check.specs.Claims.{IsFalse, Outcome, HasSolutionWith, IsOutcome, IsSolvedWith, AreOutcomes, Knows, KnowsOf, IsTrueOf, answer_with, behind, behind_claim, best_refuter, better_of, best_with, block_told, claim_event, claim_noted, claim_refutation, claim_told, is_better, is_satisfied, known_refuter, known_with, late_events, late_noted, late_refuted, ledger, own_refuter, refuter, refutes, saying, statement, told, verdicts_of}
+use Rattle.fz_check.specs.Claims.{IsFalse, Outcome, HasSolutionWith, IsOutcome, IsSolvedWith, AreOutcomes, Knows, KnowsOf, IsTrueOf, answer_with, behind, behind_claim, best_refuter, better_of, best_with, block_told, claim_event, claim_noted, claim_told, is_better, is_satisfied, known_refuter, known_with, late_events, late_noted, late_refuted, ledger, own_refuter, refuter, refutes, saying, statement, told, verdicts_of}
 use Rattle.fz_check.specs.Telling.{OutcomesGoOn}
 use Rattle.fz_check.specs.Report.{Event, events_of}
 use Rattle.fz_check.specs.Report.Event.{Judged, Claimed}
@@ -97,8 +97,8 @@ module _ (aim : Aim) (c : Claims) where
       ledger_block (suc n) (behind aim (suc n) l p) os ps o b (omega arith)
       ∙ ap (λ k. behind aim (suc k) (ledger aim c (suc n) (behind aim (suc n) l p) os ps) o) count
 
-module _ (c : Completion) (m : Model) (bs : List Block) (os : List Outcome) (filled found : Option ℤ) (go : OutcomesGoOn c m bs os filled found) where
-  pub outcomes_more : (b : Block) (o : Outcome) → IsOutcome c m filled found b o
+module _ (c : Completion) (m : Model) (bs : List SolutionBlock) (os : List Outcome) (filled found : Option ℤ) (go : OutcomesGoOn c m bs os filled found) where
+  pub outcomes_more : (b : SolutionBlock) (o : Outcome) → IsOutcome c m filled found b o
       → OutcomesGoOn c m (bs ++ b ∷ []) (os ++ o ∷ []) o.filled o.found
   outcomes_more b o is = λ more others are.
       subst₂ (AreOutcomes c m None None) (sym (append_assoc bs (b ∷ []) more)) (sym (append_assoc os (o ∷ []) others))
@@ -106,6 +106,15 @@ module _ (c : Completion) (m : Model) (bs : List Block) (os : List Outcome) (fil
 
   pub all_outcomes : AreOutcomes c m None None bs os
   all_outcomes = subst₂ (AreOutcomes c m None None) (append-nil bs) (append-nil os) (go [] [] tt)
+
+-- the verdicts of outcomes
+pub outcomes_told : {c : Completion} {m : Model} {filled found : Option ℤ} (bs : List SolutionBlock)
+    (os : List Outcome) → AreOutcomes c m filled found bs os
+    → AreTold c m filled found bs (verdicts_of os)
+outcomes_told [] [] are = NoneLeft
+outcomes_told [] (o ∷ os) are = absurd are
+outcomes_told (b ∷ bs) [] are = absurd are
+outcomes_told {c} {m} (b ∷ bs) (o ∷ os) (is, are) = OneMore is.filling is.is_filled is.is_told (subst (λ f. AreTold c m f o.found bs (verdicts_of os)) is.filled_is (outcomes_told bs os are))
 
 -- ---- where claims aren't judged
 
@@ -153,7 +162,7 @@ compared_now : (c : Completion) (filled own found : Option ℤ) → own ≡ fill
 compared_now Off filled own found is one = sym is ∙ sym (one refl)
 compared_now On filled own found is one = refl
 
-pub outcome_of : (j j' : JudgeState) (block : Block) (v : Verdict) → IsJudged j j' block v
+pub outcome_of : (j j' : JudgeState) (block : SolutionBlock) (v : Verdict) → IsJudged j j' block v
     → IsOutcome j.completion j.model j.before j.found block (record { verdict = v; filled = j'.before; found = j'.found })
 outcome_of j j' block v h = record {
   filling = h.filling;
@@ -167,7 +176,7 @@ outcome_of j j' block v h = record {
       (s.assignment, s.extends, s.solution, ap (objective j.model) s.is ∙ u.kept_is ∙ compared_now j.completion _ _ _ h.kept_is h.one_objective));
 }
 
-pub has_solution : (m : Model) (block : Block) (o : Option ℤ) → IsSolvedWith m block o
+pub has_solution : (m : Model) (block : SolutionBlock) (o : Option ℤ) → IsSolvedWith m block o
     → HasSolutionWith m o
 has_solution m block o (A, extends, solution, is) = (A, solution, is)
 
@@ -279,7 +288,7 @@ module _ (m : Model) where
   late_true (Some s) number es h rest = (h, rest)
 
   pub all_true : (by : Completion) (c : Claims) (n : ℕ) (l : Ledger) (filled found : Option ℤ)
-      (bs : List Block) (os : List Outcome) (ps : List StreamPart) → KnowsOf m c → IsSound l
+      (bs : List SolutionBlock) (os : List Outcome) (ps : List StreamPart) → KnowsOf m c → IsSound l
       → AreOutcomes by m filled found bs os → AllByRecursion (IsTrueOf m) (told m.aim c n l os ps)
   all_true by c n l filled found bs os [] knows sound are = tt
   all_true by c n l filled found bs os (ClaimPart kind ∷ ps) knows sound are = (

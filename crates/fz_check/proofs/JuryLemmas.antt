@@ -1,5 +1,5 @@
 -- One more block is judged and counted, and one more part is told.
-use Rattle.std.proofs.Common.{◌≡◌, ℕ, suc, ◌+◌, List, [], ◌∷◌, ◌++◌, length, map, Some, None, cond, refl, sym, ap, ◌∙◌, subst, subst₂, arith, length-append}
+use Rattle.std.proofs.Common.{◌≡◌, ℕ, suc, ◌+◌, List, [], ◌∷◌, ◌++◌, length, Some, None, cond, refl, sym, ap, ◌∙◌, subst, subst₂, arith, length-append}
 use Rattle.std.proofs.lemmas.Grind.{flat_map-append}
 use Rattle.std.proofs.lemmas.List.{length-map, map-append}
 use Rattle.std.specs.Option.{option_or}
@@ -8,15 +8,12 @@ use Rattle.fz_judge.specs.of_model.Meaning.{Model, Partial, objective}
 use Rattle.fz_judge.specs.of_stream.declared.block.Block as the_block
 use Rattle.fz_judge.specs.of_stream.declared.line.ClaimKind.{ClaimKind}
 use Rattle.fz_judge.specs.of_stream.Found.{EndsWithin, HasPlaces, block_of}
-use Rattle.fz_judge.specs.of_stream.Parts.{blocks_in, StreamPart, BlockPart, ClaimPart}
-use Rattle.fz_judge.proofs.of_stream.PartLemmas.{every_append}
-use Rattle.fz_judge.specs.of_filling.BlockView.{located_block}
-use Rattle.fz_judge.specs.of_filling.Solutions.{Block}
+use Rattle.fz_judge.specs.of_stream.Parts.{blocks_in, SolutionBlock, StreamPart, BlockPart, ClaimPart}
 use Rattle.fz_judge.specs.of_filling.declared.completion.Completion.{Completion}
 use Rattle.fz_judge.specs.of_filling.Completed.{AreTold, IsToldBy}
 use Rattle.fz_judge.specs.of_filling.Verdict.{Answer, Verdict, verdict, IsFilled, answer_by, answer_of, is_violated, is_undecided, first_number}
 use Rattle.fz_judge.proofs.of_filling.Completing.{told_lengths}
-use Rattle.fz_judge.proofs.of_filling.Loops.{GoesOn, goes_on_after, goes_on_judged, blocks_with_block, blocks_with_claim, first_number_more}
+use Rattle.fz_judge.proofs.of_filling.Loops.{GoesOn, goes_on_after, blocks_with_block, blocks_with_claim, first_number_more}
 use Rattle.fz_judge.specs.of_filling.Judged.{JudgeState, IsJudged, IsBlockRefusal}
 use Rattle.fz_check.specs.declared.error.CheckError.{CheckError}
 use Rattle.fz_check.specs.declared.error.CheckError.TheVariants as errors
@@ -27,7 +24,7 @@ use Rattle.fz_check.specs.Claims.{AreOutcomes, HaveOutcomes, IsOutcome, Outcome,
 use Rattle.fz_check.specs.Report.{Event, text_of}
 use Rattle.fz_check.specs.Report.Event.{Judged}
 use Rattle.fz_check.specs.Telling.{OutcomesGoOn, Tallies, HasJudged, HasTold, IsFresh, IsUnjudged, IsUntold, JudgesOneMore, TellsOneMore}
-use Rattle.fz_check.proofs.ClaimLemmas.{all_outcomes, ledger_block, ledger_claim, outcomes_more, told_block, told_claim}
+use Rattle.fz_check.proofs.ClaimLemmas.{all_outcomes, ledger_block, ledger_claim, outcomes_more, outcomes_told, told_block, told_claim}
 use Rattle.fz_check.proofs.EventLemmas.{text_with}
 
 tallies_more : (old new : Tally) (vs : List Verdict) (v : Verdict) → new.blocks ≡ old.blocks + 1
@@ -42,17 +39,17 @@ tallies_more old new vs v blocks violated undecided t =
     }
 
 -- the verdict of a judge that judges in this way against this model
-record IsJudgedAs (c : Completion) (m : Model) (j j' : JudgeState) (block : Block) (v : Verdict) : Type 0 where
+record IsJudgedAs (c : Completion) (m : Model) (j j' : JudgeState) (block : SolutionBlock) (v : Verdict) : Type 0 where
   filling : Partial
   is_filled : IsFilled c m block filling
   told : IsToldBy c m block j.found filling (verdict m filling block j.before) v j'.found
   kept_is : j'.before ≡ objective m filling
 
-judged_as : (c : Completion) (m : Model) (j j' : JudgeState) (block : Block) (v : Verdict)
+judged_as : (c : Completion) (m : Model) (j j' : JudgeState) (block : SolutionBlock) (v : Verdict)
     → j.completion ≡ c → j.model ≡ m → IsJudged j j' block v → IsJudgedAs c m j j' block v
 judged_as c m j j' block v same_completion same_model judged = subst₂ (λ d n. IsJudgedAs d n j j' block v) same_completion same_model (record { filling = judged.filling; is_filled = judged.is_filled; told = judged.told; kept_is = judged.kept_is })
 
-pub judges_more : (j j' : Jury) (block : Block) (v : Verdict) → IsJudged j.judge j'.judge block v
+pub judges_more : (j j' : Jury) (block : SolutionBlock) (v : Verdict) → IsJudged j.judge j'.judge block v
     → j'.judge.model ≡ j.judge.model → j'.judge.completion ≡ j.judge.completion
     → j'.tally.blocks ≡ j.tally.blocks + 1 → j'.tally.violated ≡ option_or j.tally.violated (cond (is_violated v) (Some (j.tally.blocks + 1)) None)
     → j'.tally.undecided ≡ option_or j.tally.undecided (cond (is_undecided v) (Some (j.tally.blocks + 1)) None) → JudgesOneMore j j' block v
@@ -87,7 +84,7 @@ judged_by j m c is tally =
     (judged_none j (ap (λ (k : JudgeState). k.before) is) (ap (λ (k : JudgeState). k.found) is) tally)
 
 -- the numbers give the answer
-pub answer_is : (c : Completion) (m : Model) (j : Jury) (bs : List Block) (vs : List Verdict)
+pub answer_is : (c : Completion) (m : Model) (j : Jury) (bs : List SolutionBlock) (vs : List Verdict)
     (answer : Answer) → HasJudged c m j bs vs
     → answer ≡ answer_by j.tally.violated j.tally.undecided j.tally.blocks → answer ≡ answer_of vs
 answer_is c m j bs vs answer h e =
@@ -97,9 +94,6 @@ answer_is c m j bs vs answer h e =
 
 pub told_none : (j : Jury) → IsFresh j → HasTold j.claims j.judge.completion j.judge.model j [] []
 told_none j f = record {
-  blocks = [];
-  blocks_are = refl;
-  places = tt;
   judged = judged_none j f.before f.found f.tally;
   go_on = λ more others are. subst₂ (λ b e. AreOutcomes j.judge.completion j.judge.model b e more others) f.before f.found are;
   claims_are = refl;
@@ -107,7 +101,7 @@ told_none j f = record {
 }
 
 -- what was judged, where only what is known of claims changes
-same_judged : (c : Completion) (m : Model) (j j' : Jury) (bs : List Block) (vs : List Verdict)
+same_judged : (c : Completion) (m : Model) (j j' : Jury) (bs : List SolutionBlock) (vs : List Verdict)
     → j'.judge ≡ j.judge → j'.tally ≡ j.tally → HasJudged c m j bs vs → HasJudged c m j' bs vs
 same_judged c m j j' bs vs judge tally h = record {
   same_model = ap (λ (k : JudgeState). k.model) judge ∙ h.same_model;
@@ -117,7 +111,7 @@ same_judged c m j j' bs vs judge tally h = record {
 }
 
 -- a block is judged, and then heard of
-pub record HearsBlock (j mid j' : Jury) (block : Block) (o : Outcome) : Type 0 where
+pub record HearsBlock (j mid j' : Jury) (block : SolutionBlock) (o : Outcome) : Type 0 where
   pub judges : JudgesOneMore j mid block o.verdict
   pub outcome : IsOutcome j.judge.completion j.judge.model j.judge.before j.judge.found block o
   pub filled_is : o.filled ≡ mid.judge.before
@@ -136,13 +130,10 @@ pub record HearsClaim (j j' : Jury) (kind : ClaimKind) : Type 0 where
 
 module _ (claims : Claims) (c : Completion) (m : Model) (j : Jury) (parts : List StreamPart) (os : List Outcome) (h : HasTold claims c m j parts os) where
   abbrev pub have_outcomes : HaveOutcomes c m parts os
-  have_outcomes = record {
-    have_verdicts = record { blocks = h.blocks; blocks_are = h.blocks_are; places = h.places; are_verdicts = goes_on_judged c m (map located_block h.blocks) (verdicts_of os) j.judge.before j.judge.found h.judged.goes_on };
-    are_outcomes = all_outcomes c m (map located_block h.blocks) os j.judge.before j.judge.found h.go_on;
-  }
+  have_outcomes = all_outcomes c m (blocks_in parts) os j.judge.before j.judge.found h.go_on
 
   one_each : length (verdicts_of os) ≡ length (blocks_in parts)
-  one_each = sym (told_lengths c m have_outcomes.have_verdicts.are_verdicts) ∙ length-map h.blocks located_block ∙ sym (length-map h.blocks block_of) ∙ ap length h.blocks_are
+  one_each = sym (told_lengths c m (outcomes_told (blocks_in parts) os have_outcomes))
 
   outcome_each : length os ≡ length (blocks_in parts)
   outcome_each = sym (length-map os (λ (o : Outcome). o.verdict)) ∙ one_each
@@ -164,23 +155,19 @@ module _ (claims : Claims) (c : Completion) (m : Model) (j : Jury) (parts : List
       record {
         more = os;
         told = record {
-          blocks = h.blocks;
-          blocks_are = h.blocks_are ∙ sym (blocks_with_claim parts kind);
-          places = h.places;
-          judged = same_judged c m j j' (map located_block h.blocks) (verdicts_of os) hears.same.0 hears.same.1 h.judged;
-          go_on = subst (λ (k : JudgeState). OutcomesGoOn c m (map located_block h.blocks) os k.before k.found) (sym hears.same.0) h.go_on;
+          judged = subst (λ bs. HasJudged c m j' bs (verdicts_of os)) (sym (blocks_with_claim parts kind)) (same_judged c m j j' (blocks_in parts) (verdicts_of os) hears.same.0 hears.same.1 h.judged);
+          go_on = subst₂ (λ bs (k : JudgeState). OutcomesGoOn c m bs os k.before k.found) (sym (blocks_with_claim parts kind)) (sym hears.same.0) h.go_on;
           claims_are = hears.same.2 ∙ h.claims_are;
           ledger_is = after ∙ sym (ledger_claim m.aim claims 0 no_ledger os parts kind outcome_each);
         };
         lines = text_with text _ (told_of m claims os parts) (claim_told m.aim claims (0 + length os) before kind) line (told_claim m.aim claims 0 no_ledger os parts kind outcome_each) (is ∙ ap text event);
       }
 
-  pub tells_block : (text : Event → List ℕ) (mid j' : Jury) (block : the_block.Block) (o : Outcome)
-      (line : List ℕ) → HearsBlock j mid j' (located_block block) o
+  pub tells_block : (text : Event → List ℕ) (mid j' : Jury) (block : SolutionBlock) (o : Outcome)
+      (line : List ℕ) → HearsBlock j mid j' block o
       → line ≡ text_of text (Judged mid.tally.blocks o.verdict ∷ late_events (late_refuted mid.judge.model.aim mid.ledger.waiting (is_satisfied o.verdict) mid.judge.found) mid.tally.blocks)
-      → HasPlaces block
-      → TellsOneMore claims text c m j' parts os (BlockPart (block_of block)) line
-  tells_block text mid j' block o line hears is places =
+      → TellsOneMore claims text c m j' parts os (BlockPart block) line
+  tells_block text mid j' block o line hears is =
       let count : mid.tally.blocks ≡ suc (0 + length os) = omega (arith, hears.counted, h.judged.tallies.blocks, length-map os (λ (o : Outcome). o.verdict)) in
       let before = ledger m.aim claims 0 no_ledger os parts in
       let aim : mid.judge.model.aim ≡ m.aim = ap (λ (n : Model). n.aim) (hears.same_model ∙ h.judged.same_model) in
@@ -191,24 +178,21 @@ module _ (claims : Claims) (c : Completion) (m : Model) (j : Jury) (parts : List
       let after : j'.ledger ≡ behind m.aim (suc (0 + length os)) before o =
       hears.heard ∙ (λ i. behind_block (aim i) (count i) (known i) (is_satisfied o.verdict) (sym hears.filled_is i) (sym hears.found_is i)) in
       let all : verdicts_of (os ++ o ∷ []) ≡ verdicts_of os ++ o.verdict ∷ [] = map-append (λ (p : Outcome). p.verdict) os (o ∷ []) in
-      let places_of : map located_block (h.blocks ++ block ∷ []) ≡ map located_block h.blocks ++ located_block block ∷ [] = map-append located_block h.blocks (block ∷ []) in
+      let more : blocks_in (parts ++ BlockPart block ∷ []) ≡ blocks_in parts ++ block ∷ [] = blocks_with_block parts block in
       record {
         more = os ++ o ∷ [];
         told = record {
-          blocks = h.blocks ++ block ∷ [];
-          blocks_are = map-append block_of h.blocks (block ∷ []) ∙ ap (λ l. l ++ block_of block ∷ []) h.blocks_are ∙ sym (blocks_with_block parts (block_of block));
-          places = every_append HasPlaces h.blocks (block ∷ []) h.places (places, tt);
-          judged = subst₂ (λ bs vs. HasJudged c m j' bs vs) (sym places_of) (sym all)
-              (same_judged c m mid j' (map located_block h.blocks ++ located_block block ∷ []) (verdicts_of os ++ o.verdict ∷ []) hears.same.0 hears.same.1
-              (hears.judges c m (map located_block h.blocks) (verdicts_of os) h.judged));
-          go_on = subst₂ (λ bs (k : JudgeState). OutcomesGoOn c m bs (os ++ o ∷ []) k.before k.found) (sym places_of) (sym hears.same.0)
-              (subst₂ (OutcomesGoOn c m (map located_block h.blocks ++ located_block block ∷ []) (os ++ o ∷ [])) hears.filled_is hears.found_is
-              (outcomes_more c m (map located_block h.blocks) os j.judge.before j.judge.found h.go_on (located_block block) o
-              (subst₂ (λ d n. IsOutcome d n j.judge.before j.judge.found (located_block block) o) h.judged.same_completion h.judged.same_model hears.outcome)));
+          judged = subst₂ (λ bs vs. HasJudged c m j' bs vs) (sym more) (sym all)
+              (same_judged c m mid j' (blocks_in parts ++ block ∷ []) (verdicts_of os ++ o.verdict ∷ []) hears.same.0 hears.same.1
+              (hears.judges c m (blocks_in parts) (verdicts_of os) h.judged));
+          go_on = subst₂ (λ bs (k : JudgeState). OutcomesGoOn c m bs (os ++ o ∷ []) k.before k.found) (sym more) (sym hears.same.0)
+              (subst₂ (OutcomesGoOn c m (blocks_in parts ++ block ∷ []) (os ++ o ∷ [])) hears.filled_is hears.found_is
+              (outcomes_more c m (blocks_in parts) os j.judge.before j.judge.found h.go_on block o
+              (subst₂ (λ d n. IsOutcome d n j.judge.before j.judge.found block o) h.judged.same_completion h.judged.same_model hears.outcome)));
           claims_are = hears.same.2 ∙ hears.same_claims ∙ h.claims_are;
-          ledger_is = after ∙ sym (ledger_block m.aim claims 0 no_ledger os parts o (block_of block) outcome_each);
+          ledger_is = after ∙ sym (ledger_block m.aim claims 0 no_ledger os parts o block outcome_each);
         };
-        lines = ap (text_of text) (told_block m.aim claims 0 no_ledger os parts o (block_of block) outcome_each)
+        lines = ap (text_of text) (told_block m.aim claims 0 no_ledger os parts o block outcome_each)
             ∙ flat_map-append text (told_of m claims os parts) (block_told m.aim (suc (0 + length os)) before o)
             ∙ ap (λ l. text_of text (told_of m claims os parts) ++ l) (sym (is ∙ ap (text_of text) events));
       }
@@ -221,7 +205,7 @@ module _ (claims : Claims) (c : Completion) (m : Model) (j : Jury) (parts : List
     part_is = refl;
     number_is = u.0 ∙ ap suc (h.judged.tallies.blocks ∙ one_each);
     not_memory = u.1;
-    refused = subst (λ l. IsBlockRefusal l (located_block block) e) h.judged.same_model (u.2 places within);
+    refused = subst (λ l. IsBlockRefusal l block e) h.judged.same_model (u.2 places within);
   }
   leaves_block most block errors.Memory u places within = tt
   leaves_block most block errors.Read u places within = u

@@ -1,12 +1,11 @@
 -- What is known between two parts of a known stream.
 use Rattle.std.proofs.Common.{◌≡◌, ℕ, ℤ, false, true, List, [], ◌∷◌, ◌++◌, Option, None, inl, sym, ap, ◌∙◌, subst, subst₂}
-use Rattle.std.specs.Io.KnownBytes.{Consumes, IsAtEnd}
+use Rattle.std.specs.Io.KnownBytes.{IsAtEnd}
 use Rattle.fz_judge.specs.of_model.Meaning.{Aim, Model}
-use Rattle.fz_judge.specs.of_stream.Parts.{StreamPart, Frame}
+use Rattle.fz_judge.specs.of_stream.Parts.{SolutionBlock, StreamPart, Frame}
 use Rattle.fz_judge.specs.of_syntax.Limits.{Limits}
 use Rattle.fz_judge.specs.of_filling.declared.completion.Completion.{Completion}
 use Rattle.fz_judge.specs.of_filling.Judged.{JudgeState, IsJudged}
-use Rattle.fz_judge.specs.of_filling.Solutions.{Block}
 use Rattle.fz_judge.specs.of_filling.Verdict.{Verdict}
 use Rattle.fz_judge.specs.of_filling.Verdict.Verdict.{Satisfied}
 use Rattle.fz_check.specs.declared.claims.Source.{Source}
@@ -74,7 +73,7 @@ module _ {limits : Limits} (s : ReaderState) (left : Option (List ℕ)) (m : Mod
       }
 
 -- a satisfied block is known
-pub learned : (m : Model) (j j' : JudgeState) (block : Block) (v : Verdict) (old new : Known)
+pub learned : (m : Model) (j j' : JudgeState) (block : SolutionBlock) (v : Verdict) (old new : Known)
     (aim : Aim) (o : Option ℤ) (s : Source) → j.model ≡ m → IsJudged j j' block v → v ≡ Satisfied
     → aim ≡ m.aim → o ≡ j'.found → new ≡ known_with aim old o s → Knows m old → Knows m new
 learned m j j' block v old new aim o s same judged satisfied aims is known h =

@@ -8,14 +8,13 @@ use Rattle.fz_judge.specs.of_stream.declared.line.ClaimKind.{ClaimKind}
 use Rattle.fz_judge.specs.of_stream.declared.reading.Claim.{Claim}
 use Rattle.fz_judge.specs.of_stream.Found.{EndsWithin, HasPlaces, IsReadAs, block_of, claims_in}
 use Rattle.fz_judge.specs.of_stream.Parts.{blocks_in, SolutionBlock, StreamPart, BlockPart, ClaimPart}
-use Rattle.fz_judge.specs.of_filling.Solutions.{Block}
-use Rattle.fz_judge.specs.of_filling.BlockFaults.{block_fault}
+use Rattle.fz_judge.specs.of_filling.BlockFaults.{AllFit}
+use Rattle.fz_judge.specs.of_syntax.View.{bare_items}
 use Rattle.fz_judge.specs.of_filling.declared.completion.Completion.{Completion}
 use Rattle.fz_judge.specs.of_filling.declared.completion.Completion.TheVariants.{Off}
 use Rattle.fz_judge.specs.of_filling.Completed.{AreTold}
 use Rattle.fz_judge.specs.of_filling.Completed.AreTold.{NoneLeft, OneMore}
 use Rattle.fz_judge.specs.of_filling.Verdict.{Answer, Verdict, answer_by}
-use Rattle.fz_judge.specs.of_filling.BlockView.{located_block}
 use Rattle.fz_judge.proofs.of_filling.Loops.{goes_on_judged}
 use Rattle.fz_judge.specs.of_filling.Judged.{IsBlockRefusal}
 use Rattle.fz_judge.specs.of_filling.View.{verdict_view}
@@ -102,17 +101,17 @@ nothing_left [] e first = refl
 nothing_left (BlockPart b ∷ left) e first = absurd (let n : b ∷ blocks_in left ≡ [] = e in cc)
 nothing_left (ClaimPart k ∷ left) e first = absurd first
 
--- a block with a verdict has no fault
-told_clean : {c : Completion} {m : Model} {f g : Option ℤ} {bs : List Block} {vs : List Verdict}
-    → AreTold c m f g bs vs → AllByRecursion (λ b. block_fault m b ≡ None) bs
-told_clean NoneLeft = tt
-told_clean (OneMore F is_filled is rest) = (is_filled.no_fault, told_clean rest)
+-- a block with a verdict fits the model
+told_fit : {c : Completion} {m : Model} {f g : Option ℤ} {bs : List SolutionBlock} {vs : List Verdict}
+    → AreTold c m f g bs vs → AllByRecursion (λ b. AllFit m b.items) bs
+told_fit NoneLeft = tt
+told_fit (OneMore F is_filled is rest) = (is_filled.fits, told_fit rest)
 
-all_clean : (m : Model) (bs : List the_block.Block)
-    → AllByRecursion (λ b. block_fault m b ≡ None) (map located_block bs)
-    → AllByRecursion (λ b. block_fault m (located_block b) ≡ None) bs
-all_clean m [] h = tt
-all_clean m (b ∷ bs) h = (h.0, all_clean m bs h.1)
+all_fit : (m : Model) (bs : List the_block.Block)
+    → AllByRecursion (λ (b : SolutionBlock). AllFit m b.items) (map block_of bs)
+    → AllByRecursion (λ (b : the_block.Block). AllFit m (bare_items b.items.items)) bs
+all_fit m [] h = tt
+all_fit m (b ∷ bs) h = (h.0, all_fit m bs h.1)
 
 -- The entries are the events of the parts at the front, with so many blocks; the parts that are left
 -- begin with no claim, and these are their claims.
@@ -130,7 +129,7 @@ pub record Passed (blocks : List the_block.Block) (i : ℕ) (es : List Entry) (r
 -- were passed.
 pub record JudgedSoFar (m : Model) (blocks : List the_block.Block) (claims : List Claim) (i : ℕ) (j : Jury) (es : List Entry) (rest : List Claim) : Type 0 where
   pub verdicts : List Verdict
-  pub judged : HasJudged Off m j (map located_block (take i blocks)) verdicts
+  pub judged : HasJudged Off m j (map block_of (take i blocks)) verdicts
   pub count : length verdicts ≡ i
   pub passed : (parts : List StreamPart) → map block_of blocks ≡ blocks_in parts
       → claims ≡ claims_in 0 parts → Passed blocks i es rest verdicts parts
@@ -179,12 +178,12 @@ module _ (m : Model) (blocks : List the_block.Block) (claims : List Claim) (i : 
     back = drop_more blocks i b lt ∙ ap (λ w. w ∷ drop (i + 1) blocks) (sym at)
 
     pub judged_next : (j' : Jury) (v : the_verdict.Verdict) (mid new : List Entry)
-        (others : List Claim) → JudgesOneMore j j' (located_block b) (verdict_view v) → mid ≡ es ++ entries.Block (i + 1) v ∷ [] → PassesClaims mid new rest others (i + 1)
+        (others : List Claim) → JudgesOneMore j j' (block_of b) (verdict_view v) → mid ≡ es ++ entries.Block (i + 1) v ∷ [] → PassesClaims mid new rest others (i + 1)
         → JudgedSoFar m blocks claims (i + 1) j' new others
     judged_next j' v mid new others judges pushed passes = record {
       verdicts = h.verdicts ++ verdict_view v ∷ [];
-      judged = subst (λ bs. HasJudged Off m j' bs (h.verdicts ++ verdict_view v ∷ [])) (sym (ap (map located_block) front ∙ map-append located_block (take i blocks) (b ∷ [])))
-          (judges Off m (map located_block (take i blocks)) h.verdicts h.judged);
+      judged = subst (λ bs. HasJudged Off m j' bs (h.verdicts ++ verdict_view v ∷ [])) (sym (ap (map block_of) front ∙ map-append block_of (take i blocks) (b ∷ [])))
+          (judges Off m (map block_of (take i blocks)) h.verdicts h.judged);
       count = omega (arith, h.count, length-append h.verdicts (verdict_view v ∷ []));
       passed = λ parts bs cs. (
           let p = h.passed parts bs cs in
@@ -222,8 +221,8 @@ module _ (m : Model) (blocks : List the_block.Block) (claims : List Claim) (i : 
       after = drop (i + 1) blocks;
       blocks_are = sym (take-append-drop i blocks) ∙ ap (λ l. take i blocks ++ l) back;
       numbered = omega (arith, u.0, tally_is, length-take i blocks, lt);
-      none_before = all_clean m (take i blocks) (told_clean (goes_on_judged Off m (map located_block (take i blocks)) h.verdicts j.judge.before j.judge.found h.judged.goes_on));
-      tells = subst (λ n. IsBlockRefusal n (located_block b) e) h.judged.same_model (u.2 places within);
+      none_before = all_fit m (take i blocks) (told_fit (goes_on_judged Off m (map block_of (take i blocks)) h.verdicts j.judge.before j.judge.found h.judged.goes_on));
+      tells = subst (λ n. IsBlockRefusal n b e) h.judged.same_model (u.2 places within);
       not_memory = u.1;
     }
     refuses_next most errors.Memory u places within = tt
@@ -234,20 +233,20 @@ module _ (m : Model) (blocks : List the_block.Block) (claims : List Claim) (i : 
     refuses_next most (errors.Stream e) u places within = u
 
   -- all blocks were judged
-  pub judged_all : (answer : Answer) → length blocks ≤ i → AllByRecursion HasPlaces blocks
+  pub judged_all : (answer : Answer) → length blocks ≤ i
       → answer ≡ answer_by j.tally.violated j.tally.undecided j.tally.blocks
       → (bytes : List ℕ) → IsReadAs bytes (map block_of blocks) claims → IsReport Off m bytes (map entry_view es ++ Answered answer ∷ []) answer
-  judged_all answer end places is bytes read =
+  judged_all answer end is bytes read =
       let p = h.passed read.parts read.blocks_are read.claims_are in
       let none : p.left ≡ [] = nothing_left p.left (p.left_are ∙ ap (map block_of) (drop_all i blocks end)) p.no_claim in
       let all : p.done ≡ read.parts = sym (p.parts_are ∙ ap (λ l. p.done ++ l) none ∙ append-nil p.done) in
-      let judged : HasJudged Off m j (map located_block blocks) h.verdicts = subst (λ bs. HasJudged Off m j (map located_block bs) h.verdicts) (take_all i blocks end) h.judged in
+      let judged : HasJudged Off m j (blocks_in read.parts) h.verdicts = subst (λ bs. HasJudged Off m j bs h.verdicts) (ap (map block_of) (take_all i blocks end) ∙ read.blocks_are) h.judged in
       record {
         parts = read.parts;
         text_of_stream = read.text;
         verdicts = h.verdicts;
-        have_verdicts = record { blocks = blocks; blocks_are = read.blocks_are; places = places; are_verdicts = goes_on_judged Off m (map located_block blocks) h.verdicts j.judge.before j.judge.found judged.goes_on };
-        answer_is = answer_is Off m j (map located_block blocks) h.verdicts answer judged is;
+        are_verdicts = goes_on_judged Off m (blocks_in read.parts) h.verdicts j.judge.before j.judge.found judged.goes_on;
+        answer_is = answer_is Off m j (blocks_in read.parts) h.verdicts answer judged is;
         events_are = ap (λ es. es ++ Answered answer ∷ []) (p.entries_are ∙ ap (events_of 0 h.verdicts) all);
       }
 

@@ -1,5 +1,5 @@
 -- What the verdicts of a report say of solutions is so.
-use Rattle.std.proofs.Common.{◌≡◌, ℕ, List, [], ◌∷◌, ◌++◌, map, None, Some, refl, sym, ap, ◌∙◌, subst}
+use Rattle.std.proofs.Common.{◌≡◌, ℕ, List, [], ◌∷◌, ◌++◌, None, Some, refl, sym, ap, ◌∙◌, subst}
 use Rattle.std.specs.List.{AllByRecursion}
 use Rattle.fz_judge.specs.of_model.Located.{LocatedTree}
 use Rattle.fz_judge.specs.of_model.Meaning.{Model}
@@ -7,26 +7,24 @@ use Rattle.fz_judge.specs.of_model.Names.{HasNoFault, model_of}
 use Rattle.fz_judge.specs.of_model.Texts.{IsLoadedFromWithin}
 use Rattle.fz_judge.specs.of_syntax.Limits.{Limits}
 use Rattle.fz_judge.proofs.of_model.Scope.{sound_aims}
-use Rattle.fz_judge.specs.of_filling.Solutions.{Block}
+use Rattle.fz_judge.specs.of_stream.Parts.{SolutionBlock, blocks_in}
 use Rattle.fz_judge.specs.of_filling.declared.completion.Completion.{Completion}
 use Rattle.fz_judge.specs.of_filling.Completed.{AreVerdicts}
 use Rattle.fz_judge.specs.of_filling.Verdict.{Answer, Verdict, answer_of}
 use Rattle.fz_judge.specs.of_filling.Verdict.Answer.{Accepted}
 use Rattle.fz_judge.specs.of_filling.Verdict.Verdict.{Violated}
-use Rattle.fz_judge.specs.of_filling.BlockView.{located_block}
 use Rattle.fz_judge.proofs.of_filling.Accepted.{accepted_solves}
 use Rattle.fz_judge.proofs.of_filling.Completing.{accepted_judged}
 use Rattle.fz_judge.proofs.of_filling.Each.{each_satisfied, each_violated, each_not_better}
-use Rattle.fz_judge.proofs.of_filling.Places.{blocks_are_bare}
 use Rattle.fz_check.specs.Headline.{HasSolutionsWithin}
 use Rattle.fz_check.specs.declared.claims.Claims.{Claims}
 use Rattle.fz_check.specs.Claims.{HasReportWith, IsReportWith, IsTrueOf, ledger, no_ledger, verdicts_of}
 use Rattle.fz_check.specs.Report.{Event, IsReportWithin, events_of}
 use Rattle.fz_check.specs.Report.Event.{Answered}
 use Rattle.fz_check.specs.Reported.{HasReportWithin, AreBorneOut}
-use Rattle.fz_check.proofs.ClaimLemmas.{accepted_without, all_true}
+use Rattle.fz_check.proofs.ClaimLemmas.{accepted_without, all_true, outcomes_told}
 
-pub borne_out : (completion : Completion) (t : LocatedTree) (blocks : List Block)
+pub borne_out : (completion : Completion) (t : LocatedTree) (blocks : List SolutionBlock)
     (vs : List Verdict) → HasNoFault t → AreVerdicts completion (model_of t) blocks vs
     → AreBorneOut (model_of t) blocks vs
 borne_out completion t blocks vs sound are = record {
@@ -36,11 +34,11 @@ borne_out completion t blocks vs sound are = record {
 }
 
 module _ {limits : Limits} (c : Completion) (model : List ℕ) (m : Model) (stream : List ℕ) (events : List Event) (answer : Answer) (loaded : IsLoadedFromWithin limits model m) (r : IsReportWithin limits c m stream events answer) where
-  are : AreVerdicts c (model_of loaded.tree) (map located_block r.have_verdicts.blocks) r.verdicts
-  are = subst (λ n. AreVerdicts c n (map located_block r.have_verdicts.blocks) r.verdicts) loaded.is r.have_verdicts.are_verdicts
+  are : AreVerdicts c (model_of loaded.tree) (blocks_in r.parts) r.verdicts
+  are = subst (λ n. AreVerdicts c n (blocks_in r.parts) r.verdicts) loaded.is r.are_verdicts
 
-  pub are_borne_out : AreBorneOut m (map located_block r.have_verdicts.blocks) r.verdicts
-  are_borne_out = subst (λ n. AreBorneOut n (map located_block r.have_verdicts.blocks) r.verdicts) (sym loaded.is) (borne_out c loaded.tree (map located_block r.have_verdicts.blocks) r.verdicts loaded.no_fault are)
+  pub are_borne_out : AreBorneOut m (blocks_in r.parts) r.verdicts
+  are_borne_out = subst (λ n. AreBorneOut n (blocks_in r.parts) r.verdicts) (sym loaded.is) (borne_out c loaded.tree (blocks_in r.parts) r.verdicts loaded.no_fault are)
 
   -- the report on the model of a text
   pub report_of : HasReportWithin limits c model stream events answer
@@ -54,16 +52,14 @@ module _ {limits : Limits} (c : Completion) (model : List ℕ) (m : Model) (stre
   pub solutions_of : (count : ℕ) → answer ≡ Accepted count → HasSolutionsWithin limits model stream count
   solutions_of count accepted =
       let told = sym r.answer_is ∙ accepted in
-      let (solutions, counted, some) = accepted_solves (model_of loaded.tree) (map located_block r.have_verdicts.blocks) r.verdicts count (sound_aims loaded.tree loaded.no_fault)
-      (accepted_judged c loaded.tree loaded.no_fault (map located_block r.have_verdicts.blocks) r.verdicts count are told) told in
+      let (solutions, counted, some) = accepted_solves (model_of loaded.tree) (blocks_in r.parts) r.verdicts count (sound_aims loaded.tree loaded.no_fault)
+      (accepted_judged c loaded.tree loaded.no_fault (blocks_in r.parts) r.verdicts count are told) told in
       record {
         tree = loaded.tree;
         text_of_model = loaded.text;
         no_fault = loaded.no_fault;
         parts = r.parts;
         text_of_stream = r.text_of_stream;
-        blocks = map located_block r.have_verdicts.blocks;
-        blocks_are = blocks_are_bare r.have_verdicts.blocks ∙ r.have_verdicts.blocks_are;
         counted = counted;
         at_least_one = some;
         solutions = solutions;
@@ -77,7 +73,7 @@ module _ {limits : Limits} (claims : Claims) (c : Completion) (model : List ℕ)
     parts = r.parts;
     text_of_stream = r.text_of_stream;
     verdicts = verdicts_of r.outcomes;
-    have_verdicts = r.have_outcomes.have_verdicts;
+    are_verdicts = outcomes_told (blocks_in r.parts) r.outcomes r.have_outcomes;
     answer_is = refl;
     events_are = refl;
   }
@@ -89,7 +85,7 @@ module _ {limits : Limits} (claims : Claims) (c : Completion) (model : List ℕ)
     holds = (
       r,
       are_borne_out c model m stream _ _ loaded plain,
-      λ knows. subst (AllByRecursion (IsTrueOf m)) (sym r.events_are) (all_true m c claims 0 no_ledger None None (map located_block r.have_outcomes.have_verdicts.blocks) r.outcomes r.parts knows tt r.have_outcomes.are_outcomes),
+      λ knows. subst (AllByRecursion (IsTrueOf m)) (sym r.events_are) (all_true m c claims 0 no_ledger None None (blocks_in r.parts) r.outcomes r.parts knows tt r.have_outcomes),
     );
   }
 

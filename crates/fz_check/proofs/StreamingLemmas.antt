@@ -1,5 +1,5 @@
 -- What a check over a reader and a writer knows between two steps, and where it ends.
-use Rattle.std.proofs.Common.{◌≡◌, ◌≢◌, ℕ, Bool, ◌+◌, ◌*◌, ◌<◌, ◌≤◌, true, false, cond, List, [], ◌∷◌, ◌++◌, length, map, Option, None, inl, inr, ⊎_elim, refl, sym, ap, ◌∙◌, subst, subst₂, append-nil, length-append, arith}
+use Rattle.std.proofs.Common.{◌≡◌, ◌≢◌, ℕ, Bool, ◌+◌, ◌*◌, ◌<◌, ◌≤◌, true, false, cond, List, [], ◌∷◌, ◌++◌, length, Option, None, inl, inr, ⊎_elim, refl, sym, ap, ◌∙◌, subst, subst₂, append-nil, length-append, arith}
 use Rattle.std.specs.Prelude.{IfOk, IfErr, OnOk, OnErr, Result, Ok, Err}
 use Rattle.std.proofs.lemmas.Grind.{flat_map-append}
 use Rattle.std.proofs.KnownBytes.{Appends-nil, Consumes-nil, Consumes-trans}
@@ -7,8 +7,7 @@ use Rattle.std.specs.Io.KnownBytes.{Appends, Consumes, IsAtEnd}
 use Rattle.fz_judge.specs.of_model.Meaning.{Model}
 use Rattle.fz_judge.specs.of_model.Texts.{IsLoadedFromWithin}
 use Rattle.fz_judge.specs.of_stream.declared.splitter.Stage.TheVariants.{Running, Finished}
-use Rattle.fz_judge.specs.of_stream.Parts.{StreamPart, Frame, IsStreamTextWithin}
-use Rattle.fz_judge.specs.of_filling.BlockView.{located_block}
+use Rattle.fz_judge.specs.of_stream.Parts.{StreamPart, Frame, IsStreamTextWithin, blocks_in}
 use Rattle.fz_judge.specs.of_filling.declared.completion.Completion.{Completion}
 use Rattle.fz_judge.specs.of_filling.Verdict.{answer_by}
 use Rattle.fz_judge.specs.of_filling.Judged.{JudgeState}
@@ -309,7 +308,7 @@ module _ {limits : Limits} (ending : Ending) (claims : Claims) (text : Event →
       answered =
           is ∙ ap (λ (k : Ledger). answer_with k.refuted (answer_by j.tally.violated j.tally.undecided j.tally.blocks)) l.told.ledger_is
           ∙ ap (answer_with (ledger m.aim claims 0 no_ledger l.outcomes l.parts).refuted)
-          (answer_is c m j (map located_block l.told.blocks) (verdicts_of l.outcomes) _ l.told.judged refl)
+          (answer_is c m j (blocks_in l.parts) (verdicts_of l.outcomes) _ l.told.judged refl)
 
       abbrev pub last : List Event
       last = cut_events cut ++ Answered (answer_view answer) ∷ []

@@ -1,6 +1,6 @@
 -- Which claims of a solver on its whole search are refuted, and by which block (this project's
 -- profile). A claim is refuted by one solution; that a claim is so is never told.
-use Rattle.std.specs.Prelude.{◌≡◌, ℕ, suc, ℤ, Bool, true, false, cond, List, [], ◌∷◌, ◌++◌, map, Option, Some, None, IfSome, int_lt, nat_le, ◌+◌, length, option_map, ⊤}
+use Rattle.std.specs.Prelude.{◌≡◌, ℕ, suc, ℤ, Bool, true, false, cond, List, [], ◌∷◌, ◌++◌, map, Option, Some, None, IfSome, int_lt, nat_le, option_map, ⊤}
 use Rattle.std.specs.List.{AllByRecursion}
 use Rattle.std.specs.Option.{option_or}
 use Rattle.fz_judge.specs.of_syntax.Limits.{Limits}
@@ -10,9 +10,8 @@ use Rattle.fz_judge.specs.of_model.Meaning.{Aim, Model, Partial, Assignment, IsS
 use Rattle.fz_judge.specs.of_model.Meaning.Aim.{Satisfy, Minimize, Maximize}
 use Rattle.fz_judge.specs.of_stream.declared.line.ClaimKind.{ClaimKind}
 use Rattle.fz_judge.specs.of_stream.declared.line.ClaimKind.TheVariants.{Complete, Unsatisfiable}
-use Rattle.fz_judge.specs.of_stream.Parts.{StreamPart, BlockPart, ClaimPart, IsStreamTextWithin}
-use Rattle.fz_judge.specs.of_filling.BlockView.{located_block}
-use Rattle.fz_judge.specs.of_filling.Solutions.{Block, Extends}
+use Rattle.fz_judge.specs.of_stream.Parts.{SolutionBlock, StreamPart, BlockPart, ClaimPart, IsStreamTextWithin, blocks_in}
+use Rattle.fz_judge.specs.of_filling.Solutions.{Extends}
 use Rattle.fz_judge.specs.of_filling.declared.completion.Completion.{Completion}
 use Rattle.fz_judge.specs.of_filling.declared.completion.Completion.TheVariants.{Off}
 use Rattle.fz_judge.specs.of_filling.Completed.{IsToldBy}
@@ -31,8 +30,8 @@ use Rattle.fz_check.specs.declared.claims.Known.{Known}
 use Rattle.fz_check.specs.declared.claims.Claims.{Claims}
 use Rattle.fz_check.specs.declared.claims.Claims.TheVariants.{NotJudged, Judged as ClaimsJudged}
 use Rattle.fz_check.specs.declared.ledger.Ledger.{Ledger}
-use Rattle.fz_check.specs.Report.{Event, HaveVerdicts, events_of}
-use Rattle.fz_check.specs.Report.Event.{Judged, Claimed, Refuted, Answered}
+use Rattle.fz_check.specs.Report.{Event, events_of}
+use Rattle.fz_check.specs.Report.Event.{Judged, Claimed, Refuted}
 use Rattle.fz_check.specs.Reported.{AreBorneOut, HoldsOfModelWithin}
 
 -- ---- what a claim says, and when that is false
@@ -74,13 +73,13 @@ abbrev pub HasSolutionWith : Model → Option ℤ → Type 0
 HasSolutionWith m o = (A : Assignment) × IsSolution m A × (objective m (whole A) ≡ o)
 
 -- and it extends the block
-abbrev pub IsSolvedWith : Model → Block → Option ℤ → Type 0
+abbrev pub IsSolvedWith : Model → SolutionBlock → Option ℤ → Type 0
 IsSolvedWith m block o =
     (A : Assignment) × Extends m A block × IsSolution m A × (objective m (whole A) ≡ o)
 
 -- The outcome of a block, where the block before has these objectives. The filling and the
 -- objectives are those of its verdict; where no values are looked for, there is one objective.
-pub record IsOutcome (c : Completion) (m : Model) (filled found : Option ℤ) (block : Block)
+pub record IsOutcome (c : Completion) (m : Model) (filled found : Option ℤ) (block : SolutionBlock)
     (o : Outcome) : Type 0 where
   pub filling : Partial
   pub is_filled : IsFilled c m block filling
@@ -90,8 +89,8 @@ pub record IsOutcome (c : Completion) (m : Model) (filled found : Option ℤ) (b
   pub solved : o.verdict ≡ Satisfied → IsSolvedWith m block o.found
 
 -- those of blocks in order, of which each hands its objectives on to the next
-abbrev pub AreOutcomes : Completion → Model → Option ℤ → Option ℤ → List Block → List Outcome
-    → Type 0
+abbrev pub AreOutcomes : Completion → Model → Option ℤ → Option ℤ → List SolutionBlock
+    → List Outcome → Type 0
 AreOutcomes c m filled found [] [] = ⊤
 AreOutcomes c m filled found (b ∷ bs) (o ∷ os) =
     IsOutcome c m filled found b o × AreOutcomes c m o.filled o.found bs os
@@ -100,11 +99,9 @@ AreOutcomes c m filled found _ _ = ⊥
 abbrev pub verdicts_of : List Outcome → List Verdict
 verdicts_of os = map (λ o. o.verdict) os
 
--- The blocks among the parts have these outcomes; the first is compared with nothing.
-pub record HaveOutcomes (c : Completion) (m : Model) (parts : List StreamPart)
-    (outcomes : List Outcome) : Type 0 where
-  pub have_verdicts : HaveVerdicts c m parts (verdicts_of outcomes)
-  pub are_outcomes : AreOutcomes c m None None (map located_block have_verdicts.blocks) outcomes
+-- the blocks among the parts have these outcomes; the first is compared with nothing
+abbrev pub HaveOutcomes : Completion → Model → List StreamPart → List Outcome → Type 0
+HaveOutcomes c m parts outcomes = AreOutcomes c m None None (blocks_in parts) outcomes
 
 -- what is known of other streams is so: there are solutions, one with the best objective
 pub record Knows (m : Model) (k : Known) : Type 0 where
@@ -286,8 +283,7 @@ abbrev pub HasReportWith : Limits → Claims → Completion → List ℕ → Lis
     → Type 0
 HasReportWith limits claims c model stream events answer = HoldsOfModelWithin limits model
     (λ m. (r : IsReportWith limits claims c m stream events answer)
-    × AreBorneOut m (map located_block r.have_outcomes.have_verdicts.blocks)
-    (verdicts_of r.outcomes)
+    × AreBorneOut m (blocks_in r.parts) (verdicts_of r.outcomes)
     × (KnowsOf m claims → AllByRecursion (IsTrueOf m) events))
 
 -- What the lines tell that were written is so, also where the stream is refused behind them: their
@@ -295,8 +291,8 @@ HasReportWith limits claims c model stream events answer = HoldsOfModelWithin li
 abbrev pub WrittenLinesAreBorneOut : Type 0
 WrittenLinesAreBorneOut = (claims : Claims) (c : Completion) (t : LocatedTree)
     (parts : List StreamPart) (outcomes : List Outcome) → HasNoFault t
-    → (h : HaveOutcomes c (model_of t) parts outcomes)
-    → AreBorneOut (model_of t) (map located_block h.have_verdicts.blocks) (verdicts_of outcomes)
+    → HaveOutcomes c (model_of t) parts outcomes
+    → AreBorneOut (model_of t) (blocks_in parts) (verdicts_of outcomes)
     × (KnowsOf (model_of t) claims
     → AllByRecursion (IsTrueOf (model_of t)) (told_of (model_of t) claims outcomes parts))
 

@@ -1,11 +1,11 @@
 -- What an accepted stream has (this project's profile).
-use Rattle.std.specs.Prelude.{◌≡◌, ℕ, ◌≤◌, List, length, map, Option}
+use Rattle.std.specs.Prelude.{◌≡◌, ℕ, ◌≤◌, List, length, Option}
 use Rattle.fz_judge.specs.of_syntax.Limits.{Limits}
 use Rattle.fz_judge.specs.of_syntax.Text.{IsTextOfTreeWithin}
 use Rattle.fz_judge.specs.of_stream.Parts.{StreamPart, IsStreamTextWithin, blocks_in}
 use Rattle.fz_judge.specs.of_model.Located.{LocatedTree, bare_of}
 use Rattle.fz_judge.specs.of_model.Names.{HasNoFault}
-use Rattle.fz_judge.specs.of_filling.Solutions.{Block, bare_of_block, HaveSolutions}
+use Rattle.fz_judge.specs.of_filling.Solutions.{HaveSolutions}
 use Rattle.std.specs.Io.KnownBytes.{Consumes, IsAtEnd}
 
 -- The reader gave these bytes up to its end, and this holds of them.
@@ -27,8 +27,6 @@ pub record HasSolutionsWithin (limits : Limits) (model stream : List ℕ)
   pub no_fault : HasNoFault tree
   pub parts : List StreamPart
   pub text_of_stream : IsStreamTextWithin limits stream parts
-  pub blocks : List Block
-  pub blocks_are : map bare_of_block blocks ≡ blocks_in parts
-  pub counted : length blocks ≡ count
+  pub counted : length (blocks_in parts) ≡ count
   pub at_least_one : 1 ≤ count
-  pub solutions : HaveSolutions tree blocks
+  pub solutions : HaveSolutions tree (blocks_in parts)

@@ -1,5 +1,5 @@
 -- What holds where a check is refused (this project's profile).
-use Rattle.std.specs.Prelude.{◌≡◌, ◌≢◌, ◌↔◌, ℕ, ◌+◌, ◌<◌, ◌≤◌, List, ◌∷◌, ◌++◌, length, map, None, ⊤}
+use Rattle.std.specs.Prelude.{◌≡◌, ◌≢◌, ◌↔◌, ℕ, ◌+◌, ◌<◌, ◌≤◌, List, ◌∷◌, ◌++◌, length, map, ⊤}
 use Rattle.std.specs.List.{AllByRecursion}
 use Rattle.fz_judge.specs.of_syntax.Limits.{Limits}
 use Rattle.fz_judge.specs.of_syntax.Places.{most_bytes, standard_limits, IsPlacedWithin}
@@ -8,6 +8,7 @@ use Rattle.fz_judge.specs.of_syntax.SyntaxError.TheVariants.{TooLong as TextTooL
 use Rattle.fz_judge.specs.of_syntax.Text.{IsTextOfTreeWithin}
 use Rattle.fz_judge.specs.of_syntax.Refusals.{IsRefusalWithin}
 use Rattle.fz_judge.specs.of_syntax.Tree.{Tree}
+use Rattle.fz_judge.specs.of_syntax.View.{bare_items}
 use Rattle.fz_judge.specs.of_stream.Broken.{StopsAfter}
 use Rattle.fz_judge.specs.of_stream.Faults.{IsStreamFault}
 use Rattle.fz_judge.specs.of_stream.Found.{HasPlaces, block_of, IsStreamText}
@@ -19,8 +20,7 @@ use Rattle.fz_judge.specs.of_model.Meaning.{Model}
 use Rattle.fz_judge.specs.of_model.Texts.{IsNameFaultWithin}
 use Rattle.fz_judge.specs.of_model.declared.ModelError.{ModelError}
 use Rattle.fz_judge.specs.of_model.declared.ModelError.TheVariants.{Memory as NameMemory}
-use Rattle.fz_judge.specs.of_filling.BlockFaults.{block_fault}
-use Rattle.fz_judge.specs.of_filling.BlockView.{located_block}
+use Rattle.fz_judge.specs.of_filling.BlockFaults.{AllFit}
 use Rattle.fz_judge.specs.of_filling.Judged.{IsBlockRefusal}
 use Rattle.fz_judge.specs.of_filling.declared.error.BlockError.{BlockError}
 use Rattle.fz_judge.specs.of_filling.declared.error.BlockError.TheVariants.{Memory as BlockMemory}
@@ -67,8 +67,8 @@ pub record IsFirstFault (m : Model) (blocks : List the_block.Block) (number : �
   pub after : List the_block.Block
   pub blocks_are : blocks ≡ before ++ block ∷ after
   pub numbered : number ≡ length before + 1
-  pub none_before : AllByRecursion (λ b. block_fault m (located_block b) ≡ None) before
-  pub tells : IsBlockRefusal m (located_block block) e
+  pub none_before : AllByRecursion (λ b. AllFit m (bare_items b.items.items)) before
+  pub tells : IsBlockRefusal m block e
   pub not_memory : e ≢ BlockMemory
 
 -- The stream's bytes are not too many, and a text of parts. Of their blocks, with the byte ranges of

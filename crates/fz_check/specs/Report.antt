@@ -1,18 +1,14 @@
 -- What a check tells of a stream: its events in order, which make up the report, and the line of
 -- each (this project's profile).
-use Rattle.std.specs.Prelude.{◌≡◌, ℕ, suc, List, [], ◌∷◌, ◌++◌, cond, map, codes, decimal, flat_map}
-use Rattle.std.specs.List.{AllByRecursion}
+use Rattle.std.specs.Prelude.{◌≡◌, ℕ, suc, List, [], ◌∷◌, ◌++◌, cond, codes, decimal, flat_map}
 use Rattle.std.specs.Fmt.{signed_decimal}
 use Rattle.fz_judge.specs.of_syntax.Span.{Span}
 use Rattle.fz_judge.specs.of_syntax.Limits.{Limits}
 use Rattle.fz_judge.specs.of_syntax.Places.{standard_limits}
 use Rattle.fz_judge.specs.of_model.Meaning.{Model}
-use Rattle.fz_judge.specs.of_stream.declared.block.Block as the_block
 use Rattle.fz_judge.specs.of_stream.declared.line.ClaimKind.{ClaimKind}
 use Rattle.fz_judge.specs.of_stream.declared.line.ClaimKind.TheVariants.{Complete, Unsatisfiable, Unknown, Unbounded, UnsatOrUnbounded, Error}
-use Rattle.fz_judge.specs.of_stream.Found.{HasPlaces, block_of}
 use Rattle.fz_judge.specs.of_stream.Parts.{blocks_in, StreamPart, BlockPart, ClaimPart, IsStreamTextWithin}
-use Rattle.fz_judge.specs.of_filling.BlockView.{located_block}
 use Rattle.fz_judge.specs.of_filling.declared.completion.Completion.{Completion}
 use Rattle.fz_judge.specs.of_filling.Completed.{AreVerdicts}
 use Rattle.fz_judge.specs.of_filling.Verdict.{Fault, Reason, Verdict, Answer, answer_of}
@@ -42,23 +38,14 @@ events_of n vs (ClaimPart k ∷ ps) = Claimed k ∷ events_of n vs ps
 events_of n [] (BlockPart b ∷ ps) = events_of n [] ps
 events_of n (v ∷ vs) (BlockPart b ∷ ps) = Judged (suc n) v ∷ events_of (suc n) vs ps
 
--- These are the verdicts of the blocks among the parts, with the byte ranges of their names and
--- literals; no block among them has a fault.
-pub record HaveVerdicts (c : Completion) (m : Model) (parts : List StreamPart)
-    (verdicts : List Verdict) : Type 0 where
-  pub blocks : List the_block.Block
-  pub blocks_are : map block_of blocks ≡ blocks_in parts
-  pub places : AllByRecursion HasPlaces blocks
-  pub are_verdicts : AreVerdicts c m (map located_block blocks) verdicts
-
--- The stream's bytes are a text of parts within the limits. The report tells of each part in order,
--- of a block with its verdict, and then the answer on these verdicts.
+-- The stream's bytes are a text of parts within the limits, whose blocks have no fault. The report
+-- tells of each part in order, of a block with its verdict, and then the answer on these verdicts.
 pub record IsReportWithin (limits : Limits) (c : Completion) (m : Model) (stream : List ℕ)
     (events : List Event) (answer : Answer) : Type 0 where
   pub parts : List StreamPart
   pub text_of_stream : IsStreamTextWithin limits stream parts
   pub verdicts : List Verdict
-  pub have_verdicts : HaveVerdicts c m parts verdicts
+  pub are_verdicts : AreVerdicts c m (blocks_in parts) verdicts
   pub answer_is : answer ≡ answer_of verdicts
   pub events_are : events ≡ events_of 0 verdicts parts ++ Answered answer ∷ []
 

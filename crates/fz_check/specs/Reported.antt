@@ -1,5 +1,5 @@
 -- What holds of a report (this project's profile).
-use Rattle.std.specs.Prelude.{◌≡◌, ℕ, suc, ℤ, List, map, Some}
+use Rattle.std.specs.Prelude.{◌≡◌, ℕ, suc, ℤ, List, Some}
 use Rattle.std.specs.List.{slice_get}
 use Rattle.fz_judge.specs.of_syntax.Places.{standard_limits}
 use Rattle.fz_judge.specs.of_syntax.Limits.{Limits}
@@ -7,9 +7,9 @@ use Rattle.fz_judge.specs.of_model.Meaning.{Model, Assignment, IsSolution}
 use Rattle.fz_judge.specs.of_model.States.{IsKnownSolution}
 use Rattle.fz_judge.specs.of_model.Texts.{IsLoadedFromWithin}
 use Rattle.fz_judge.specs.of_filling.declared.completion.Completion.{Completion}
-use Rattle.fz_judge.specs.of_filling.Solutions.{Block, Extends, Improves}
+use Rattle.fz_judge.specs.of_stream.Parts.{SolutionBlock, blocks_in}
+use Rattle.fz_judge.specs.of_filling.Solutions.{Extends, Improves}
 use Rattle.fz_judge.specs.of_filling.Verdict.{Answer, Verdict, Fault}
-use Rattle.fz_judge.specs.of_filling.BlockView.{located_block}
 use Rattle.fz_judge.specs.of_filling.Verdict.Verdict.{Satisfied, Violated}
 use Rattle.fz_judge.specs.of_filling.Verdict.Fault.{NotBetter}
 use Rattle.fz_check.specs.Headline.{HasSolutionsWithin}
@@ -29,15 +29,15 @@ HoldsOfModel = HoldsOfModelWithin standard_limits
 -- ---- what the verdicts of a report say of solutions
 
 -- an assignment that is a solution extends the block
-abbrev pub HasOne : Model → Block → Type 0
+abbrev pub HasOne : Model → SolutionBlock → Type 0
 HasOne m block = (A : Assignment) × Extends m A block × IsSolution m A
 
 -- no assignment that is a known-solution extends the block
-abbrev pub HasNone : Model → Block → Type 0
+abbrev pub HasNone : Model → SolutionBlock → Type 0
 HasNone m block = (A : Assignment) → IsKnownSolution m A → Extends m A block → ⊥
 
 -- no two known-solutions that extend the two blocks improve
-abbrev pub NoneImproves : Model → Block → Block → Type 0
+abbrev pub NoneImproves : Model → SolutionBlock → SolutionBlock → Type 0
 NoneImproves m earlier block = (A B : Assignment) → IsKnownSolution m A → Extends m A earlier
     → IsKnownSolution m B → Extends m B block → Improves m (Some A) B → ⊥
 
@@ -48,14 +48,15 @@ IsObjective f = (now before : ℤ) × (f ≡ NotBetter now before)
 -- other blocks are. One that is violated by anything but its objective has no known-solution that
 -- extends it; and where it is violated by its objective, there is a block before it, and none that
 -- extends this one improves on one that extends that one.
-pub record AreBorneOut (m : Model) (blocks : List Block) (verdicts : List Verdict) : Type 0 where
-  pub satisfied : (i : ℕ) (block : Block) → slice_get blocks i ≡ Some block
+pub record AreBorneOut (m : Model) (blocks : List SolutionBlock)
+    (verdicts : List Verdict) : Type 0 where
+  pub satisfied : (i : ℕ) (block : SolutionBlock) → slice_get blocks i ≡ Some block
       → slice_get verdicts i ≡ Some Satisfied → HasOne m block
-  pub violated : (i : ℕ) (block : Block) (f : Fault) → slice_get blocks i ≡ Some block
+  pub violated : (i : ℕ) (block : SolutionBlock) (f : Fault) → slice_get blocks i ≡ Some block
       → slice_get verdicts i ≡ Some (Violated f) → (IsObjective f → ⊥) → HasNone m block
-  pub not_better : (i : ℕ) (block : Block) (f : Fault) → slice_get blocks i ≡ Some block
+  pub not_better : (i : ℕ) (block : SolutionBlock) (f : Fault) → slice_get blocks i ≡ Some block
       → slice_get verdicts i ≡ Some (Violated f) → IsObjective f
-      → (j : ℕ) × (earlier : Block) × (i ≡ suc j) × (slice_get blocks j ≡ Some earlier)
+      → (j : ℕ) × (earlier : SolutionBlock) × (i ≡ suc j) × (slice_get blocks j ≡ Some earlier)
       × NoneImproves m earlier block
 
 -- The events are the report of the tree's model on the stream, with a search for values that were
@@ -63,7 +64,7 @@ pub record AreBorneOut (m : Model) (blocks : List Block) (verdicts : List Verdic
 abbrev pub HasReportWithin : Limits → Completion → List ℕ → List ℕ → List Event → Answer → Type 0
 HasReportWithin limits c model stream events answer = HoldsOfModelWithin limits model
     (λ m. (r : IsReportWithin limits c m stream events answer)
-    × AreBorneOut m (map located_block r.have_verdicts.blocks) r.verdicts)
+    × AreBorneOut m (blocks_in r.parts) r.verdicts)
 
 abbrev pub HasReport : Completion → List ℕ → List ℕ → List Event → Answer → Type 0
 HasReport = HasReportWithin standard_limits

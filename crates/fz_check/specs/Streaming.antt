@@ -11,7 +11,6 @@ use Rattle.fz_judge.specs.of_stream.declared.error.StreamError.TheVariants.{Memo
 use Rattle.fz_judge.specs.of_stream.Faults.{IsStreamFault}
 use Rattle.fz_judge.specs.of_stream.Found.{HasPlaces, block_of}
 use Rattle.fz_judge.specs.of_stream.Parts.{blocks_in, StreamPart, BlockPart, IsStreamTextWithin}
-use Rattle.fz_judge.specs.of_filling.BlockView.{located_block}
 use Rattle.fz_judge.specs.of_filling.declared.completion.Completion.{Completion}
 use Rattle.fz_judge.specs.of_filling.Verdict.{Answer}
 use Rattle.fz_judge.specs.of_filling.declared.error.BlockError.{BlockError}
@@ -67,7 +66,7 @@ pub record BlockIsRefused (limits : Limits) (m : Model) (left : Option (List ℕ
   pub next : EndInside limits left given (parts ++ BlockPart (block_of block) ∷ [])
   pub number_is : number ≡ suc (length (blocks_in parts))
   pub not_memory : e ≢ Memory
-  pub refused : IsBlockRefusal m (located_block block) e
+  pub refused : IsBlockRefusal m block e
 
 -- Why a check ends after these parts of the bytes that were given: the stream is refused behind
 -- them, or the next block is, or a read failed and no further part has ended.

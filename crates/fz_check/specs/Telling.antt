@@ -1,7 +1,6 @@
 -- What is judged and told while the parts of a stream come. Private functions alone cite this file,
 -- and a reader need not believe it.
-use Rattle.std.specs.Prelude.{◌≡◌, ◌≢◌, ℕ, suc, ℤ, ◌+◌, ◌*◌, ◌≤◌, List, [], ◌∷◌, ◌++◌, length, map, Option, Some, None, Result, Ok, Err, ⊤, ◌⊎◌}
-use Rattle.std.specs.List.{AllByRecursion}
+use Rattle.std.specs.Prelude.{◌≡◌, ◌≢◌, ℕ, suc, ℤ, ◌+◌, ◌*◌, ◌≤◌, List, [], ◌∷◌, ◌++◌, length, Option, Some, None, Result, Ok, Err, ⊤, ◌⊎◌}
 use Rattle.std.specs.Io.KnownBytes.{Appends, Consumes, IsAtEnd}
 use Rattle.fz_judge.specs.of_syntax.Limits.{Limits}
 use Rattle.fz_judge.specs.of_model.Meaning.{Model}
@@ -11,9 +10,7 @@ use Rattle.fz_judge.specs.of_stream.declared.error.StreamError.TheVariants as st
 use Rattle.fz_judge.specs.of_stream.declared.error.StreamError.TheVariants.{Memory as StreamMemory}
 use Rattle.fz_judge.specs.of_stream.Faults.{IsStreamFault}
 use Rattle.fz_judge.specs.of_stream.Found.{EndsWithin, HasPlaces, block_of}
-use Rattle.fz_judge.specs.of_stream.Parts.{blocks_in, StreamPart, BlockPart, Frame, IsStreamTextWithin}
-use Rattle.fz_judge.specs.of_filling.Solutions.{Block}
-use Rattle.fz_judge.specs.of_filling.BlockView.{located_block}
+use Rattle.fz_judge.specs.of_stream.Parts.{blocks_in, SolutionBlock, StreamPart, BlockPart, Frame, IsStreamTextWithin}
 use Rattle.fz_judge.specs.of_filling.declared.completion.Completion.{Completion}
 use Rattle.fz_judge.specs.of_filling.Completed.{AreTold, AreVerdicts}
 use Rattle.fz_judge.specs.of_filling.Verdict.{Answer, Verdict, first_number, is_undecided, is_violated}
@@ -68,11 +65,11 @@ pub record Tallies (t : Tally) (verdicts : List Verdict) : Type 0 where
 
 -- The blocks were judged with these verdicts, and counted. What is judged from here on goes on from
 -- them.
-pub record HasJudged (c : Completion) (m : Model) (j : Jury) (blocks : List Block)
+pub record HasJudged (c : Completion) (m : Model) (j : Jury) (blocks : List SolutionBlock)
     (verdicts : List Verdict) : Type 0 where
   pub same_model : j.judge.model ≡ m
   pub same_completion : j.judge.completion ≡ c
-  pub goes_on : (more : List Block) (ws : List Verdict)
+  pub goes_on : (more : List SolutionBlock) (ws : List Verdict)
       → AreTold c m j.judge.before j.judge.found more ws
       → AreVerdicts c m (blocks ++ more) (verdicts ++ ws)
   pub tallies : Tallies j.tally verdicts
@@ -85,35 +82,31 @@ pub record IsFresh (j : Jury) : Type 0 where
   pub ledger : j.ledger ≡ no_ledger
 
 -- one more block was judged, whatever was judged before
-abbrev pub JudgesOneMore : Jury → Jury → Block → Verdict → Type 0
+abbrev pub JudgesOneMore : Jury → Jury → SolutionBlock → Verdict → Type 0
 JudgesOneMore j j' block v =
-    (c : Completion) (m : Model) (blocks : List Block) (verdicts : List Verdict)
+    (c : Completion) (m : Model) (blocks : List SolutionBlock) (verdicts : List Verdict)
     → HasJudged c m j blocks verdicts → HasJudged c m j' (blocks ++ block ∷ []) (verdicts ++ v ∷ [])
 
 -- the next block is refused, with its number, or memory ran out; the block is one that ends within
 -- so many bytes
 abbrev pub IsUnjudged : ℕ → Jury → the_block.Block → CheckError → Type 0
 IsUnjudged most j block (errors.Block n e) = (n ≡ suc j.tally.blocks) × (e ≢ Memory)
-    × (HasPlaces block → EndsWithin most block
-    → IsBlockRefusal j.judge.model (located_block block) e)
+    × (HasPlaces block → EndsWithin most block → IsBlockRefusal j.judge.model block e)
 IsUnjudged most j block errors.Memory = ⊤
 IsUnjudged most j block _ = ⊥
 
 -- The outcomes of blocks that come behind these, where these leave such objectives, go on from them.
-abbrev pub OutcomesGoOn : Completion → Model → List Block → List Outcome → Option ℤ → Option ℤ
-    → Type 0
+abbrev pub OutcomesGoOn : Completion → Model → List SolutionBlock → List Outcome → Option ℤ
+    → Option ℤ → Type 0
 OutcomesGoOn c m blocks outcomes filled found =
-    (more : List Block) (others : List Outcome) → AreOutcomes c m filled found more others
+    (more : List SolutionBlock) (others : List Outcome) → AreOutcomes c m filled found more others
     → AreOutcomes c m None None (blocks ++ more) (outcomes ++ others)
 
 -- The blocks among the parts were judged with these outcomes, and this is known of claims.
 pub record HasTold (claims : Claims) (c : Completion) (m : Model) (j : Jury)
     (parts : List StreamPart) (outcomes : List Outcome) : Type 0 where
-  pub blocks : List the_block.Block
-  pub blocks_are : map block_of blocks ≡ blocks_in parts
-  pub places : AllByRecursion HasPlaces blocks
-  pub judged : HasJudged c m j (map located_block blocks) (verdicts_of outcomes)
-  pub go_on : OutcomesGoOn c m (map located_block blocks) outcomes j.judge.before j.judge.found
+  pub judged : HasJudged c m j (blocks_in parts) (verdicts_of outcomes)
+  pub go_on : OutcomesGoOn c m (blocks_in parts) outcomes j.judge.before j.judge.found
   pub claims_are : j.claims ≡ claims
   pub ledger_is : j.ledger ≡ ledger m.aim claims 0 no_ledger outcomes parts
 
@@ -134,7 +127,7 @@ pub record RefusesPart (m : Model) (parts : List StreamPart) (part : StreamPart)
   pub part_is : part ≡ BlockPart (block_of block)
   pub number_is : number ≡ suc (length (blocks_in parts))
   pub not_memory : e ≢ Memory
-  pub refused : IsBlockRefusal m (located_block block) e
+  pub refused : IsBlockRefusal m block e
 
 -- that is why the next part is not told, or memory ran out
 abbrev pub IsUntold : Model → List StreamPart → StreamPart → CheckError → Type 0

@@ -2,7 +2,7 @@
 
 ghost use Rattle.std.specs.Prelude.{◌≡◌, ◌+◌, ◌<◌, None, IfOk, IfErr, OnOk};
 ghost use Rattle.fz_judge.specs.of_filling.Verdict.{answer_by};
-ghost use Rattle.fz_judge.specs.of_filling.BlockView.{located_block};
+ghost use Rattle.fz_judge.specs.of_stream.Found.{block_of};
 ghost use Rattle.fz_judge.specs.of_filling.View.{verdict_view};
 ghost use Rattle.fz_check.specs.Claims.{IsOutcome, answer_with, behind_block, behind_claim, claim_refutation, is_satisfied, late_refuted, no_ledger};
 ghost use Rattle.fz_check.specs.Telling.{IsUnjudged, JudgesOneMore};
@@ -58,10 +58,10 @@ impl<'m, 'a, 'k> Jury<'m, 'a, 'k> {
     ) -> Result<Verdict<'a>, CheckError>
         requires { self.old.tally.blocks < usize.MAX }
         ensures judged { IfOk result (λ v. JudgesOneMore self.old self.new
-            (located_block block.now) (verdict_view v)) }
+            (block_of block.now) (verdict_view v)) }
         ensures outcome { IfOk result (λ v. IsOutcome self.old.judge.completion
             self.old.judge.model self.old.judge.before self.old.judge.found
-            (located_block block.now) (record {
+            (block_of block.now) (record {
               verdict = verdict_view v;
               filled = self.new.judge.before;
               found = self.new.judge.found;

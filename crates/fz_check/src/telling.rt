@@ -79,7 +79,7 @@ fn tell_part<T: Taker>(
     requires { jury.old.tally.blocks < usize.MAX }
     ensures told { OnOk result ((claims : Claims) (c : Completion) (m : PlainModel)
         (parts : List StreamPart) (outcomes : List Outcome)
-        → HasTold claims c m jury.old parts outcomes → HasPlacesOfItems part.now
+        → HasTold claims c m jury.old parts outcomes
         → TellsOneMore claims T.text c m jury.new parts outcomes (part_of part.now)
         line.new.items) }
     ensures counted { OnOk result (jury.new.tally.blocks ≤ jury.old.tally.blocks + 1) }

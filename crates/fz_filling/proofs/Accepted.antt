@@ -1,6 +1,6 @@
 -- Where the verdict is satisfied for a partial assignment, that partial assignment is a whole one,
 -- which extends the block and is a solution; and a run of satisfied blocks has solutions in turn.
-use Rattle.std.proofs.Common.{◌≡◌, ℕ, suc, zero, ◌≤◌, ℤ, T, Bool, true, false, cond, List, [], ◌∷◌, ◌++◌, length, length-append, append_assoc, Option, Some, None, refl, sym, ap, subst, subst₂, ◌∙◌, flat_map, arith, int_lt}
+use Rattle.std.proofs.Common.{◌≡◌, ℕ, suc, zero, ◌≤◌, ℤ, T, Bool, true, false, cond, List, [], ◌∷◌, ◌++◌, length, map, length-append, append_assoc, Option, Some, None, refl, sym, ap, subst, subst₂, ◌∙◌, flat_map, arith, int_lt}
 use Rattle.std.specs.Prelude.{⊤, ◌<ℤ◌}
 use Rattle.std.specs.List.{AllByRecursion, list_any}
 use Rattle.std.specs.Option.{option_map_or, option_or, option_and_then}
@@ -23,7 +23,9 @@ use Rattle.fz_index.proofs.of_model.Scope.{kind_of_term, HasNumberKind, AimsAtNu
 use Rattle.fz_index.proofs.of_model.States.{intro, judged_holds, point_holds}
 use Rattle.fz_index.proofs.of_model.Steps.{as_number_of}
 use Rattle.fz_index.proofs.of_model.Values.{no, no', same_value_is, same_values_is}
-use Rattle.fz_filling.specs.Solutions.{Printed, PrintedValue, Block, Extends, HasPrinted, printed_values, IsBetter, SolveInTurn}
+use Rattle.fz_stream.specs.Parts.{SolutionBlock}
+use Rattle.fz_stream.specs.of_syntax.Tree.{Printed, PrintedValue}
+use Rattle.fz_filling.specs.Solutions.{Extends, HasPrinted, IsBetter, SolveInTurn}
 use Rattle.fz_filling.specs.Verdict.{Verdict, Fault, Reason, verdict, verdict_by, has_printed, printed_fails, fault_at, reason_at, point_fails, point_undecided, objective_fails, not_better_if, AreJudged, answer_of, answer_by, first_number, is_violated, is_undecided}
 use Rattle.fz_filling.specs.Verdict.Verdict.{Satisfied, Violated, Undecided}
 use Rattle.fz_filling.specs.Verdict.Fault.{PrintedFault}
@@ -124,11 +126,11 @@ by_some t (Some x) e = (x, refl, e)
 place_printed : (K : Partial) (p : Place) (v : PrintedValue) → has_printed K p v ≡ true
     → HasPrinted K p v
 place_printed K (Scalar k t) (PrintedValue.OneValue l) e =
-    let (u, is, same) = by_some (λ v. same_value v (literal_value l.what)) (value K t) e in is ∙ ap Some (same_value_is u (literal_value l.what) same)
+    let (u, is, same) = by_some (λ v. same_value v (literal_value l)) (value K t) e in is ∙ ap Some (same_value_is u (literal_value l) same)
 place_printed K (Scalar k t) (PrintedValue.ArrayOf is ls) e = no e
 place_printed K (Array name k ts) (PrintedValue.OneValue l) e = no e
 place_printed K (Array name k ts) (PrintedValue.ArrayOf is ls) e =
-    let (us, are, same) = by_some (λ vs. same_values vs (printed_values ls)) (values K ts) e in are ∙ ap Some (same_values_is us (printed_values ls) same)
+    let (us, are, same) = by_some (λ vs. same_values vs (map literal_value ls)) (values K ts) e in are ∙ ap Some (same_values_is us (map literal_value ls) same)
 
 passes_printed : (b : Bool) (f : Fault) → cond b None (Some f) ≡ None → b ≡ true
 passes_printed true f e = refl
@@ -138,13 +140,13 @@ pub prints_all : (m : Model) (K : Partial) (items : List Printed)
     → AllByRecursion (λ i. printed_fails m K i ≡ None) items → Prints m K items
 prints_all m K [] h = tt
 prints_all m K (i ∷ block) h =
-    let (p, found, has) = by_some (λ p. has_printed K p i.value) (find_name m i.name.text) (passes_printed _ (PrintedFault i.name.text) h.0) in
-    (intro (λ p. HasPrinted K p i.value) (find_name m i.name.text) p found (place_printed K p i.value has), prints_all m K block h.1)
+    let (p, found, has) = by_some (λ p. has_printed K p i.value) (find_name m i.name) (passes_printed _ (PrintedFault i.name) h.0) in
+    (intro (λ p. HasPrinted K p i.value) (find_name m i.name) p found (place_printed K p i.value has), prints_all m K block h.1)
 
 -- ---- a satisfied block
 
 -- what a satisfied block gives
-pub record Satisfies (m : Model) (K : Partial) (block : Block) (before : Option ℤ) : Type 0 where
+pub record Satisfies (m : Model) (K : Partial) (block : SolutionBlock) (before : Option ℤ) : Type 0 where
   pub assignment : Assignment
   pub is : whole assignment ≡ K
   pub extends : Extends m assignment block
@@ -153,7 +155,7 @@ pub record Satisfies (m : Model) (K : Partial) (block : Block) (before : Option 
 
 -- Where the verdict is satisfied, the partial assignment is an assignment that extends the block
 -- and is a solution.
-pub satisfied_solves : (m : Model) (K : Partial) (block : Block) (before : Option ℤ) → IsPartial m K
+pub satisfied_solves : (m : Model) (K : Partial) (block : SolutionBlock) (before : Option ℤ) → IsPartial m K
     → verdict m K block before ≡ Satisfied → Satisfies m K block before
 satisfied_solves m K block before partial e =
     let (no_fault, no_reason) = neither (option_or (first_some (printed_fails m K) block.items) (option_or (first_some (point_fails K) (points m)) (objective_fails m.aim before (objective m K)))) (first_some (point_undecided m K) (points m)) e in
@@ -173,7 +175,7 @@ satisfied_solves m K block before partial e =
     }
 
 -- a satisfied block is satisfied after any objective that its own is better than
-pub satisfied_after : (m : Model) (K : Partial) (block : Block) (before found : Option ℤ)
+pub satisfied_after : (m : Model) (K : Partial) (block : SolutionBlock) (before found : Option ℤ)
     → verdict m K block before ≡ Satisfied → objective_fails m.aim found (objective m K) ≡ None
     → verdict m K block found ≡ Satisfied
 satisfied_after m K block before found e better =
@@ -225,7 +227,7 @@ BeforeIs m None before = ⊤
 BeforeIs m (Some A) before = IsAssignment m A × (before ≡ objective m (whole A))
 
 in_turn : (m : Model) → AimsAtNumber m
-    → (earlier : Option Assignment) {before : Option ℤ} {blocks : List Block} {vs : List Verdict}
+    → (earlier : Option Assignment) {before : Option ℤ} {blocks : List SolutionBlock} {vs : List Verdict}
     → BeforeIs m earlier before → AreJudged m (λ b K. IsPartial m K) before blocks vs
     → AllByRecursion (λ v. v ≡ Satisfied) vs → (as' : List Assignment) × SolveInTurn m earlier blocks as'
 in_turn m number None was NoneLeft h = ([], tt)
@@ -272,14 +274,14 @@ all_satisfied vs n e =
 
 -- there is one verdict for each block
 pub judged_lengths : (m : Model)
-    (P : Block → Partial → Type 0) {before : Option ℤ} {blocks : List Block} {vs : List Verdict}
+    (P : SolutionBlock → Partial → Type 0) {before : Option ℤ} {blocks : List SolutionBlock} {vs : List Verdict}
     → AreJudged m P before blocks vs → length blocks ≡ length vs
 judged_lengths m P NoneLeft = refl
 judged_lengths m P (OneMore K proposed rest) = ap suc (judged_lengths m P rest)
 
 -- Where the answer is accepted, the model has solutions for its blocks in turn, and there is one
 -- block at least for each verdict.
-pub accepted_solves : (m : Model) (blocks : List Block) (vs : List Verdict) (n : ℕ) → AimsAtNumber m
+pub accepted_solves : (m : Model) (blocks : List SolutionBlock) (vs : List Verdict) (n : ℕ) → AimsAtNumber m
     → AreJudged m (λ b K. IsPartial m K) None blocks vs → answer_of vs ≡ Accepted n
     → ((as' : List Assignment) × SolveInTurn m None blocks as') × (length blocks ≡ n) × (1 ≤ n)
 accepted_solves m blocks vs n number are e =

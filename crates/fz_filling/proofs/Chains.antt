@@ -1,5 +1,5 @@
 -- A known-solution that extends a block agrees with each value that the filling gives.
-use Rattle.std.proofs.Common.{◌≡◌, ℕ, suc, zero, ◌+◌, true, false, cond, List, [], ◌∷◌, Option, Some, None, refl, sym, ap, subst, ◌∙◌, option_map, IsTrue, ◌⊎◌, inl, inr, IfSome, IsSomeAnd, arith, flat_map, take, drop, ◌==◌, add-zero, zero-add, eqb-true}
+use Rattle.std.proofs.Common.{◌≡◌, ℕ, suc, zero, ◌+◌, true, false, cond, List, [], ◌∷◌, map, Option, Some, None, refl, sym, ap, subst, ◌∙◌, option_map, IsTrue, ◌⊎◌, inl, inr, IfSome, IsSomeAnd, arith, flat_map, take, drop, ◌==◌, add-zero, zero-add, eqb-true}
 use Rattle.std.specs.List.{AllByRecursion, enumerate_from}
 use Rattle.std.specs.Option.{option_map_or, option_or}
 use Rattle.fz_index.specs.of_model.of_base.declared.value.Value.{Value}
@@ -25,7 +25,10 @@ use Rattle.fz_index.proofs.of_model.Powers.{power_known, row_power}
 use Rattle.fz_index.proofs.of_model.States.{intro}
 use Rattle.fz_index.proofs.of_model.Under.{arguments_under, assigned, some_and, value_under}
 use Rattle.fz_index.proofs.of_model.Steps.{some_of, PointFits, only_open_none, only_value, option_cons_parts, map_some}
-use Rattle.fz_filling.specs.Solutions.{Block, Printed, PrintedValue, Extends, HasPrinted, printed_values}
+use Rattle.fz_stream.specs.Parts.{SolutionBlock}
+use Rattle.fz_stream.specs.of_syntax.Tree.{Printed, PrintedValue}
+use Rattle.fz_filling.specs.Solutions.{Extends, HasPrinted}
+use Rattle.fz_index.specs.of_model.Names.{literal_value}
 use Rattle.fz_filling.specs.Filling.{IsFirstStep, Chain, counted_from, Further, IsFilling, pairs, pairs_at, printed_scalars, first_printed, start_from, start}
 use Rattle.fz_filling.specs.Filling.Chain.{Ends, Step}
 use Rattle.fz_filling.specs.Filling.Further.{Stays, Goes}
@@ -196,7 +199,7 @@ place_agrees : (K : Partial) (p : Place) (printed : PrintedValue) → HasPrinted
 place_agrees K (Scalar k t) (PrintedValue.OneValue l) h = (h, tt)
 place_agrees K (Scalar k t) (PrintedValue.ArrayOf is ls) h = absurd h
 place_agrees K (Array name k ts) (PrintedValue.OneValue l) h = absurd h
-place_agrees K (Array name k ts) (PrintedValue.ArrayOf is ls) h = pairs_agree K ts (printed_values ls) h
+place_agrees K (Array name k ts) (PrintedValue.ArrayOf is ls) h = pairs_agree K ts (map literal_value ls) h
 
 item_agrees : (K : Partial) (o : Option Place) (printed : PrintedValue)
     → IsSomeAnd o (λ p. HasPrinted K p printed)
@@ -206,13 +209,13 @@ item_agrees K (Some p) printed h = place_agrees K p printed h
 
 -- each printed name has the printed value, as where an assignment extends the block
 abbrev pub Prints : Model → Partial → List Printed → Type 0
-Prints m K items = AllByRecursion (λ i. IsSomeAnd (find_name m i.name.text) (λ p. HasPrinted K p i.value)) items
+Prints m K items = AllByRecursion (λ i. IsSomeAnd (find_name m i.name) (λ p. HasPrinted K p i.value)) items
 
 pub printed_agree : (m : Model) (K : Partial) (items : List Printed) → Prints m K items
     → AllByRecursion (Agrees K) (printed_scalars m items)
 printed_agree m K [] h = tt
 printed_agree m K (i ∷ block) h =
-    all_append (Agrees K) (option_map_or (λ p. pairs_at p i.value) (find_name m i.name.text) []) (printed_scalars m block) (item_agrees K (find_name m i.name.text) i.value h.0) (printed_agree m K block h.1)
+    all_append (Agrees K) (option_map_or (λ p. pairs_at p i.value) (find_name m i.name) []) (printed_scalars m block) (item_agrees K (find_name m i.name) i.value h.0) (printed_agree m K block h.1)
 
 -- the value where a variable is printed first is one of those printed
 first_agrees : (K : Partial) (qs : List (Term × Value)) (n : ℕ) (v : Value)
@@ -231,12 +234,12 @@ start_is qs n [] k v e = cc
 start_is qs n (x ∷ xs) zero v e = ap (first_printed qs) (add-zero n) ∙ e
 start_is qs n (x ∷ xs) (suc k) v e = let count : n + suc k ≡ suc n + k = omega arith in ap (first_printed qs) count ∙ start_is qs (suc n) xs k v e
 
-start_agrees : (m : Model) (A : Assignment) (block : Block) → Extends m A block
+start_agrees : (m : Model) (A : Assignment) (block : SolutionBlock) → Extends m A block
     → HasEach (start m block) (whole A)
 start_agrees m A block h n v e = first_agrees (whole A) (printed_scalars m block.items) n v (printed_agree m (whole A) block.items h) (ap (first_printed (printed_scalars m block.items)) (sym (zero-add n)) ∙ start_is (printed_scalars m block.items) 0 (variables_of m) n v e)
 
 -- a known-solution that extends a block agrees with its filling
-pub filling_agrees : (c : Completion) (m : Model) (A : Assignment) (block : Block) (F : Partial)
+pub filling_agrees : (c : Completion) (m : Model) (A : Assignment) (block : SolutionBlock) (F : Partial)
     → IsKnownSolution m A → Extends m A block → IsFilling c m block F → HasEach F (whole A)
 filling_agrees Off m A block F solution extends filling = chain_agrees m A solution (start_agrees m A block extends) filling
 filling_agrees On m A block G solution extends (F, chain, furthered) =

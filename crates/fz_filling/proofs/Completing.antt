@@ -10,8 +10,9 @@ use Rattle.fz_index.specs.of_model.States.{IsKnownSolution, PointName, shown_poi
 use Rattle.fz_index.specs.of_model.States.PointName.{DomainOf, DefinitionOf, ConstraintOf}
 use Rattle.fz_filling.specs.declared.completion.Completion.{Completion}
 use Rattle.fz_filling.specs.declared.completion.Completion.TheVariants.{Off, On}
-use Rattle.fz_filling.specs.Solutions.{Block, Extends}
-use Rattle.fz_filling.specs.Completed.{AreTold, AreVerdicts, IsCompleted, IsToldBy}
+use Rattle.fz_stream.specs.Parts.{SolutionBlock}
+use Rattle.fz_filling.specs.Solutions.{Extends}
+use Rattle.fz_filling.specs.Completed.{AreTold, AreVerdicts, IsToldBy}
 use Rattle.fz_filling.specs.Completed.IsCompleted.{Found, Refuted, AsFilled, NotBetterThanFound}
 use Rattle.fz_filling.specs.Completed.AreTold.{NoneLeft as NoneTold, OneMore as OneTold}
 use Rattle.fz_filling.specs.Verdict.{Verdict, Fault, verdict, fault_named, AreJudged, IsFilled, answer_of}
@@ -25,7 +26,7 @@ use Rattle.fz_filling.proofs.Starts.{filling_proposed}
 -- ---- one block
 
 -- no known-solution extends it
-abbrev pub HasNone : Model → Block → Type 0
+abbrev pub HasNone : Model → SolutionBlock → Type 0
 HasNone m block = (A : Assignment) → IsKnownSolution m A → Extends m A block → ⊥
 
 -- the fault of a point isn't that the objective is not better
@@ -38,10 +39,10 @@ named_is_point (DefinitionOf x) now before e = cc
 named_is_point (ConstraintOf k x) now before e = cc
 
 -- a block that is told violated is so under its filling, or by a point, and then none extends it
-abbrev pub IsViolated : Model → Block → Verdict → Fault → Type 0
+abbrev pub IsViolated : Model → SolutionBlock → Verdict → Fault → Type 0
 IsViolated m block w f = (w ≡ Violated f) ⊎ (IsPointFault f × HasNone m block)
 
-violated_told : (c : Completion) (m : Model) (block : Block) (before : Option ℤ) (F : Partial)
+violated_told : (c : Completion) (m : Model) (block : SolutionBlock) (before : Option ℤ) (F : Partial)
     (w v : Verdict) (kept : Option ℤ) (f : Fault) → IsToldBy c m block before F w v kept
     → v ≡ Violated f → IsViolated m block w f
 violated_told Off m block before F w v kept f is e = inl (sym is ∙ e)
@@ -58,13 +59,13 @@ compared Off filled found = filled
 compared On filled found = found
 
 -- the values under which a block that is told satisfied is satisfied
-pub record SatisfiedUnder (c : Completion) (m : Model) (block : Block) (F : Partial) (filled found kept : Option ℤ) : Type 0 where
+pub record SatisfiedUnder (c : Completion) (m : Model) (block : SolutionBlock) (F : Partial) (filled found kept : Option ℤ) : Type 0 where
   pub values : Partial
   pub partial : IsPartial m values
   pub satisfied : verdict m values block (compared c filled found) ≡ Satisfied
   pub kept_is : objective m values ≡ compared c (objective m F) kept
 
-pub satisfied_under : (c : Completion) (m : Model) (block : Block) (F : Partial)
+pub satisfied_under : (c : Completion) (m : Model) (block : SolutionBlock) (F : Partial)
     (filled found kept : Option ℤ) (w v : Verdict) → IsPartial m F → w ≡ verdict m F block filled
     → IsToldBy c m block found F w v kept → v ≡ Satisfied
     → SatisfiedUnder c m block F filled found kept
@@ -77,29 +78,29 @@ satisfied_under On m block F filled found kept w v partial under (NotBetterThanF
 -- ---- all blocks
 
 pub told_lengths : (c : Completion)
-    (m : Model) {filled found : Option ℤ} {blocks : List Block} {vs : List Verdict}
+    (m : Model) {filled found : Option ℤ} {blocks : List SolutionBlock} {vs : List Verdict}
     → AreTold c m filled found blocks vs → length blocks ≡ length vs
 told_lengths c m NoneTold = refl
 told_lengths c m (OneTold F is_filled is rest) = ap suc (told_lengths c m rest)
 
 -- where all are told satisfied, they are judged so under some values
 pub told_judged : (c : Completion) (t : LocatedTree) → HasNoFault t
-    → {filled found : Option ℤ} {blocks : List Block} {vs : List Verdict}
+    → {filled found : Option ℤ} {blocks : List SolutionBlock} {vs : List Verdict}
     → AreTold c (model_of t) filled found blocks vs → AllByRecursion (λ v. v ≡ Satisfied) vs
     → AreJudged (model_of t) (λ b K. IsPartial (model_of t) K) (compared c filled found) blocks vs
 told_judged c t sound NoneTold h = NoneLeft
 told_judged c t sound (OneTold {filled = filled} {found = found} {kept = kept} {block = block} {blocks = blocks} {v = v} {vs = vs} F is_filled is rest) h =
     let m = model_of t in
-    let P : Block → Partial → Type 0 = λ b K. IsPartial (model_of t) K in
+    let P : SolutionBlock → Partial → Type 0 = λ b K. IsPartial (model_of t) K in
     let s : SatisfiedUnder c m block F filled found kept = satisfied_under c m block F filled found kept _ v (filling_proposed c t block F sound is_filled).partial refl is h.0 in
     let others : AreJudged m P (objective m s.values) blocks vs = subst (λ o. AreJudged m P o blocks vs) (sym s.kept_is) (told_judged c t sound rest h.1) in
     subst (λ u. AreJudged m P (compared c filled found) (block ∷ blocks) (u ∷ vs)) (s.satisfied ∙ sym h.0) (OneMore s.values s.partial others)
 
 -- one that is told satisfied has a solution
 pub told_solved : (c : Completion) (t : LocatedTree) → HasNoFault t
-    → {filled found : Option ℤ} {blocks : List Block} {vs : List Verdict}
+    → {filled found : Option ℤ} {blocks : List SolutionBlock} {vs : List Verdict}
     → AreTold c (model_of t) filled found blocks vs
-    → (i : ℕ) (block : Block) → slice_get blocks i ≡ Some block → slice_get vs i ≡ Some Satisfied → (A : Assignment) × Extends (model_of t) A block × IsSolution (model_of t) A
+    → (i : ℕ) (block : SolutionBlock) → slice_get blocks i ≡ Some block → slice_get vs i ≡ Some Satisfied → (A : Assignment) × Extends (model_of t) A block × IsSolution (model_of t) A
 told_solved c t sound NoneTold i block at is = cc
 told_solved c t sound (OneTold {filled = filled} {found = found} {kept = kept} {block = b} {v = v} F is_filled is_told rest) zero block at is =
     let m = model_of t in
@@ -111,18 +112,18 @@ told_solved c t sound (OneTold {filled = filled} {found = found} {kept = kept} {
 told_solved c t sound (OneTold F is_filled is_told rest) (suc i) block at is = told_solved c t sound rest i block at is
 
 -- the verdicts under the fillings beside those that are told
-pub record FilledVerdicts (c : Completion) (m : Model) (filled : Option ℤ) (blocks : List Block) (vs : List Verdict) : Type 0 where
+pub record FilledVerdicts (c : Completion) (m : Model) (filled : Option ℤ) (blocks : List SolutionBlock) (vs : List Verdict) : Type 0 where
   pub verdicts : List Verdict
   pub judged : AreJudged m (IsFilled c m) filled blocks verdicts
-  pub violated : (i : ℕ) (block : Block) (f : Fault) → slice_get blocks i ≡ Some block
+  pub violated : (i : ℕ) (block : SolutionBlock) (f : Fault) → slice_get blocks i ≡ Some block
       → slice_get vs i ≡ Some (Violated f)
       → (slice_get verdicts i ≡ Some (Violated f)) ⊎ (IsPointFault f × HasNone m block)
 
-violated_at : (c : Completion) (m : Model) (b : Block) (blocks : List Block) (before : Option ℤ)
+violated_at : (c : Completion) (m : Model) (b : SolutionBlock) (blocks : List SolutionBlock) (before : Option ℤ)
     (F : Partial) (w v : Verdict) (kept : Option ℤ) (vs ws : List Verdict)
     → IsToldBy c m b before F w v kept
-    → ((i : ℕ) (block : Block) (f : Fault) → slice_get blocks i ≡ Some block → slice_get vs i ≡ Some (Violated f) → (slice_get ws i ≡ Some (Violated f)) ⊎ (IsPointFault f × HasNone m block))
-    → (i : ℕ) (block : Block) (f : Fault) → slice_get (b ∷ blocks) i ≡ Some block → slice_get (v ∷ vs) i ≡ Some (Violated f) → (slice_get (w ∷ ws) i ≡ Some (Violated f)) ⊎ (IsPointFault f × HasNone m block)
+    → ((i : ℕ) (block : SolutionBlock) (f : Fault) → slice_get blocks i ≡ Some block → slice_get vs i ≡ Some (Violated f) → (slice_get ws i ≡ Some (Violated f)) ⊎ (IsPointFault f × HasNone m block))
+    → (i : ℕ) (block : SolutionBlock) (f : Fault) → slice_get (b ∷ blocks) i ≡ Some block → slice_get (v ∷ vs) i ≡ Some (Violated f) → (slice_get (w ∷ ws) i ≡ Some (Violated f)) ⊎ (IsPointFault f × HasNone m block)
 violated_at c m b blocks before F w v kept vs ws is_told others zero block f at is =
     let same : b ≡ block = cc in
     elim (violated_told c m b before F w v kept f is_told cc) [
@@ -132,7 +133,7 @@ violated_at c m b blocks before F w v kept vs ws is_told others zero block f at 
 violated_at c m b blocks before F w v kept vs ws is_told others (suc i) block f at is = others i block f at is
 
 pub filled_verdicts : (c : Completion)
-    (m : Model) {filled found : Option ℤ} {blocks : List Block} {vs : List Verdict}
+    (m : Model) {filled found : Option ℤ} {blocks : List SolutionBlock} {vs : List Verdict}
     → AreTold c m filled found blocks vs → FilledVerdicts c m filled blocks vs
 filled_verdicts c m NoneTold = record { verdicts = []; judged = NoneLeft; violated = λ i block f at is. inl is }
 filled_verdicts c m (OneTold {filled = filled} {found = found} {kept = kept} {block = block} {blocks = blocks} {v = v} {vs = vs} F is_filled is_told rest) =
@@ -145,7 +146,7 @@ filled_verdicts c m (OneTold {filled = filled} {found = found} {kept = kept} {bl
 
 -- where a report accepts, its blocks are judged under some values
 pub accepted_judged : (c : Completion) (t : LocatedTree) → HasNoFault t
-    → (blocks : List Block) (vs : List Verdict) (n : ℕ) → AreVerdicts c (model_of t) blocks vs
+    → (blocks : List SolutionBlock) (vs : List Verdict) (n : ℕ) → AreVerdicts c (model_of t) blocks vs
     → answer_of vs ≡ Accepted n
     → AreJudged (model_of t) (λ b K. IsPartial (model_of t) K) None blocks vs
 accepted_judged Off t sound blocks vs n told answer = told_judged Off t sound told (all_satisfied vs n answer)

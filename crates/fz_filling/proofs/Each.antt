@@ -4,7 +4,8 @@ use Rattle.fz_index.specs.of_model.Located.{LocatedTree}
 use Rattle.fz_index.specs.of_model.Meaning.{Model, Partial, Assignment, objective, IsSolution}
 use Rattle.fz_index.specs.of_model.States.{IsKnownSolution}
 use Rattle.fz_index.specs.of_model.Names.{HasNoFault, model_of}
-use Rattle.fz_filling.specs.Solutions.{Block, Extends, Improves}
+use Rattle.fz_stream.specs.Parts.{SolutionBlock}
+use Rattle.fz_filling.specs.Solutions.{Extends, Improves}
 use Rattle.fz_filling.specs.declared.completion.Completion.{Completion}
 use Rattle.fz_filling.specs.Completed.{AreVerdicts}
 use Rattle.fz_filling.specs.Verdict.{Verdict, Fault, verdict, AreJudged, IsFilled}
@@ -16,9 +17,9 @@ use Rattle.fz_filling.proofs.Violated.{violated_has_none, not_better_has_none, i
 
 -- the block before the one at an index, and what was proposed for it, under which it has the
 -- objective
-record BlockBefore (m : Model) (P : Block → Partial → Type 0) (blocks : List Block) (i : ℕ) (kept : Option ℤ) : Type 0 where
+record BlockBefore (m : Model) (P : SolutionBlock → Partial → Type 0) (blocks : List SolutionBlock) (i : ℕ) (kept : Option ℤ) : Type 0 where
   place : ℕ
-  block : Block
+  block : SolutionBlock
   follows : i ≡ suc place
   at : slice_get blocks place ≡ Some block
   proposed : Partial
@@ -26,17 +27,17 @@ record BlockBefore (m : Model) (P : Block → Partial → Type 0) (blocks : List
   kept_is : kept ≡ objective m proposed
 
 -- how the block at an index of the list was judged
-record JudgedAt (m : Model) (P : Block → Partial → Type 0) (before : Option ℤ) (blocks : List Block) (i : ℕ) (block : Block) (v : Verdict) : Type 0 where
+record JudgedAt (m : Model) (P : SolutionBlock → Partial → Type 0) (before : Option ℤ) (blocks : List SolutionBlock) (i : ℕ) (block : SolutionBlock) (v : Verdict) : Type 0 where
   kept : Option ℤ
   proposed : Partial
   is_proposed : P block proposed
   is : verdict m proposed block kept ≡ v
   kept_from : ((i ≡ zero) × (kept ≡ before)) ⊎ BlockBefore m P blocks i kept
 
-judged_at : (m : Model) (P : Block → Partial
-    → Type 0) {before : Option ℤ} {blocks : List Block} {vs : List Verdict}
+judged_at : (m : Model) (P : SolutionBlock → Partial
+    → Type 0) {before : Option ℤ} {blocks : List SolutionBlock} {vs : List Verdict}
     → AreJudged m P before blocks vs
-    → (i : ℕ) (block : Block) (v : Verdict) → slice_get blocks i ≡ Some block → slice_get vs i ≡ Some v → JudgedAt m P before blocks i block v
+    → (i : ℕ) (block : SolutionBlock) (v : Verdict) → slice_get blocks i ≡ Some block → slice_get vs i ≡ Some v → JudgedAt m P before blocks i block v
 judged_at m P NoneLeft i block v at is = cc
 judged_at m P (OneMore {before = before} {block = b} K proposed rest) zero block v at is =
     let same : b ≡ block = cc in
@@ -57,8 +58,8 @@ judged_at m P (OneMore {before = before} {block = b} K proposed rest) (suc i) bl
 
 -- Block number i, counted from 0, that is violated by anything but its objective is extended by no
 -- known-solution.
-pub each_violated : (c : Completion) (m : Model) (blocks : List Block) (vs : List Verdict) (i : ℕ)
-    (block : Block) (f : Fault) → AreVerdicts c m blocks vs → slice_get blocks i ≡ Some block
+pub each_violated : (c : Completion) (m : Model) (blocks : List SolutionBlock) (vs : List Verdict) (i : ℕ)
+    (block : SolutionBlock) (f : Fault) → AreVerdicts c m blocks vs → slice_get blocks i ≡ Some block
     → slice_get vs i ≡ Some (Violated f)
     → ((now earlier : ℤ) → f ≡ NotBetter now earlier → ⊥) → (A : Assignment) → IsKnownSolution m A → Extends m A block → ⊥
 each_violated c m blocks vs i block f are at is other =
@@ -72,10 +73,10 @@ each_violated c m blocks vs i block f are at is other =
 
 -- Where it is violated by its objective, there is a block before it, and no two known-solutions
 -- that extend the two improve.
-pub each_not_better : (c : Completion) (m : Model) (blocks : List Block) (vs : List Verdict) (i : ℕ)
-    (block : Block) (now before : ℤ) → AreVerdicts c m blocks vs → slice_get blocks i ≡ Some block
+pub each_not_better : (c : Completion) (m : Model) (blocks : List SolutionBlock) (vs : List Verdict) (i : ℕ)
+    (block : SolutionBlock) (now before : ℤ) → AreVerdicts c m blocks vs → slice_get blocks i ≡ Some block
     → slice_get vs i ≡ Some (Violated (NotBetter now before))
-    → (j : ℕ) × (earlier : Block) × (i ≡ suc j) × (slice_get blocks j ≡ Some earlier)
+    → (j : ℕ) × (earlier : SolutionBlock) × (i ≡ suc j) × (slice_get blocks j ≡ Some earlier)
     × ((A B : Assignment) → IsKnownSolution m A → Extends m A earlier → IsKnownSolution m B → Extends m B block → Improves m (Some A) B → ⊥)
 each_not_better c m blocks vs i block now before are at is =
     let w : FilledVerdicts c m None blocks vs = filled_verdicts c m are in
@@ -96,8 +97,8 @@ each_not_better c m blocks vs i block now before are at is =
     ]
 
 -- Block number i that is satisfied has a solution that extends it.
-pub each_satisfied : (c : Completion) (t : LocatedTree) (blocks : List Block) (vs : List Verdict)
-    (i : ℕ) (block : Block) → HasNoFault t → AreVerdicts c (model_of t) blocks vs
+pub each_satisfied : (c : Completion) (t : LocatedTree) (blocks : List SolutionBlock) (vs : List Verdict)
+    (i : ℕ) (block : SolutionBlock) → HasNoFault t → AreVerdicts c (model_of t) blocks vs
     → slice_get blocks i ≡ Some block
     → slice_get vs i ≡ Some Satisfied → (A : Assignment) × Extends (model_of t) A block × IsSolution (model_of t) A
 each_satisfied c t blocks vs i block sound are at is = told_solved c t sound are i block at is

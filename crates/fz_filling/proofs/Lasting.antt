@@ -25,7 +25,7 @@ use Rattle.fz_filling.specs.Filling.{Chain, Further, printed_scalars, start, sta
 use Rattle.fz_filling.specs.Filling.Chain.{Ends, Step}
 use Rattle.fz_filling.specs.Filling.Further.{Stays, Goes}
 use Rattle.fz_filling.specs.Outlooks.{Agree}
-use Rattle.fz_filling.specs.Solutions.{Block}
+use Rattle.fz_stream.specs.Parts.{SolutionBlock}
 use Rattle.fz_filling.specs.Verdict.{Fault, Verdict, Reason, fault_at, objective_fails, point_fails, point_undecided, printed_fails, verdict, verdict_by}
 use Rattle.fz_filling.specs.Verdict.Verdict.{Violated}
 use Rattle.fz_filling.proofs.Accepted.{first_none, prints_all}
@@ -136,7 +136,7 @@ by_faults a b c None None None r r' f printed point worse e =
     let none : option_or a (option_or b c) ≡ None = λ i. option_or (printed refl i) (option_or (point refl i) (worse refl i)) in
     absurd cc
 
-still_violated : (m : Model) (block : Block) (F G : Partial) (before after : Option ℤ) (f : Fault)
+still_violated : (m : Model) (block : SolutionBlock) (F G : Partial) (before after : Option ℤ) (f : Fault)
     → length G ≡ length (variables_of m) → HasEach F G → HasEach (start m block) F
     → HasIts before after → verdict m F block before ≡ Violated f → (g : Fault) × (verdict m G block after ≡ Violated g)
 still_violated m block F G before after f as_many under grows its e =
@@ -166,14 +166,14 @@ further_length m (Goes {K = K} {n = n} {v = v} k p at gives rest) = further_leng
 
 -- ---- the verdicts of a report for which values are looked for, beside those of one for which not
 
-record Beside (m : Model) (before : Option ℤ) (blocks : List Block) (vs : List Verdict) : Type 0 where
+record Beside (m : Model) (before : Option ℤ) (blocks : List SolutionBlock) (vs : List Verdict) : Type 0 where
   verdicts : List Verdict
   told : (found : Option ℤ) → AreTold Off m before found blocks verdicts
   one_each : length verdicts ≡ length vs
   violated : (i : ℕ) (f : Fault) → slice_get verdicts i ≡ Some (Violated f)
       → (g : Fault) × (slice_get vs i ≡ Some (Violated g))
 
-told_violated : (m : Model) (block : Block) (before : Option ℤ) (G : Partial) (w v : Verdict)
+told_violated : (m : Model) (block : SolutionBlock) (before : Option ℤ) (G : Partial) (w v : Verdict)
     (kept : Option ℤ) (g : Fault) → IsCompleted m block before G w v kept → w ≡ Violated g
     → v ≡ Violated g
 told_violated m block before G w v kept g (Found K lacks partial satisfied) e = absurd (subst LacksValuesAtMost e lacks)
@@ -181,7 +181,7 @@ told_violated m block before G w v kept g (Refuted k p at none) e = cc
 told_violated m block before G w v kept g (AsFilled other) e = e
 told_violated m block before G w v kept g (NotBetterThanFound fails) e = cc
 
-beside : (m : Model) {filled found : Option ℤ} {blocks : List Block} {vs : List Verdict}
+beside : (m : Model) {filled found : Option ℤ} {blocks : List SolutionBlock} {vs : List Verdict}
     → AreTold On m filled found blocks vs → (before : Option ℤ) → HasIts before filled
     → Beside m before blocks vs
 beside m NoneLeft before its = record { verdicts = []; told = λ found. NoneLeft; one_each = refl; violated = λ i f is. absurd cc }
@@ -192,7 +192,7 @@ beside m (OneMore {filled = filled} {found = found} {kept = kept} {block = block
     let as_many : length G ≡ length (variables_of m) = further_length m furthered.reached ∙ chain_length m chain ∙ start_length (printed_scalars m block.items) 0 (variables_of m) in
     record {
       verdicts = verdict m F block before ∷ others.verdicts;
-      told = λ _. OneMore F (record { no_fault = is_filled.no_fault; filling = chain }) refl (others.told None);
+      told = λ _. OneMore F (record { fits = is_filled.fits; filling = chain }) refl (others.told None);
       one_each = ap suc others.one_each;
       violated = by_place F under as_many (filling_grows Off m block F chain) others;
     }
@@ -205,7 +205,7 @@ beside m (OneMore {filled = filled} {found = found} {kept = kept} {block = block
         (g, ap Some (told_violated m block found G (verdict m G block filled) v kept g is_told e))
     by_place F under as_many grows others (suc i) f is = others.violated i f is
 
-pub keeps_verdicts : (m : Model) (blocks : List Block) (vs : List Verdict)
+pub keeps_verdicts : (m : Model) (blocks : List SolutionBlock) (vs : List Verdict)
     → AreVerdicts On m blocks vs
     → (ws : List Verdict) × AreVerdicts Off m blocks ws × (length ws ≡ length vs)
     × ((i : ℕ) (f : Fault) → slice_get ws i ≡ Some (Violated f) → (g : Fault) × (slice_get vs i ≡ Some (Violated g)))

@@ -7,7 +7,6 @@ pub mod Chains
 pub mod Unique
 pub mod Accepted
 pub mod Violated
-pub mod Places
 pub mod Completing
 pub mod Each
 pub mod Starts

@@ -3,8 +3,7 @@ use Rattle.std.proofs.Common.{◌≡◌, ℕ, zero, suc, ◌+◌, ◌<◌, min, 
 use Rattle.std.specs.List.{AllByRecursion}
 use Rattle.std.specs.Option.{option_or}
 use Rattle.fz_index.specs.of_model.Meaning.{first_some}
-use Rattle.fz_index.proofs.of_model.ScanSteps.{first_append, whole_at}
-use Rattle.fz_filling.proofs.Accepted.{or_none}
+use Rattle.fz_index.proofs.of_model.ScanSteps.{first_append, first_map, first_more, whole_at}
 
 -- at the end of the shorter one, a function that is the same for each empty list is at its end
 pub both_end : {A B R : Type 0} (h : List A → List B → R) (r : R) → ((ys : List B) → h [] ys ≡ r)
@@ -55,13 +54,16 @@ pub seen_is_some : {A B : Type 0} (v : B → A) (o : Option B) (p : Option A) (b
     → option_map v o ≡ p → is_some o ≡ b → is_some p ≡ b
 seen_is_some v o p b e h = ap is_some (sym e) ∙ map_is_some v o ∙ h
 
--- where nothing is answered of a list, nothing is answered of an element
-pub none_at : {A B C : Type 0} (f : B → Option C) (g : A → B) (xs : List A) (i : ℕ) (x : A)
-    → i < length xs → x ≡ get_or xs i x → first_some f (map g xs) ≡ None → f (g x) ≡ None
-none_at f g xs i x h e none =
-    let parts : option_or (first_some f (map g (take i xs))) (option_or (f (g x)) (first_some f (map g (drop (i + 1) xs)))) ≡ None =
-    sym (ap (first_some f) (whole_at g xs i x h e) ∙ first_append f (map g (take i xs)) (g x ∷ map g (drop (i + 1) xs))) ∙ none in
-    (or_none (f (g x)) (first_some f (map g (drop (i + 1) xs))) (or_none (first_some f (map g (take i xs))) (option_or (f (g x)) (first_some f (map g (drop (i + 1) xs)))) parts).1).0
+-- the same of elements that stand for themselves
+pub found_here : {A C : Type 0} (f : A → Option C) (xs : List A) (i : ℕ) (x : A) → i < length xs
+    → x ≡ get_or xs i x → first_some f (take i xs) ≡ None → is_some (f x) ≡ true
+    → first_some f xs ≡ f x
+found_here f xs i x h e none here = sym (first_map f (λ y. y) xs) ∙ first_found f (λ y. y) xs i x h e (first_map f (λ y. y) (take i xs) ∙ none) here
+
+pub none_more : {A C : Type 0} (f : A → Option C) (xs : List A) (i : ℕ) (x : A) → i < length xs
+    → x ≡ get_or xs i x → first_some f (take i xs) ≡ None → f x ≡ None
+    → first_some f (take (i + 1) xs) ≡ None
+none_more f xs i x h e none here = sym (first_map f (λ y. y) (take (i + 1) xs)) ∙ first_more f (λ y. y) xs i x h e (first_map f (λ y. y) (take i xs) ∙ none) here
 
 -- ---- what follows from what is said of a result
 

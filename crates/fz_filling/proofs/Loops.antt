@@ -7,7 +7,6 @@ use Rattle.fz_index.specs.of_model.of_base.declared.value.Value.{Value}
 use Rattle.fz_index.specs.of_model.Meaning.{Model, Partial, Point, points, objective}
 use Rattle.fz_index.specs.of_model.Steps.{Gives, GivesNothing}
 use Rattle.fz_index.proofs.of_model.Lists.{all_append}
-use Rattle.fz_filling.specs.Solutions.{Block}
 use Rattle.fz_filling.specs.Filling.{IsFirstStep}
 use Rattle.fz_filling.specs.declared.completion.Completion.{Completion}
 use Rattle.fz_filling.specs.Completed.{AreTold, AreVerdicts, IsToldBy}
@@ -22,17 +21,17 @@ append_nil (x ∷ xs) = ap (λ ys. x ∷ ys) (append_nil xs)
 
 -- ---- verdicts: what is judged after these blocks, with the objective kept, goes on from them
 
-abbrev pub GoesOn : Completion → Model → List Block → List Verdict → Option ℤ → Option ℤ → Type 0
-GoesOn c m blocks vs filled found = (more : List Block) (ws : List Verdict) → AreTold c m filled found more ws → AreVerdicts c m (blocks ++ more) (vs ++ ws)
+abbrev pub GoesOn : Completion → Model → List SolutionBlock → List Verdict → Option ℤ → Option ℤ → Type 0
+GoesOn c m blocks vs filled found = (more : List SolutionBlock) (ws : List Verdict) → AreTold c m filled found more ws → AreVerdicts c m (blocks ++ more) (vs ++ ws)
 
-pub goes_on_after : (c : Completion) (m : Model) (blocks : List Block) (vs : List Verdict)
-    (filled found kept : Option ℤ) (block : Block) (v : Verdict) (F : Partial)
+pub goes_on_after : (c : Completion) (m : Model) (blocks : List SolutionBlock) (vs : List Verdict)
+    (filled found kept : Option ℤ) (block : SolutionBlock) (v : Verdict) (F : Partial)
     → GoesOn c m blocks vs filled found → IsFilled c m block F → IsToldBy c m block found F (verdict m F block filled) v kept → GoesOn c m (blocks ++ block ∷ []) (vs ++ v ∷ []) (objective m F) kept
 goes_on_after c m blocks vs filled found kept block v F goes is_filled told = λ more ws rest.
     subst₂ (λ bs us. AreVerdicts c m bs us) (sym (append_assoc blocks (block ∷ []) more)) (sym (append_assoc vs (v ∷ []) ws))
     (goes (block ∷ more) (v ∷ ws) (OneMore F is_filled told rest))
 
-pub goes_on_judged : (c : Completion) (m : Model) (blocks : List Block) (vs : List Verdict)
+pub goes_on_judged : (c : Completion) (m : Model) (blocks : List SolutionBlock) (vs : List Verdict)
     (filled found : Option ℤ) → GoesOn c m blocks vs filled found → AreVerdicts c m blocks vs
 goes_on_judged c m blocks vs filled found goes = subst₂ (λ bs us. AreVerdicts c m bs us) (append_nil blocks) (append_nil vs) (goes [] [] NoneLeft)
 

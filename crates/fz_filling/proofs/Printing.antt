@@ -1,5 +1,5 @@
 -- Printed values beside scalars: whether each scalar has its value.
-use Rattle.std.proofs.Common.{◌≡◌, ◌≢◌, suc, Bool, true, false, ◌&&◌, ◌↔◌, IsTrue, List, [], ◌∷◌, map, length, Option, Some, None, refl, sym, ap, ◌∙◌, subst}
+use Rattle.std.proofs.Common.{◌≡◌, ◌≢◌, suc, Bool, true, false, ◌&&◌, ◌↔◌, IsTrue, List, [], ◌∷◌, length, Option, Some, None, refl, sym, ap, ◌∙◌, subst}
 use Rattle.std.proofs.Math.Bool.{and-false}
 use Rattle.std.specs.Option.{option_map_or}
 use Rattle.fz_index.specs.of_model.of_base.declared.value.Value.{Value}
@@ -10,9 +10,6 @@ use Rattle.fz_index.specs.of_model.Meaning.{Partial, value, values}
 use Rattle.fz_index.specs.of_model.Relations.{option_cons}
 use Rattle.fz_index.specs.of_model.declared.Term.{Term}
 use Rattle.fz_index.proofs.of_model.Values.{no, same_value_is, value_itself}
-use Rattle.fz_index.specs.of_model.View.{located_literal}
-use Rattle.fz_stream.specs.of_syntax.declared.Literal as the_literal
-use Rattle.fz_filling.specs.Solutions.{printed_values}
 use Rattle.fz_filling.specs.Working.{has_value, have_values}
 
 -- a test that holds exactly for equal values is `same_value`
@@ -59,8 +56,3 @@ are_same K (t ∷ ts) (v ∷ vs) = ap (λ b. has_value K (t, v) && b) (are_same 
     one_more None os = refl
     one_more (Some u) None = and-false (same_value u v)
     one_more (Some u) (Some us) = refl
-
-pub located_length : (ls : List the_literal.Literal)
-    → length (printed_values (map located_literal ls)) ≡ length ls
-located_length [] = refl
-located_length (l ∷ ls) = ap suc (located_length ls)

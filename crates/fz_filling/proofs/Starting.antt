@@ -1,6 +1,7 @@
 -- The start of a filling: printed values taken one after another.
-use Rattle.std.proofs.Common.{◌≡◌, ℕ, zero, suc, ◌+◌, ◌<◌, true, false, not, cond, ◌==◌, List, [], ◌∷◌, ◌++◌, map, length, Option, Some, None, is_none, refl, sym, ap, subst, ◌∙◌, arith, add-zero, zero-add, append_assoc, append-nil, eqb-true}
+use Rattle.std.proofs.Common.{◌≡◌, ℕ, zero, suc, ◌+◌, ◌<◌, true, false, not, cond, ◌==◌, List, [], ◌∷◌, ◌++◌, map, length, Option, Some, None, IsSomeAnd, is_none, refl, sym, ap, subst, ◌∙◌, arith, add-zero, zero-add, append_assoc, append-nil, eqb-true}
 use Rattle.std.proofs.lemmas.Bool.{eqb-false}
+use Rattle.std.proofs.lemmas.List.{length-map}
 use Rattle.std.specs.Prelude.{Bool}
 use Rattle.std.specs.List.{AllByRecursion}
 use Rattle.std.specs.Option.{option_or}
@@ -11,12 +12,11 @@ use Rattle.fz_index.specs.of_model.declared.Term.TheVariants.{Var, Fixed}
 use Rattle.fz_index.specs.of_model.declared.What.{What}
 use Rattle.fz_index.specs.of_model.declared.What.TheVariants as whats
 use Rattle.fz_index.specs.of_model.Kinds.{TermFits, PlaceFits}
-use Rattle.fz_index.specs.of_model.Located.{Name, Literal}
 use Rattle.fz_index.specs.of_model.Names.{literal_value}
 use Rattle.fz_index.specs.of_model.Partial.{nothing_for}
 use Rattle.fz_index.specs.of_model.Shown.{scalar_terms, what_place}
 use Rattle.fz_index.specs.of_model.Slots.{scalar_term}
-use Rattle.fz_index.specs.of_model.Meaning.{Place, Variable, Model, Partial, value_at, variables_of, first_some, IsPartial}
+use Rattle.fz_index.specs.of_model.Meaning.{Place, Variable, Model, Partial, value_at, variables_of, first_some, IsPartial, find_name}
 use Rattle.fz_index.specs.of_model.Steps.{give}
 use Rattle.fz_index.specs.of_model.Meaning.Place.{Scalar, Array}
 use Rattle.fz_index.specs.of_model.Relations.{kind_of, same_kind}
@@ -25,12 +25,18 @@ use Rattle.fz_index.proofs.of_model.NamedKinds.{PlaceIs, TermIs}
 use Rattle.fz_index.proofs.of_model.Partials.{fits_length, give_fits, has_place}
 use Rattle.fz_index.proofs.of_model.ScanSteps.{or_assoc, or_nothing}
 use Rattle.fz_index.proofs.of_model.Scope.{same_kind_is}
-use Rattle.fz_filling.specs.Solutions.{Printed, PrintedValue, printed_values}
-use Rattle.fz_filling.specs.BlockFaults.{literal_fault, fault_if, value_fault}
-use Rattle.fz_filling.specs.Solutions.PrintedValue.{OneValue, ArrayOf}
-use Rattle.fz_filling.specs.BlockFaults.BlockFaultKind.{WrongKind, WrongLength}
+use Rattle.fz_stream.specs.of_syntax.Span.{Span}
+use Rattle.fz_stream.specs.of_syntax.Tree.{Literal, Printed, PrintedValue, OneValue, ArrayOf}
+use Rattle.fz_stream.specs.of_syntax.View.{bare_items, bare_literal, bare_printed, bare_printed_value}
+use Rattle.fz_stream.specs.of_syntax.declared.Literal as the_literal
+use Rattle.fz_stream.specs.of_syntax.declared.Name as the_name
+use Rattle.fz_stream.specs.of_syntax.declared.Printed as the_printed
+use Rattle.fz_stream.specs.of_syntax.declared.PrintedValue as the_value
+use Rattle.fz_stream.specs.of_syntax.declared.PrintedValue.TheVariants as printed
+use Rattle.fz_filling.specs.BlockFaults.{AllFit, BlockFault, BlockFaultKind, Fits, ItemFits, fault_if, items_fault, literal_fault, printed_fault, value_fault}
+use Rattle.fz_filling.specs.BlockFaults.BlockFaultKind.{UnknownName, WrongKind, WrongLength}
 use Rattle.fz_filling.specs.Filling.{pairs, pairs_at, printed_scalars, if_var, first_printed, start_from}
-use Rattle.fz_filling.proofs.Accepted.{or_none, first_none}
+use Rattle.fz_filling.proofs.Accepted.{or_none}
 use Rattle.fz_filling.specs.Working.{HasRoom, IsWithin, terms_of_what, with_first, with_all, item_scalars}
 
 -- ---- one more value
@@ -127,10 +133,43 @@ cleared_is_nothing m K room = same_nothing K (variables_of m) room
 pub has_room : (m : Model) (K : Partial) → IsPartial m K → HasRoom m K
 has_room m K fits = fits_length (variables_of m) K fits
 
--- the value of a literal without fault is of the kind
-literal_kind : (k : Kind) (l : Literal) → literal_fault k l ≡ None
-    → kind_of (literal_value l.what) ≡ k
-literal_kind k l e = same_kind_is (kind_of (literal_value l.what)) k ((elim (same_kind (kind_of (literal_value l.what)) k) as (λ b. fault_if (not b) WrongKind l.span ≡ None → b ≡ true) [ true ↦ λ _. refl | false ↦ λ e. cc ]) e)
+-- where a printed item has no fault, it fits
+no_fault : (b : Bool) (k : BlockFaultKind) (at : Span) → fault_if (not b) k at ≡ None → b ≡ true
+no_fault true k at e = refl
+no_fault false k at e = cc
+
+literal_fits : (k : Kind) (l : the_literal.Literal) → literal_fault k l ≡ None
+    → kind_of (literal_value (bare_literal l)) ≡ k
+literal_fits k l e = same_kind_is _ k (no_fault (same_kind (kind_of (literal_value (bare_literal l))) k) WrongKind l.span e)
+
+literals_fit : (k : Kind) (ls : List the_literal.Literal) → first_some (literal_fault k) ls ≡ None
+    → AllByRecursion (λ l. kind_of (literal_value l) ≡ k) (map bare_literal ls)
+literals_fit k [] e = tt
+literals_fit k (l ∷ ls) e = let (here, rest) = or_none (literal_fault k l) _ e in (literal_fits k l here, literals_fit k ls rest)
+
+pub value_fits : (x : the_name.Name) (p : Place) (v : the_value.PrintedValue)
+    → value_fault x p v ≡ None → Fits p (bare_printed_value v)
+value_fits x (Scalar k t) (printed.One l) e = literal_fits k l e
+value_fits x (Scalar k t) (printed.Array is ls) e = cc
+value_fits x (Array y k ts) (printed.One l) e = cc
+value_fits x (Array y k ts) (printed.Array is ls) e =
+    let (as_many, kinds) = or_none (fault_if (not (length ls.items == length ts)) WrongLength x.span) (first_some (literal_fault k) ls.items) e in
+    (length-map ls.items bare_literal ∙ eqb-true (length ls.items) (length ts) (no_fault (length ls.items == length ts) WrongLength x.span as_many), literals_fit k ls.items kinds)
+
+place_fits : (x : the_name.Name) (o : Option Place) (v : the_value.PrintedValue)
+    → ◌≡◌ {A = Option BlockFault} (elim o [ None ↦ Some (record { kind = UnknownName; at = x.span }) | Some p ↦ value_fault x p v ]) None
+    → IsSomeAnd o (λ p. Fits p (bare_printed_value v))
+place_fits x None v e = cc
+place_fits x (Some p) v e = value_fits x p v e
+
+item_fits : (m : Model) (i : the_printed.Printed) → printed_fault m i ≡ None
+    → ItemFits m (bare_printed i)
+item_fits m i e = place_fits i.name (find_name m i.name.text.now) i.value e
+
+pub items_fit : (m : Model) (items : List the_printed.Printed) → items_fault m items ≡ None
+    → AllFit m (bare_items items)
+items_fit m [] e = tt
+items_fit m (i ∷ items) e = let (here, rest) = or_none (printed_fault m i) _ e in (item_fits m i here, items_fit m items rest)
 
 module _ (Is : Kind → Value → Type 0) (m : Model) where
   -- a variable has the kind of the value that is printed for it, and a stored value is as said
@@ -152,19 +191,18 @@ module _ (Is : Kind → Value → Type 0) (m : Model) where
   all_fit K (q ∷ qs) h fits = all_fit (with_first K q) qs (first_fits K q h fits.0) fits.1
 
   pairs_fit : (k : Kind) (ts : List Term) (ls : List Literal)
-      → AllByRecursion (TermIs Is m k) ts → AllByRecursion (λ l. literal_fault k l ≡ None) ls
-      → AllByRecursion PairFits (pairs ts (printed_values ls))
+      → AllByRecursion (TermIs Is m k) ts → AllByRecursion (λ l. kind_of (literal_value l) ≡ k) ls
+      → AllByRecursion PairFits (pairs ts (map literal_value ls))
   pairs_fit k [] ls h e = tt
   pairs_fit k (t ∷ ts) [] h e = tt
-  pairs_fit k (t ∷ ts) (l ∷ ls) h e = (subst (λ j. TermIs Is m j t) (sym (literal_kind k l e.0)) h.0, pairs_fit k ts ls h.1 e.1)
+  pairs_fit k (t ∷ ts) (l ∷ ls) h e = (subst (λ j. TermIs Is m j t) (sym e.0) h.0, pairs_fit k ts ls h.1 e.1)
 
-  pub place_pairs_fit : (x : Name) (p : Place) (v : PrintedValue) → PlaceIs Is m p
-      → value_fault x p v ≡ None → AllByRecursion PairFits (pairs_at p v)
-  place_pairs_fit x (Scalar k t) (OneValue l) h e = (subst (λ j. TermIs Is m j t) (sym (literal_kind k l e)) h, tt)
-  place_pairs_fit x (Scalar k t) (ArrayOf is ls) h e = cc
-  place_pairs_fit x (Array y k ts) (OneValue l) h e = cc
-  place_pairs_fit x (Array y k ts) (ArrayOf is ls) h e =
-      pairs_fit k ts ls h (first_none (literal_fault k) ls (or_none (fault_if (not (length ls == length ts)) WrongLength x.span) (first_some (literal_fault k) ls) e).1)
+  pub place_pairs_fit : (p : Place) (v : PrintedValue) → PlaceIs Is m p → Fits p v
+      → AllByRecursion PairFits (pairs_at p v)
+  place_pairs_fit (Scalar k t) (OneValue l) h e = (subst (λ j. TermIs Is m j t) (sym e) h, tt)
+  place_pairs_fit (Scalar k t) (ArrayOf is ls) h e = tt
+  place_pairs_fit (Array y k ts) (OneValue l) h e = tt
+  place_pairs_fit (Array y k ts) (ArrayOf is ls) h e = pairs_fit k ts ls h e.1
 
 -- ---- numbers
 

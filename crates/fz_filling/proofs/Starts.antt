@@ -1,6 +1,6 @@
--- The start of a block without fault, and so its filling, gives each variable a value of its kind
+-- The start of a block that fits the model, and so its filling, gives each variable a value of its kind
 -- or none.
-use Rattle.std.proofs.Common.{◌≡◌, ℕ, suc, zero, ◌+◌, true, false, cond, List, [], ◌∷◌, Option, Some, None, refl, sym, ap, ◌∙◌, option_map, slice_get, IfSome, arith, ◌==◌, add-zero, eqb-true}
+use Rattle.std.proofs.Common.{◌≡◌, ℕ, suc, zero, ◌+◌, true, false, cond, List, [], ◌∷◌, Option, Some, None, refl, sym, ap, ◌∙◌, option_map, slice_get, IfSome, IsSomeAnd, arith, ◌==◌, add-zero, eqb-true}
 use Rattle.std.specs.Prelude.{⊤}
 use Rattle.std.specs.List.{AllByRecursion}
 use Rattle.std.specs.Option.{option_map_or, option_or}
@@ -16,16 +16,16 @@ use Rattle.fz_index.specs.of_model.Steps.{kind_at}
 use Rattle.fz_index.proofs.of_model.NamedKinds.{named_fits}
 use Rattle.fz_index.proofs.of_model.Lists.{all_append}
 use Rattle.fz_index.proofs.of_model.Partials.{give_fits}
-use Rattle.fz_filling.specs.Solutions.{Printed, Block}
-use Rattle.fz_filling.specs.BlockFaults.{BlockFault, value_fault, printed_fault, items_fault, block_fault, moved}
-use Rattle.fz_filling.specs.BlockFaults.BlockFaultKind.{UnknownName}
+use Rattle.fz_stream.specs.Parts.{SolutionBlock}
+use Rattle.fz_stream.specs.of_syntax.Tree.{Printed}
+use Rattle.fz_filling.specs.BlockFaults.{AllFit, Fits, ItemFits}
 use Rattle.fz_filling.specs.Filling.{Chain, Further, IsFilling, pairs_at, printed_scalars, first_printed, start_from, start}
 use Rattle.fz_filling.specs.Filling.Chain.{Ends, Step}
 use Rattle.fz_filling.specs.Filling.Further.{Stays, Goes}
 use Rattle.fz_filling.specs.declared.completion.Completion.{Completion}
 use Rattle.fz_filling.specs.declared.completion.Completion.TheVariants.{Off, On}
 use Rattle.fz_filling.specs.Verdict.{IsFilled, IsProposed}
-use Rattle.fz_filling.proofs.Accepted.{first_none}
+use Rattle.fz_filling.specs.Working.{item_scalars}
 use Rattle.fz_filling.proofs.Starting.{PairFits as PairIs, place_pairs_fit}
 use Rattle.fz_filling.proofs.Violated.{filling_grows}
 
@@ -36,20 +36,19 @@ abbrev PairFits : Model → (Term × Value) → Type 0
 PairFits m q = PairIs (λ _ _. ⊤) m q
 
 module _ (t : LocatedTree) (sound : HasNoFault t) where
-  item_fits : (i : Printed) → printed_fault (model_of t) i ≡ None
-      → AllByRecursion (PairFits (model_of t))
-      (option_map_or (λ p. pairs_at p i.value) (find_name (model_of t) i.name.text) [])
-  item_fits i e =
-      (elim (find_name (model_of t) i.name.text) as (λ o. find_name (model_of t) i.name.text ≡ o → (elim o [ None ↦ Some (record { kind = UnknownName; at = i.name.span }) | Some p ↦ value_fault i.name p i.value ]) ≡ None
+  item_fits : (i : Printed) → ItemFits (model_of t) i
+      → AllByRecursion (PairFits (model_of t)) (item_scalars (model_of t) i)
+  item_fits i h =
+      (elim (find_name (model_of t) i.name) as (λ o. find_name (model_of t) i.name ≡ o → IsSomeAnd o (λ p. Fits p i.value)
       → AllByRecursion (PairFits (model_of t)) (option_map_or (λ p. pairs_at p i.value) o [])) [
-        | None ↦ λ _ e. tt
-        | Some p ↦ λ found e. place_pairs_fit (λ _ _. ⊤) (model_of t) i.name p i.value (named_fits t sound i.name.text p found) e
-      ]) refl e
+        | None ↦ λ _ h. absurd h
+        | Some p ↦ λ found h. place_pairs_fit (λ _ _. ⊤) (model_of t) p i.value (named_fits t sound i.name p found) h
+      ]) refl h
 
-  items_fit : (items : List Printed) → AllByRecursion (λ i. printed_fault (model_of t) i
-      ≡ None) items → AllByRecursion (PairFits (model_of t)) (printed_scalars (model_of t) items)
+  items_fit : (items : List Printed) → AllFit (model_of t) items
+      → AllByRecursion (PairFits (model_of t)) (printed_scalars (model_of t) items)
   items_fit [] h = tt
-  items_fit (i ∷ items) h = all_append (PairFits (model_of t)) (option_map_or (λ p. pairs_at p i.value) (find_name (model_of t) i.name.text) []) (printed_scalars (model_of t) items) (item_fits i h.0) (items_fit items h.1)
+  items_fit (i ∷ items) h = all_append (PairFits (model_of t)) (item_scalars (model_of t) i) (printed_scalars (model_of t) items) (item_fits i h.0) (items_fit items h.1)
 
 -- ---- the start
 
@@ -82,19 +81,15 @@ pub map_none : {A B : Type 0} (f : A → B) (o : Option A) → option_map f o �
 map_none f None e = refl
 map_none f (Some x) e = cc
 
-no_items_fault : (m : Model) (block : Block) → block_fault m block ≡ None
-    → items_fault m block.items ≡ None
-no_items_fault m block e = map_none (λ (f : BlockFault). record { kind = f.kind; at = moved block.offset f.at }) (items_fault m block.items) e
-
 kind_is : (xs : List Variable) (k : ℕ) (x : Variable) (j : Kind) → slice_get xs k ≡ Some x
     → option_map (λ y. y.kind) (slice_get xs k) ≡ Some j → j ≡ x.kind
 kind_is xs k x j at e = let same : Some x.kind ≡ Some j = sym (ap (option_map (λ y. y.kind)) at) ∙ e in cc
 
--- The start of a block without fault is a partial assignment.
-pub start_is_partial : (t : LocatedTree) → HasNoFault t → (block : Block)
-    → block_fault (model_of t) block ≡ None → IsPartial (model_of t) (start (model_of t) block)
-start_is_partial t sound block e =
-    let fit : AllByRecursion (PairFits (model_of t)) (printed_scalars (model_of t) block.items) = items_fit t sound block.items (first_none (printed_fault (model_of t)) block.items (no_items_fault (model_of t) block e)) in
+-- The start of a block that fits is a partial assignment.
+pub start_is_partial : (t : LocatedTree) → HasNoFault t → (block : SolutionBlock)
+    → AllFit (model_of t) block.items → IsPartial (model_of t) (start (model_of t) block)
+start_is_partial t sound block h =
+    let fit : AllByRecursion (PairFits (model_of t)) (printed_scalars (model_of t) block.items) = items_fit t sound block.items h in
     start_fits (printed_scalars (model_of t) block.items) 0 (variables_of (model_of t))
     (λ k x v at printed.
     let number : 0 + k ≡ k = omega arith in
@@ -112,16 +107,16 @@ pub further_is_partial : (m : Model) {K G : Partial} → IsPartial m K → Furth
 further_is_partial m h Stays = h
 further_is_partial m h (Goes {K = K} {n = n} {v = v} k p at gives rest) = further_is_partial m (give_fits (variables_of m) K n v h gives.of_kind) rest
 
-filling_is_partial : (c : Completion) (m : Model) (block : Block) (F : Partial)
+filling_is_partial : (c : Completion) (m : Model) (block : SolutionBlock) (F : Partial)
     → IsPartial m (start m block) → IsFilling c m block F → IsPartial m F
 filling_is_partial Off m block F h filled = chain_is_partial m h filled
 filling_is_partial On m block G h (F, chain, furthered) = further_is_partial m (chain_is_partial m h chain) furthered.reached
 
--- The filling of a block without fault is a partial assignment that has every value of the start.
-pub filling_proposed : (c : Completion) (t : LocatedTree) (block : Block) (F : Partial)
+-- The filling of a block that fits is a partial assignment that has every value of the start.
+pub filling_proposed : (c : Completion) (t : LocatedTree) (block : SolutionBlock) (F : Partial)
     → HasNoFault t → IsFilled c (model_of t) block F → IsProposed (model_of t) block F
 filling_proposed c t block F sound filled = record {
-  no_fault = filled.no_fault;
-  partial = filling_is_partial c (model_of t) block F (start_is_partial t sound block filled.no_fault) filled.filling;
+  fits = filled.fits;
+  partial = filling_is_partial c (model_of t) block F (start_is_partial t sound block filled.fits) filled.filling;
   has_start = filling_grows c (model_of t) block F filled.filling;
 }

@@ -1,7 +1,7 @@
 -- A block that is violated by anything but its objective is extended by no known-solution; and
 -- where it is violated by its objective, no two known-solutions that extend the block before and
 -- this one improve.
-use Rattle.std.proofs.Common.{◌≡◌, ℕ, suc, zero, ◌+◌, ℤ, T, Bool, true, false, cond, List, [], ◌∷◌, length, Option, Some, None, refl, sym, ap, subst, subst₂, ◌∙◌, slice_get, ◌⊎◌, inl, inr, IsSomeAnd, arith, add-zero, zero-add, int_lt, eq-eqb}
+use Rattle.std.proofs.Common.{◌≡◌, ℕ, suc, zero, ◌+◌, ℤ, T, Bool, true, false, cond, List, [], ◌∷◌, length, map, Option, Some, None, refl, sym, ap, subst, subst₂, ◌∙◌, slice_get, ◌⊎◌, inl, inr, IsSomeAnd, arith, add-zero, zero-add, int_lt, eq-eqb}
 use Rattle.std.specs.Prelude.{⊤, ◌<ℤ◌}
 use Rattle.std.specs.List.{AllByRecursion}
 use Rattle.std.specs.Option.{option_map_or, option_or, option_and_then}
@@ -24,7 +24,9 @@ use Rattle.fz_index.proofs.of_model.Lists.{all_left, all_right, all_map, all_bot
 use Rattle.fz_index.proofs.of_model.Under.{never_fails, some_same, value_under}
 use Rattle.fz_index.proofs.of_model.Steps.{value_at_other, option_cons_parts, only_open_none}
 use Rattle.fz_index.proofs.of_model.Values.{value_itself, values_itself}
-use Rattle.fz_filling.specs.Solutions.{Printed, PrintedValue, Block, Extends, HasPrinted, printed_values, IsBetter, Improves}
+use Rattle.fz_stream.specs.Parts.{SolutionBlock}
+use Rattle.fz_stream.specs.of_syntax.Tree.{Printed, PrintedValue}
+use Rattle.fz_filling.specs.Solutions.{Extends, HasPrinted, IsBetter, Improves}
 use Rattle.fz_filling.specs.Filling.{Chain, Further, IsFilling, pairs, pairs_at, printed_scalars, if_var, first_printed, start_from, start}
 use Rattle.fz_filling.specs.Filling.Chain.{Ends, Step}
 use Rattle.fz_filling.specs.Filling.Further.{Stays, Goes}
@@ -74,7 +76,7 @@ further_grows m Stays = λ n v e. e
 further_grows m (Goes {K = K} {n = n} {v = v} k p at gives rest) = λ j u e.
     further_grows m rest j u (given_grows K n v (only_open_none K n (terms_of (aimed n p)) gives.only_open) j u e)
 
-pub filling_grows : (c : Completion) (m : Model) (block : Block) (F : Partial)
+pub filling_grows : (c : Completion) (m : Model) (block : SolutionBlock) (F : Partial)
     → IsFilling c m block F → HasEach (start m block) F
 filling_grows Off m block F filled = chain_grows m filled
 filling_grows On m block G (F, chain, furthered) = λ n v e. further_grows m furthered.reached n v (chain_grows m chain n v e)
@@ -117,7 +119,7 @@ start_at qs n [] k x e = cc
 start_at qs n (y ∷ xs) zero x e = ap (first_printed qs) (sym (add-zero n))
 start_at qs n (y ∷ xs) (suc k) x e = let count : suc n + k ≡ n + suc k = omega arith in start_at qs (suc n) xs k x e ∙ ap (first_printed qs) count
 
-module _ (m : Model) (L : Partial) (block : Block) (F : Partial) (as_many : length L ≡ length (variables_of m)) (under : HasEach F L) (grows : HasEach (start m block) F) where
+module _ (m : Model) (L : Partial) (block : SolutionBlock) (F : Partial) (as_many : length L ≡ length (variables_of m)) (under : HasEach F L) (grows : HasEach (start m block) F) where
   agrees_too : (q : Term × Value) → HasFirst (printed_scalars m block.items) q × Agrees L q
       → Agrees F q
   agrees_too (Fixed w, v) h = h.1
@@ -139,11 +141,11 @@ pairs_values F L (t ∷ ts) (v ∷ vs) e h =
 
 place_has : (F L : Partial) (p : Place) (value : PrintedValue) → HasPrinted L p value
     → AllByRecursion (Agrees F) (pairs_at p value) → has_printed F p value ≡ true
-place_has F L (Scalar k t) (PrintedValue.OneValue l) h agree = ap (λ o. option_map_or (λ v. same_value v (literal_value l.what)) o false) agree.0 ∙ value_itself (literal_value l.what)
+place_has F L (Scalar k t) (PrintedValue.OneValue l) h agree = ap (λ o. option_map_or (λ v. same_value v (literal_value l)) o false) agree.0 ∙ value_itself (literal_value l)
 place_has F L (Scalar k t) (PrintedValue.ArrayOf is ls) h agree = absurd h
 place_has F L (Array name k ts) (PrintedValue.OneValue l) h agree = absurd h
 place_has F L (Array name k ts) (PrintedValue.ArrayOf is ls) h agree =
-    ap (λ o. option_map_or (λ vs. same_values vs (printed_values ls)) o false) (pairs_values F L ts (printed_values ls) h agree) ∙ values_itself (printed_values ls)
+    ap (λ o. option_map_or (λ vs. same_values vs (map literal_value ls)) o false) (pairs_values F L ts (map literal_value ls) h agree) ∙ values_itself (map literal_value ls)
 
 item_has : (F L : Partial) (name : List ℕ) (o : Option Place) (value : PrintedValue)
     → IsSomeAnd o (λ p. HasPrinted L p value)
@@ -156,11 +158,11 @@ items_have : (m : Model) (F L : Partial) (items : List Printed) → Prints m L i
     → AllByRecursion (Agrees F) (printed_scalars m items) → first_some (printed_fails m F) items ≡ None
 items_have m F L [] h agree = refl
 items_have m F L (i ∷ block) h agree =
-    (λ j. option_or (item_has F L i.name.text (find_name m i.name.text) i.value h.0 (all_left (Agrees F) (option_map_or (λ p. pairs_at p i.value) (find_name m i.name.text) []) (printed_scalars m block) agree) j) (first_some (printed_fails m F) block))
-    ∙ items_have m F L block h.1 (all_right (Agrees F) (option_map_or (λ p. pairs_at p i.value) (find_name m i.name.text) []) (printed_scalars m block) agree)
+    (λ j. option_or (item_has F L i.name (find_name m i.name) i.value h.0 (all_left (Agrees F) (option_map_or (λ p. pairs_at p i.value) (find_name m i.name) []) (printed_scalars m block) agree) j) (first_some (printed_fails m F) block))
+    ∙ items_have m F L block h.1 (all_right (Agrees F) (option_map_or (λ p. pairs_at p i.value) (find_name m i.name) []) (printed_scalars m block) agree)
 
 -- what is printed for each name is its value in a filling, where it is so under more values
-pub none_printed : (m : Model) (L : Partial) (block : Block) (F : Partial)
+pub none_printed : (m : Model) (L : Partial) (block : SolutionBlock) (F : Partial)
     → length L ≡ length (variables_of m) → HasEach F L → HasEach (start m block) F
     → Prints m L block.items → first_some (printed_fails m F) block.items ≡ None
 none_printed m L block F as_many under grows prints =
@@ -215,7 +217,7 @@ is_violated_by None None f e = cc
 is_violated_by None (Some r) f e = cc
 is_violated_by (Some g) r f e = cc
 
-module _ (c : Completion) (m : Model) (block : Block) (F : Partial) (filled : IsFilling c m block F) (A : Assignment) (solution : IsKnownSolution m A) (extends : Extends m A block) where
+module _ (c : Completion) (m : Model) (block : SolutionBlock) (F : Partial) (filled : IsFilling c m block F) (A : Assignment) (solution : IsKnownSolution m A) (extends : Extends m A block) where
   agrees : HasEach F (whole A)
   agrees = filling_agrees c m A block F solution extends filled
 
@@ -236,7 +238,7 @@ module _ (c : Completion) (m : Model) (block : Block) (F : Partial) (filled : Is
       objective_fault m.aim before (objective m F) f not_point
 
 -- Where a block is violated by anything but its objective, no known-solution extends it.
-pub violated_has_none : (c : Completion) (m : Model) (block : Block) (F : Partial)
+pub violated_has_none : (c : Completion) (m : Model) (block : SolutionBlock) (F : Partial)
     (before : Option ℤ) (f : Fault) → IsFilling c m block F → verdict m F block before ≡ Violated f → (IsNotBetter f → ⊥)
     → (A : Assignment) → IsKnownSolution m A → Extends m A block → ⊥
 violated_has_none c m block F before f filled e other A solution extends =
@@ -259,7 +261,7 @@ objective_under (Maximize t) F L n under e = int_under F L t n under e
 
 -- Where a block is violated by its objective, no two known-solutions, one that extends the block
 -- before and one that extends this one, improve.
-pub not_better_has_none : (c : Completion) (m : Model) (earlier block : Block) (E F : Partial)
+pub not_better_has_none : (c : Completion) (m : Model) (earlier block : SolutionBlock) (E F : Partial)
     (f : Fault) → IsFilling c m earlier E → IsFilling c m block F → verdict m F block (objective m E) ≡ Violated f
     → (A B : Assignment) → IsKnownSolution m A → Extends m A earlier → IsKnownSolution m B → Extends m B block → Improves m (Some A) B → ⊥
 not_better_has_none c m earlier block E F f filled_E filled_F e A B solution_A extends_A solution_B extends_B improves =
@@ -282,9 +284,9 @@ is_not_better (ConstraintFault k name) h = absurd h
 not_printed : (m : Model) (K : Partial) (i : Printed) (f : Fault) → printed_fails m K i ≡ Some f
     → IsNotBetter f → ⊥
 not_printed m K i f e h =
-    (elim (option_map_or (λ p. has_printed K p i.value) (find_name m i.name.text) false) as (λ b. cond b None (Some (PrintedFault i.name.text)) ≡ Some f → ⊥) [
+    (elim (option_map_or (λ p. has_printed K p i.value) (find_name m i.name) false) as (λ b. cond b None (Some (PrintedFault i.name)) ≡ Some f → ⊥) [
       | true ↦ λ e. cc
-      | false ↦ λ e. let same : PrintedFault i.name.text ≡ f = cc in subst IsNotBetter (sym same) h
+      | false ↦ λ e. let same : PrintedFault i.name ≡ f = cc in subst IsNotBetter (sym same) h
     ]) e
 
 not_named : (n : PointName) → IsNotBetter (fault_named n) → ⊥
@@ -314,7 +316,7 @@ nothing_before Satisfy now = refl
 nothing_before (Minimize t) now = refl
 nothing_before (Maximize t) now = refl
 
-pub never_first : (m : Model) (K : Partial) (block : Block) (f : Fault) → IsNotBetter f
+pub never_first : (m : Model) (K : Partial) (block : SolutionBlock) (f : Fault) → IsNotBetter f
     → verdict m K block None ≡ Violated f → ⊥
 never_first m K block f h e =
     let found : option_or (first_some (printed_fails m K) block.items) (option_or (first_some (point_fails K) (points m)) (objective_fails m.aim None (objective m K))) ≡ Some f =

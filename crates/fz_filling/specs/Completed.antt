@@ -5,7 +5,8 @@ use Rattle.fz_index.specs.of_model.Meaning.{Assignment, Model, Partial, Point, o
 use Rattle.fz_index.specs.of_model.States.{IsKnownSolution, shown_point}
 use Rattle.fz_filling.specs.declared.completion.Completion.{Completion}
 use Rattle.fz_filling.specs.declared.completion.Completion.TheVariants.{Off, On}
-use Rattle.fz_filling.specs.Solutions.{Block, Extends}
+use Rattle.fz_stream.specs.Parts.{SolutionBlock}
+use Rattle.fz_filling.specs.Solutions.{Extends}
 use Rattle.fz_filling.specs.Verdict.{Verdict, verdict, fault_named, objective_fails, IsFilled}
 use Rattle.fz_filling.specs.Verdict.Fault.{NotBetter}
 use Rattle.fz_filling.specs.Verdict.Reason.{NoValueFor, NotShownBetter}
@@ -21,7 +22,7 @@ LacksValuesAtMost _ = ⊥
 -- The verdict that is reported of a block with a filling and a verdict under it, where values are
 -- looked for, and the objective that the next block is compared with. `before` is the objective
 -- that this block is compared with.
-pub data IsCompleted (m : Model) (block : Block) (before : Option ℤ) (F : Partial) : Verdict
+pub data IsCompleted (m : Model) (block : SolutionBlock) (before : Option ℤ) (F : Partial) : Verdict
     → Verdict → Option ℤ → Type 0 where
   -- under some values the block is satisfied, and its objective is better than `before`
   Found : {v : Verdict} (K : Partial) → LacksValuesAtMost v → IsPartial m K
@@ -43,8 +44,8 @@ pub data IsCompleted (m : Model) (block : Block) (before : Option ℤ) (F : Part
 
 -- the verdict that is reported of a block with a filling and a verdict under it: that same verdict,
 -- where no values are looked for
-abbrev pub IsToldBy : Completion → Model → Block → Option ℤ → Partial → Verdict → Verdict → Option ℤ
-    → Type 0
+abbrev pub IsToldBy : Completion → Model → SolutionBlock → Option ℤ → Partial → Verdict → Verdict
+    → Option ℤ → Type 0
 IsToldBy Off m block before F w v kept = v ≡ w
 IsToldBy On m block before F w v kept = IsCompleted m block before F w v kept
 
@@ -52,15 +53,15 @@ IsToldBy On m block before F w v kept = IsCompleted m block before F w v kept
 -- with that of the block before under its own, the first with the objective given first; the
 -- verdict reported of each compares it with the objective that the block before left, the first
 -- with the one given second.
-pub data AreTold (c : Completion) (m : Model) : Option ℤ → Option ℤ → List Block → List Verdict
-    → Type 0 where
+pub data AreTold (c : Completion) (m : Model) : Option ℤ → Option ℤ → List SolutionBlock
+    → List Verdict → Type 0 where
   NoneLeft : {filled found : Option ℤ} → AreTold c m filled found [] []
-  OneMore : {filled found kept : Option ℤ} {block : Block} {blocks : List Block} {v : Verdict} {vs :
-      List Verdict} (F : Partial) → IsFilled c m block F
+  OneMore : {filled found kept : Option ℤ} {block : SolutionBlock} {blocks : List SolutionBlock}
+      {v : Verdict} {vs : List Verdict} (F : Partial) → IsFilled c m block F
       → IsToldBy c m block found F (verdict m F block filled) v kept
       → AreTold c m (objective m F) kept blocks vs
       → AreTold c m filled found (block ∷ blocks) (v ∷ vs)
 
 -- the verdicts of a report
-abbrev pub AreVerdicts : Completion → Model → List Block → List Verdict → Type 0
+abbrev pub AreVerdicts : Completion → Model → List SolutionBlock → List Verdict → Type 0
 AreVerdicts c m blocks vs = AreTold c m None None blocks vs

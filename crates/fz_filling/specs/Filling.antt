@@ -1,6 +1,6 @@
 -- The filling of a block: the values that follow from the printed ones by forced steps (this
 -- project's profile).
-use Rattle.std.specs.Prelude.{◌≡◌, ℕ, suc, cond, List, [], ◌∷◌, ◌++◌, ◌==◌, Option, Some, None, flat_map, slice_get, take, drop}
+use Rattle.std.specs.Prelude.{◌≡◌, ℕ, suc, cond, List, [], ◌∷◌, ◌++◌, ◌==◌, Option, Some, None, flat_map, map, slice_get, take, drop}
 use Rattle.std.specs.List.{AllByRecursion, enumerate_from}
 use Rattle.std.specs.Option.{option_map_or}
 use Rattle.fz_index.specs.of_model.of_base.declared.value.Value.{Value}
@@ -13,8 +13,8 @@ use Rattle.fz_index.specs.of_model.Steps.{Gives, GivesNothing, give}
 use Rattle.fz_index.specs.of_model.Aimed.{GivesAny, GivesNone}
 use Rattle.fz_filling.specs.declared.completion.Completion.{Completion}
 use Rattle.fz_filling.specs.declared.completion.Completion.TheVariants.{Off, On}
-use Rattle.fz_filling.specs.Solutions.{Printed, PrintedValue, Block, printed_values}
-use Rattle.fz_filling.specs.Solutions.PrintedValue.{OneValue, ArrayOf}
+use Rattle.fz_stream.specs.Parts.{SolutionBlock}
+use Rattle.fz_stream.specs.of_syntax.Tree.{Printed, PrintedValue, OneValue, ArrayOf}
 
 -- ---- the start of the filling
 
@@ -24,14 +24,14 @@ pairs (t ∷ ts) (v ∷ vs) = (t, v) ∷ pairs ts vs
 pairs _ _ = []
 
 abbrev pub pairs_at : Place → PrintedValue → List (Term × Value)
-pairs_at (Scalar k t) (OneValue l) = (t, literal_value l.what) ∷ []
-pairs_at (Array x k ts) (ArrayOf is ls) = pairs ts (printed_values ls)
+pairs_at (Scalar k t) (OneValue l) = (t, literal_value l) ∷ []
+pairs_at (Array x k ts) (ArrayOf is ls) = pairs ts (map literal_value ls)
 pairs_at _ _ = []
 
 -- each scalar that is printed, alone or as an array's element, in block order
 abbrev pub printed_scalars : Model → List Printed → List (Term × Value)
 printed_scalars m items =
-    flat_map (λ i. option_map_or (λ p. pairs_at p i.value) (find_name m i.name.text) []) items
+    flat_map (λ i. option_map_or (λ p. pairs_at p i.value) (find_name m i.name) []) items
 
 abbrev pub if_var : ℕ → (Term × Value) → Option Value
 if_var n (Var k, v) = cond (k == n) (Some v) None
@@ -45,7 +45,7 @@ abbrev pub start_from : List (Term × Value) → ℕ → List Variable → Parti
 start_from ps n [] = []
 start_from ps n (x ∷ xs) = first_printed ps n ∷ start_from ps (suc n) xs
 
-abbrev pub start : Model → Block → Partial
+abbrev pub start : Model → SolutionBlock → Partial
 start m block = start_from (printed_scalars m block.items) 0 (variables_of m)
 
 -- ---- the chain of the filling
@@ -101,7 +101,7 @@ pub record IsFurthered (m : Model) (F G : Partial) : Type 0 where
 
 -- The partial assignment is the filling of the block: the end of its chain, or the second filling
 -- from there on where values that the solver left out are looked for.
-abbrev pub IsFilling : Completion → Model → Block → Partial → Type 0
+abbrev pub IsFilling : Completion → Model → SolutionBlock → Partial → Type 0
 IsFilling Off m block F = Chain m (start m block) 0 F
 IsFilling On m block G = (F : Partial) × Chain m (start m block) 0 F × IsFurthered m F G
 

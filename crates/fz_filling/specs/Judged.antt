@@ -3,7 +3,8 @@ use Rattle.std.specs.Prelude.{◌≡◌, ℕ, ℤ, IfSome, IsSomeAnd, None, Opti
 use Rattle.fz_stream.specs.of_syntax.Span.{Span}
 use Rattle.fz_index.specs.of_model.Meaning.{Model, Partial, Point, objective, points, IsPartial}
 use Rattle.fz_index.specs.of_model.States.{shown_point}
-use Rattle.fz_filling.specs.Solutions.{Block}
+use Rattle.fz_stream.specs.Parts.{SolutionBlock}
+use Rattle.fz_stream.specs.declared.block.Block.{Block}
 use Rattle.fz_filling.specs.BlockFaults.{BlockFault, BlockFaultKind, block_fault}
 use Rattle.fz_filling.specs.BlockFaults.BlockFaultKind.{UnknownName, WrongKind, WrongLength}
 use Rattle.fz_filling.specs.declared.completion.Completion.{Completion}
@@ -26,7 +27,7 @@ pub record JudgeState : Type 0 where
 
 -- The verdict on a block is that under its filling, compared with the objective before; the
 -- objective under that filling is stored, as the only one where no values are looked for.
-pub record IsJudged (old new : JudgeState) (block : Block) (v : Verdict) : Type 0 where
+pub record IsJudged (old new : JudgeState) (block : SolutionBlock) (v : Verdict) : Type 0 where
   pub filling : Partial
   pub is_filled : IsFilled old.completion old.model block filling
   pub partial : IsPartial old.model filling

@@ -1,7 +1,6 @@
 pub mod View
 pub mod Judged
 pub mod Working
-pub mod BlockView
 pub mod Filling
 pub mod Verdict
 pub mod Completed

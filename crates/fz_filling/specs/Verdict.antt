@@ -1,6 +1,6 @@
 -- The verdict on a block, and the answer on a list of blocks (the verdicts and their order are this
 -- project's profile).
-use Rattle.std.specs.Prelude.{◌≡◌, ℕ, suc, zero, ℤ, Bool, true, false, cond, List, [], ◌∷◌, length, Option, Some, None, int_lt}
+use Rattle.std.specs.Prelude.{ℕ, suc, zero, ℤ, Bool, true, false, cond, List, [], ◌∷◌, length, map, Option, Some, None, int_lt}
 use Rattle.std.specs.Option.{option_map_or, option_or}
 use Rattle.fz_index.specs.of_model.declared.State.{State}
 use Rattle.fz_index.specs.of_model.declared.State.TheVariants.{Holds, Fails, NoValue, Unknown, TooLarge}
@@ -11,9 +11,9 @@ use Rattle.fz_index.specs.of_model.States.{PointName, state, shown_point, same_v
 use Rattle.fz_index.specs.of_model.Meaning.Place.{Scalar, Array}
 use Rattle.fz_index.specs.of_model.Meaning.Aim.{Minimize, Maximize}
 use Rattle.fz_index.specs.of_model.States.PointName.{DomainOf, DefinitionOf, ConstraintOf}
-use Rattle.fz_filling.specs.Solutions.{Printed, PrintedValue, Block, printed_values}
-use Rattle.fz_filling.specs.BlockFaults.{block_fault}
-use Rattle.fz_filling.specs.Solutions.PrintedValue.{OneValue, ArrayOf}
+use Rattle.fz_stream.specs.Parts.{SolutionBlock}
+use Rattle.fz_stream.specs.of_syntax.Tree.{Printed, PrintedValue, OneValue, ArrayOf}
+use Rattle.fz_filling.specs.BlockFaults.{AllFit}
 use Rattle.fz_filling.specs.declared.completion.Completion.{Completion}
 use Rattle.fz_filling.specs.Filling.{start, IsFilling}
 
@@ -44,14 +44,14 @@ pub data Verdict : Type 0 where
 -- whether what a name stands for has a value, and it is the printed one
 abbrev pub has_printed : Partial → Place → PrintedValue → Bool
 has_printed K (Scalar k t) (OneValue l) =
-    option_map_or (λ v. same_value v (literal_value l.what)) (value K t) false
+    option_map_or (λ v. same_value v (literal_value l)) (value K t) false
 has_printed K (Array x k ts) (ArrayOf is ls) =
-    option_map_or (λ vs. same_values vs (printed_values ls)) (values K ts) false
+    option_map_or (λ vs. same_values vs (map literal_value ls)) (values K ts) false
 has_printed K _ _ = false
 
 abbrev pub printed_fails : Model → Partial → Printed → Option Fault
 printed_fails m K i = cond (option_map_or (λ p. has_printed K p i.value)
-    (find_name m i.name.text) false) None (Some (PrintedFault i.name.text))
+    (find_name m i.name) false) None (Some (PrintedFault i.name))
 
 -- the fault of a point that fails
 abbrev pub fault_named : PointName → Fault
@@ -113,7 +113,7 @@ verdict_by None None = Satisfied
 -- The verdict on a block for a partial assignment and the objective of the block before: the first
 -- that fails of the printed names in block order, then the points, then the objective; else the
 -- first point that is undecided; else satisfied.
-abbrev pub verdict : Model → Partial → Block → Option ℤ → Verdict
+abbrev pub verdict : Model → Partial → SolutionBlock → Option ℤ → Verdict
 verdict m K block before =
     verdict_by
     (option_or (first_some (printed_fails m K) block.items)
@@ -126,23 +126,24 @@ verdict m K block before =
 -- The verdicts of the blocks in order, each for a partial assignment that is as proposed for its
 -- block, with the objective under the partial assignment of the block before; the first is compared
 -- with the objective given.
-pub data AreJudged (m : Model) (Proposed : Block → Partial → Type 0) : Option ℤ → List Block
-    → List Verdict → Type 0 where
+pub data AreJudged (m : Model) (Proposed : SolutionBlock → Partial → Type 0) : Option ℤ
+    → List SolutionBlock → List Verdict → Type 0 where
   NoneLeft : {before : Option ℤ} → AreJudged m Proposed before [] []
-  OneMore : {before : Option ℤ} {block : Block} {blocks : List Block} {vs : List Verdict}
-      (K : Partial) → Proposed block K → AreJudged m Proposed (objective m K) blocks vs
+  OneMore : {before : Option ℤ} {block : SolutionBlock} {blocks : List SolutionBlock}
+      {vs : List Verdict} (K : Partial) → Proposed block K
+      → AreJudged m Proposed (objective m K) blocks vs
       → AreJudged m Proposed before (block ∷ blocks) (verdict m K block before ∷ vs)
 
--- what a verdict may be based on: the block has no fault, and the partial assignment has every
+-- what a verdict may be based on: the block fits the model, and the partial assignment has every
 -- value of the block's start
-pub record IsProposed (m : Model) (block : Block) (K : Partial) : Type 0 where
-  pub no_fault : block_fault m block ≡ None
+pub record IsProposed (m : Model) (block : SolutionBlock) (K : Partial) : Type 0 where
+  pub fits : AllFit m block.items
   pub partial : IsPartial m K
   pub has_start : HasEach (start m block) K
 
--- the filling of a block without fault
-pub record IsFilled (c : Completion) (m : Model) (block : Block) (F : Partial) : Type 0 where
-  pub no_fault : block_fault m block ≡ None
+-- the filling of a block that fits the model
+pub record IsFilled (c : Completion) (m : Model) (block : SolutionBlock) (F : Partial) : Type 0 where
+  pub fits : AllFit m block.items
   pub filling : IsFilling c m block F
 
 -- ---- the answer

@@ -1,6 +1,6 @@
 -- Values taken into a partial assignment one after another, and what is asked of one scalar. Only
 -- private functions use these, here and in `fz_judge`, but for `HasRoom`, which `filled` cites.
-use Rattle.std.specs.Prelude.{◌≡◌, ℕ, ℤ, ◌<◌, Bool, false, true, cond, ◌&&◌, is_none, List, [], ◌∷◌, length, Option, None, Some, ⊤}
+use Rattle.std.specs.Prelude.{◌≡◌, ℕ, ℤ, ◌<◌, Bool, false, true, cond, ◌&&◌, is_none, List, [], ◌∷◌, length, map, Option, None, Some, ⊤}
 use Rattle.std.specs.Option.{option_map_or}
 use Rattle.fz_index.specs.of_model.of_base.declared.value.Value.{Value}
 use Rattle.fz_index.specs.of_model.declared.State.{State}
@@ -16,9 +16,9 @@ use Rattle.fz_index.specs.of_model.Meaning.{Model, Partial, IsPartial, objective
 use Rattle.fz_index.specs.of_model.Steps.{give}
 use Rattle.fz_index.specs.of_model.States.{PointName, same_value}
 use Rattle.fz_stream.specs.of_syntax.Places.{IsSpanWithin}
-use Rattle.fz_filling.specs.Solutions.{Block, Printed, PrintedValue, printed_values}
+use Rattle.fz_stream.specs.Parts.{SolutionBlock}
+use Rattle.fz_stream.specs.of_syntax.Tree.{Printed, PrintedValue, OneValue, ArrayOf}
 use Rattle.fz_filling.specs.BlockFaults.{moved}
-use Rattle.fz_filling.specs.Solutions.PrintedValue.{OneValue, ArrayOf}
 use Rattle.fz_filling.specs.Filling.{pairs, pairs_at}
 use Rattle.fz_filling.specs.Verdict.{Fault, Reason, Verdict, verdict, not_known_at, too_large_at, verdict_by}
 use Rattle.fz_filling.specs.Verdict.Verdict.{Satisfied, Violated, Undecided}
@@ -53,12 +53,12 @@ with_all K [] = K
 with_all K (q ∷ qs) = with_all (with_first K q) qs
 
 abbrev pub one_pair : Term → PrintedValue → List (Term × Value)
-one_pair t (OneValue l) = (t, literal_value l.what) ∷ []
+one_pair t (OneValue l) = (t, literal_value l) ∷ []
 one_pair t (ArrayOf is ls) = []
 
 abbrev pub element_pairs : List Term → PrintedValue → List (Term × Value)
 element_pairs ts (OneValue l) = []
-element_pairs ts (ArrayOf is ls) = pairs ts (printed_values ls)
+element_pairs ts (ArrayOf is ls) = pairs ts (map literal_value ls)
 
 -- the scalar has the value of the literal
 abbrev pub has_value : Partial → (Term × Value) → Bool
@@ -66,7 +66,7 @@ has_value K q = option_map_or (λ v. same_value v q.1) (value K q.0) false
 
 -- the scalars that an item prints
 abbrev pub item_scalars : Model → Printed → List (Term × Value)
-item_scalars m i = option_map_or (λ p. pairs_at p i.value) (find_name m i.name.text) []
+item_scalars m i = option_map_or (λ p. pairs_at p i.value) (find_name m i.name) []
 
 -- ---- the verdict
 
@@ -108,7 +108,7 @@ compared None = Satisfied
 compared (Some f) = not_shown_better f
 
 -- the block is satisfied under some values, which have this objective
-abbrev pub IsFound : Model → Block → Option ℤ → Option ℤ → Type 0
+abbrev pub IsFound : Model → SolutionBlock → Option ℤ → Option ℤ → Type 0
 IsFound m block before kept =
     (K : Partial) × IsPartial m K × (verdict m K block before ≡ Satisfied) × (kept ≡ objective m K)
 

@@ -3,13 +3,11 @@
 ghost use Rattle.std.specs.Prelude.{◌≡◌, ℕ, List, map, option_map, slice_get};
 ghost use Rattle.std.specs.Option.{option_map_or};
 ghost use Rattle.fz_index.specs.of_model.declared.Term.{Term as Held};
-ghost use Rattle.fz_index.specs.of_model.Meaning.{Place, Variable as DeclaredVariable, first_some};
+ghost use Rattle.fz_index.specs.of_model.Meaning.{Place, first_some};
 ghost use Rattle.fz_index.specs.of_model.Parts.{variable_view};
 ghost use Rattle.fz_index.specs.of_model.Shown.{kind_among, scalar_terms, what_place};
 ghost use Rattle.fz_index.specs.of_model.Slots.{scalar_term};
-ghost use Rattle.fz_index.specs.of_model.View.{located_literal, located_name};
 ghost use Rattle.fz_filling.specs.BlockFaults.{literal_fault, value_fault};
-ghost use Rattle.fz_filling.specs.BlockView.{located_printed_value};
 ghost use Rattle.fz_filling.specs.Judged.{refusal};
 
 use crate::error::BlockError;
@@ -18,7 +16,7 @@ use fz_stream::{Literal, Name, PrintedValue};
 
 /// A literal of another kind.
 fn literal_fault(kind: Kind, literal: &Literal) -> Option<BlockError>
-    ensures { result ≡ option_map refusal (literal_fault kind (located_literal literal.now)) }
+    ensures { result ≡ option_map refusal (literal_fault kind literal.now) }
 {
     if same_kind(literal_kind(&literal.what), kind) {
         None
@@ -30,7 +28,7 @@ fn literal_fault(kind: Kind, literal: &Literal) -> Option<BlockError>
 /// The first literal of another kind.
 fn elements_fault(kind: Kind, literals: &[Literal]) -> Option<BlockError>
     ensures { result ≡ option_map refusal
-        (first_some (literal_fault kind) (map located_literal literals.now)) }
+        (first_some (literal_fault kind) literals.now) }
 {
     for literal in literals {
         let fault = literal_fault(kind, literal);
@@ -66,8 +64,8 @@ fn scalar_kind(variables: &[Variable<'_>], scalar: Scalar<'_>) -> Kind
 
 /// What of the value that is printed for a scalar of a kind does not fit.
 fn scalar_fault(name: &Name<'_>, kind: Kind, value: &PrintedValue) -> Option<BlockError>
-    ensures { (t : Held) → result ≡ option_map refusal (value_fault (located_name name.now)
-        (Place.Scalar kind t) (located_printed_value value.now)) }
+    ensures { (t : Held) → result ≡ option_map refusal
+        (value_fault name.now (Place.Scalar kind t) value.now) }
 {
     match value {
         PrintedValue::One(literal) => literal_fault(kind, literal),
@@ -83,8 +81,7 @@ fn array_fault(
     value: &PrintedValue,
 ) -> Option<BlockError>
     ensures { (x : List ℕ) → result ≡ option_map refusal
-        (value_fault (located_name name.now) (Place.Array x kind (scalar_terms list.entry))
-        (located_printed_value value.now)) }
+        (value_fault name.now (Place.Array x kind (scalar_terms list.entry)) value.now) }
 {
     match value {
         PrintedValue::One(_) => Some(BlockError::Kind(name.span)),
@@ -105,8 +102,8 @@ pub(crate) fn value_fault(
     value: &PrintedValue,
 ) -> Option<BlockError>
     ensures { (x : List ℕ) → result ≡ option_map refusal
-        (value_fault (located_name name.now) (what_place
-        (map variable_view variables.now) x what.entry) (located_printed_value value.now)) }
+        (value_fault name.now (what_place (map variable_view variables.now) x what.entry)
+        value.now) }
 {
     match what {
         What::Scalar(scalar) => scalar_fault(name, scalar_kind(variables, scalar), value),

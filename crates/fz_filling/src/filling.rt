@@ -4,13 +4,13 @@ ghost use Rattle.std.specs.Prelude.{◌≡◌, ◌-◌, IfErr, IfOk, IfSome, Non
 ghost use Rattle.fz_filling.specs.Courses.{IsCourse};
 ghost use Rattle.fz_filling.specs.Givers.{AreGivers};
 ghost use Rattle.fz_index.specs.of_model.Meaning.{IsPartial};
-ghost use Rattle.fz_stream.specs.Found.{EndsWithin, HasPlaces};
+ghost use Rattle.fz_stream.specs.Found.{EndsWithin, HasPlaces, block_of};
 ghost use Rattle.fz_stream.specs.of_syntax.Places.{IsSpanWithin};
-ghost use Rattle.fz_filling.specs.BlockFaults.{block_fault, items_fault, moved};
+ghost use Rattle.fz_stream.specs.of_syntax.View.{bare_items};
+ghost use Rattle.fz_filling.specs.BlockFaults.{AllFit, block_fault, moved};
 ghost use Rattle.fz_filling.specs.Filling.{start};
 ghost use Rattle.fz_filling.specs.Verdict.{IsFilled};
 ghost use Rattle.fz_filling.specs.declared.completion.Completion.TheVariants.{Off};
-ghost use Rattle.fz_filling.specs.BlockView.{located_block, located_items};
 ghost use Rattle.fz_filling.specs.Judged.{IsBlockRefusal, TellsKind, kind_told};
 ghost use Rattle.fz_filling.specs.Working.{HasRoom, IsPlacedWithin, moved_error};
 
@@ -58,14 +58,12 @@ fn started(
 ) -> Result<Box<Partial>, BlockError>
     requires room { IfSome spare (λ s. HasRoom model.now s.value) }
     ensures started { IfOk result (λ s. s.value
-        ≡ start model.now (located_block block.now)) }
-    ensures clean { OnOk result (items_fault model.now
-        (located_items block.now.items.items) ≡ None) }
+        ≡ start model.now (block_of block.now)) }
+    ensures fits { OnOk result (AllFit model.now (bare_items block.now.items.items)) }
     ensures kinds { IfOk result (λ s. IsPartial model.now s.value) }
-    ensures only { IfErr result (λ e. TellsKind e
-        (block_fault model.now (located_block block.now))) }
+    ensures only { IfErr result (λ e. TellsKind e (block_fault model.now block.now)) }
     ensures refused { IfErr result (λ e. HasPlaces block.now → EndsWithin usize.MAX block.now
-        → IsBlockRefusal model.now (located_block block.now) e) }
+        → IsBlockRefusal model.now block.now e) }
 {
     let mut partial = nothing_proposed(alloc, model, spare)?;
     match start(alloc, model, &block.items, &mut partial) {
@@ -87,13 +85,12 @@ pub fn filled(
 ) -> Result<Box<Partial>, BlockError>
     requires course { IfSome course.old (IsCourse model.now) }
     requires room { IfSome spare (λ s. HasRoom model.now s.value) }
-    ensures filled { IfOk result (λ f. IsFilled completion model.now (located_block block.now)
+    ensures filled { IfOk result (λ f. IsFilled completion model.now (block_of block.now)
         f.value) }
     ensures kinds { IfOk result (λ f. IsPartial model.now f.value) }
-    ensures only { IfErr result (λ e. TellsKind e
-        (block_fault model.now (located_block block.now))) }
+    ensures only { IfErr result (λ e. TellsKind e (block_fault model.now block.now)) }
     ensures refused { IfErr result (λ e. HasPlaces block.now → EndsWithin usize.MAX block.now
-        → IsBlockRefusal model.now (located_block block.now) e) }
+        → IsBlockRefusal model.now block.now e) }
     ensures course { IfSome course.new (IsCourse model.now) }
 {
     let mut partial = started(alloc, model, block, spare)?;
@@ -121,14 +118,13 @@ pub fn fill_with_steps(
     block: &Block<'_>,
 ) -> Result<(Partial, Vec<Giver>), BlockError>
     ensures filled { IfOk result
-        (λ f. IsFilled completion model.now (located_block block.now) f.0) }
+        (λ f. IsFilled completion model.now (block_of block.now) f.0) }
     ensures kinds { IfOk result (λ f. IsPartial model.now f.0) }
     ensures steps { IfOk result (λ f. AreGivers completion model.now
-        (start model.now (located_block block.now)) f.0 f.1.items) }
-    ensures only { IfErr result (λ e. TellsKind e
-        (block_fault model.now (located_block block.now))) }
+        (start model.now (block_of block.now)) f.0 f.1.items) }
+    ensures only { IfErr result (λ e. TellsKind e (block_fault model.now block.now)) }
     ensures refused { IfErr result (λ e. HasPlaces block.now → EndsWithin usize.MAX block.now
-        → IsBlockRefusal model.now (located_block block.now) e) }
+        → IsBlockRefusal model.now block.now e) }
 {
     let mut partial = started(alloc, model, block, None)?;
     let mut steps = fill_in_steps(alloc, model, &mut partial)?;
@@ -150,15 +146,14 @@ pub fn fill_with_steps(
 /// The fault of the first printed item that has one, with its byte range in the stream, and
 /// `Memory` where memory runs out.
 pub fn fill(alloc: Global, model: &Model<'_>, block: &Block<'_>) -> Result<Partial, BlockError>
-    ensures filled { IfOk result (λ F. IsFilled Off model.now (located_block block.now) F) }
+    ensures filled { IfOk result (λ F. IsFilled Off model.now (block_of block.now) F) }
     ensures kinds { IfOk result (λ F. IsPartial model.now F) }
     // Whatever the block: it has a fault, and its first is of the kind that the error has.
-    ensures only { IfErr result (λ e. TellsKind e
-        (block_fault model.now (located_block block.now))) }
+    ensures only { IfErr result (λ e. TellsKind e (block_fault model.now block.now)) }
     // Of a block as `fz_stream` reads it, with byte ranges in its text: the error is the block's
     // first fault, with its byte range in the stream.
     ensures refused { IfErr result (λ e. HasPlaces block.now → EndsWithin usize.MAX block.now
-        → IsBlockRefusal model.now (located_block block.now) e) }
+        → IsBlockRefusal model.now block.now e) }
 {
     let (filling, _) = fill_with_steps(alloc, model, Completion::Off, block)?;
     Ok(filling)

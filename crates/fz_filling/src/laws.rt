@@ -11,7 +11,6 @@ ghost use Rattle.fz_filling.specs.Laws.{
   FillingFollows,
   FillingIsOne,
   FillingIsProposed,
-  BlocksAreBare,
   NotBetterHaveNone,
   SatisfiedIsSolved,
   ViolatedHaveNone,
@@ -76,9 +75,4 @@ pub fn filling_follows()
 /// A filling is a partial assignment with every printed value.
 pub fn filling_is_proposed()
     ensures { FillingIsProposed }
-{}
-
-/// Blocks with byte ranges, once the ranges are left out, are the plain blocks.
-pub fn blocks_are_bare()
-    ensures { BlocksAreBare }
 {}

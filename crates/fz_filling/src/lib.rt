@@ -42,7 +42,7 @@ pub use fz_stream::{
     StreamError, SyntaxError, blocks, parse_within, to_text,
 };
 pub use laws::{
-    accepted_are_judged, accepted_have_solutions, blocks_are_bare, completed_keep_verdicts,
+    accepted_are_judged, accepted_have_solutions, completed_keep_verdicts,
     each_not_better_has_none, each_satisfied_has_one, each_violated_has_none, filling_follows,
     filling_is_one, filling_is_proposed, not_better_have_none, satisfied_is_solved,
     violated_have_none,

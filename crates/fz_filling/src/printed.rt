@@ -7,12 +7,9 @@ ghost use Rattle.fz_index.specs.of_model.Names.{literal_value};
 ghost use Rattle.fz_index.specs.of_model.declared.Term.TheVariants.{Var};
 ghost use Rattle.fz_index.specs.of_model.Shown.{scalar_terms, what_place};
 ghost use Rattle.fz_index.specs.of_model.Slots.{scalar_term};
-ghost use Rattle.fz_index.specs.of_model.View.{located_literal};
-ghost use Rattle.fz_stream.specs.of_syntax.View.{bare_literal};
-ghost use Rattle.fz_filling.specs.BlockFaults.{items_fault, printed_fault};
-ghost use Rattle.fz_filling.specs.Solutions.{printed_values};
+ghost use Rattle.fz_stream.specs.of_syntax.View.{bare_items, bare_literal, bare_printed, bare_printed_value};
+ghost use Rattle.fz_filling.specs.BlockFaults.{AllFit, ItemFits};
 ghost use Rattle.fz_filling.specs.Verdict.{has_printed, printed_fails};
-ghost use Rattle.fz_filling.specs.BlockView.{located_items, located_printed, located_printed_value};
 ghost use Rattle.fz_filling.specs.View.{fault_view};
 ghost use Rattle.fz_filling.specs.Working.{has_value, have_values};
 
@@ -65,7 +62,7 @@ fn have_values(
     literals: &[Literal],
 ) -> Result<bool, AllocError>
     ensures { IfOk result (λ b. b ≡ have_values partial.now (scalar_terms list.entry)
-        (printed_values (map located_literal literals.now))) }
+        (map literal_value (map bare_literal literals.now))) }
 {
     if list.len() != literals.len() {
         return Ok(false);
@@ -87,7 +84,7 @@ fn scalar_has(
     value: &PrintedValue,
 ) -> Result<bool, AllocError>
     ensures { IfOk result (λ b. (k : KindOf) → b ≡ has_printed partial.now
-        (Place.Scalar k (scalar_term scalar.entry)) (located_printed_value value.now)) }
+        (Place.Scalar k (scalar_term scalar.entry)) (bare_printed_value value.now)) }
 {
     match value {
         PrintedValue::One(literal) => has_value(alloc, partial, scalar, literal),
@@ -104,7 +101,7 @@ fn array_has(
 ) -> Result<bool, AllocError>
     ensures { IfOk result (λ b. (x : List ℕ) (k : KindOf)
         → b ≡ has_printed partial.now (Place.Array x k (scalar_terms list.entry))
-        (located_printed_value value.now)) }
+        (bare_printed_value value.now)) }
 {
     match value {
         PrintedValue::One(_) => Ok(false),
@@ -121,7 +118,7 @@ fn has_printed(
 ) -> Result<bool, AllocError>
     ensures { IfOk result (λ b. (vs : List DeclaredVariable) (x : List ℕ)
         → b ≡ has_printed partial.now (what_place vs x what.entry)
-        (located_printed_value value.now)) }
+        (bare_printed_value value.now)) }
 {
     match what {
         What::Scalar(scalar) => scalar_has(alloc, partial, scalar, value),
@@ -136,9 +133,9 @@ fn item_fails<'a>(
     partial: &Partial,
     item: &Printed<'_>,
 ) -> Result<Option<Fault<'a>>, AllocError>
-    ensures { IfOk result (λ o. printed_fault model.now (located_printed item.now) ≡ None
-        → option_map fault_view o ≡ printed_fails model.now partial.now
-        (located_printed item.now)) }
+    requires fits { ItemFits model.now (bare_printed item.now) }
+    ensures { IfOk result (λ o. option_map fault_view o
+        ≡ printed_fails model.now partial.now (bare_printed item.now)) }
 {
     match model.find(item.name.text) {
         Some(found) => {
@@ -148,7 +145,7 @@ fn item_fails<'a>(
                 Ok(Some(Fault::Printed(found.name)))
             }
         }
-        // No block with an unknown name is judged.
+        // The name is declared, since the item fits.
         None => Ok(None),
     }
 }
@@ -160,9 +157,9 @@ pub fn printed_fails<'a>(
     partial: &Partial,
     items: &[Printed<'_>],
 ) -> Result<Option<Fault<'a>>, AllocError>
-    requires clean { items_fault model.now (located_items items.now) ≡ None }
+    requires fits { AllFit model.now (bare_items items.now) }
     ensures { IfOk result (λ o. option_map fault_view o
-        ≡ first_some (printed_fails model.now partial.now) (located_items items.now)) }
+        ≡ first_some (printed_fails model.now partial.now) (bare_items items.now)) }
 {
     for item in items {
         let fault = item_fails(alloc, model, partial, item)?;

@@ -8,12 +8,9 @@ ghost use Rattle.fz_index.specs.of_model.Names.{literal_value};
 ghost use Rattle.fz_index.specs.of_model.Partial.{nothing_for};
 ghost use Rattle.fz_index.specs.of_model.Shown.{scalar_terms, what_place};
 ghost use Rattle.fz_index.specs.of_model.Slots.{scalar_term};
-ghost use Rattle.fz_index.specs.of_model.View.{located_literal};
-ghost use Rattle.fz_stream.specs.of_syntax.View.{bare_literal, bare_literal_kind};
+ghost use Rattle.fz_stream.specs.of_syntax.View.{bare_items, bare_literal, bare_literal_kind, bare_printed, bare_printed_value};
 ghost use Rattle.fz_filling.specs.BlockFaults.{items_fault, printed_fault};
-ghost use Rattle.fz_filling.specs.Solutions.{printed_values};
 ghost use Rattle.fz_filling.specs.Filling.{pairs, pairs_at, printed_scalars, start_from};
-ghost use Rattle.fz_filling.specs.BlockView.{located_items, located_printed, located_printed_value};
 ghost use Rattle.fz_filling.specs.Judged.{TellsFault};
 ghost use Rattle.fz_filling.specs.Working.{HasRoom, IsWithin, element_pairs, item_scalars, one_pair, terms_of_what, with_all, with_first};
 
@@ -113,7 +110,7 @@ fn set_elements(
 ) -> Result<(), AllocError>
     requires within { AllByRecursion (IsWithin (length partial.old)) (scalar_terms list) }
     ensures { OnOk result (partial.new ≡ with_all partial.old
-        (pairs (scalar_terms list.entry) (printed_values (map located_literal literals.now)))) }
+        (pairs (scalar_terms list.entry) (map literal_value (map bare_literal literals.now)))) }
 {
     for (slot, literal) in list.slots.iter().zip(literals) {
         let scalar = scalar_at(list.constants, *slot);
@@ -132,7 +129,7 @@ fn set_value(
     requires within { AllByRecursion (IsWithin (length partial.old)) (terms_of_what what) }
     ensures { OnOk result ((vs : List DeclaredVariable) (x : List ℕ)
         → partial.new ≡ with_all partial.old
-        (pairs_at (what_place vs x what.entry) (located_printed_value value.now))) }
+        (pairs_at (what_place vs x what.entry) (bare_printed_value value.now))) }
 {
     match what {
         What::Scalar(scalar) => set_one(alloc, partial, scalar, value),
@@ -149,7 +146,7 @@ fn set_one(
 ) -> Result<(), AllocError>
     requires within { IsWithin (length partial.old) (scalar_term scalar) }
     ensures { OnOk result (partial.new ≡ with_all partial.old
-        (one_pair (scalar_term scalar.entry) (located_printed_value value.now))) }
+        (one_pair (scalar_term scalar.entry) (bare_printed_value value.now))) }
 {
     match value {
         PrintedValue::One(literal) => set_scalar(alloc, partial, scalar, literal),
@@ -166,7 +163,7 @@ fn set_array(
 ) -> Result<(), AllocError>
     requires within { AllByRecursion (IsWithin (length partial.old)) (scalar_terms list) }
     ensures { OnOk result (partial.new ≡ with_all partial.old
-        (element_pairs (scalar_terms list.entry) (located_printed_value value.now))) }
+        (element_pairs (scalar_terms list.entry) (bare_printed_value value.now))) }
 {
     match value {
         PrintedValue::One(_) => Ok(()),
@@ -184,11 +181,10 @@ fn set_item(
 ) -> Result<(), BlockError>
     requires fits { IsPartial model.now partial.old }
     ensures given { OnOk result (partial.new
-        ≡ with_all partial.old (item_scalars model.now (located_printed item.now))) }
+        ≡ with_all partial.old (item_scalars model.now (bare_printed item.now))) }
     ensures kinds { OnOk result (IsPartial model.now partial.new) }
-    ensures clean { OnOk result (printed_fault model.now (located_printed item.now) ≡ None) }
-    ensures told { IfErr result (λ e. TellsFault e
-        (printed_fault model.now (located_printed item.now))) }
+    ensures clean { OnOk result (printed_fault model.now item.now ≡ None) }
+    ensures told { IfErr result (λ e. TellsFault e (printed_fault model.now item.now)) }
 {
     let Some(found) = model.find(item.name.text) else {
         return Err(BlockError::UnknownName(item.name.span));
@@ -228,11 +224,10 @@ pub(crate) fn start(
 ) -> Result<(), BlockError>
     requires empty { partial.old ≡ nothing_for model.now }
     ensures started { OnOk result (partial.new ≡ start_from
-        (printed_scalars model.now (located_items items.now)) 0 (variables_of model.now)) }
+        (printed_scalars model.now (bare_items items.now)) 0 (variables_of model.now)) }
     ensures kinds { OnOk result (IsPartial model.now partial.new) }
-    ensures clean { OnOk result (items_fault model.now (located_items items.now) ≡ None) }
-    ensures told { IfErr result (λ e. TellsFault e
-        (items_fault model.now (located_items items.now))) }
+    ensures clean { OnOk result (items_fault model.now items.now ≡ None) }
+    ensures told { IfErr result (λ e. TellsFault e (items_fault model.now items.now)) }
 {
     for item in items {
         set_item(alloc, model, partial, item)?;

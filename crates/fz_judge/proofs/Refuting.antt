@@ -8,7 +8,7 @@ use Rattle.fz_filling.specs.Completed.{IsCompleted}
 use Rattle.fz_filling.specs.Completed.IsCompleted.{Refuted}
 use Rattle.fz_filling.specs.declared.completion.Completion.TheVariants.{On}
 use Rattle.fz_filling.specs.Judged.{IsOfPoint}
-use Rattle.fz_filling.specs.Solutions.{Block}
+use Rattle.fz_filling.specs.of_stream.Parts.{SolutionBlock}
 use Rattle.fz_filling.specs.Verdict.{Fault, IsFilled, Verdict, fault_named}
 use Rattle.fz_filling.specs.Verdict.Reason.{NoValueFor}
 use Rattle.fz_filling.specs.Verdict.Verdict.{Undecided, Violated}
@@ -24,7 +24,7 @@ of_point m k name f within told is =
     let same : shown_point p ≡ name = cc in
     (p, at, ap Violated (is ∙ ap fault_named (sym same)))
 
-pub refuted_told : (m : Model) (block : Block) (before : Option ℤ) (F : Partial) (name : List ℕ)
+pub refuted_told : (m : Model) (block : SolutionBlock) (before : Option ℤ) (F : Partial) (name : List ℕ)
     (k : ℕ) (v : Verdict) (kept : Option ℤ) → IsFilled On m block F → IsOfPoint m k v
     → ((A : Assignment) → IsKnownSolution m A → HasEach F (whole A) → ⊥) → kept ≡ objective m F
     → IsCompleted m block before F (Undecided (NoValueFor name)) v kept

@@ -3,13 +3,13 @@
 ghost use Rattle.std.specs.Prelude.{◌≡◌, IfErr, IfOk, IfSome, None, option_map};
 ghost use Rattle.fz_search.specs.of_model.Meaning.{IsPartial, objective};
 ghost use Rattle.fz_search.specs.of_model.Overviews.{IsOverview};
-ghost use Rattle.fz_filling.specs.of_stream.Found.{EndsWithin, HasPlaces};
-ghost use Rattle.fz_filling.specs.BlockFaults.{block_fault, items_fault};
+ghost use Rattle.fz_filling.specs.of_stream.Found.{EndsWithin, HasPlaces, block_of};
+ghost use Rattle.fz_filling.specs.of_syntax.View.{bare_items};
+ghost use Rattle.fz_filling.specs.BlockFaults.{AllFit, block_fault};
 ghost use Rattle.fz_filling.specs.Completed.{IsCompleted};
-ghost use Rattle.fz_filling.specs.Verdict.{IsFilled, objective_fails, verdict, verdict_by};
+ghost use Rattle.fz_filling.specs.Verdict.{IsFilled, objective_fails, verdict};
 ghost use Rattle.fz_filling.specs.declared.completion.Completion.TheVariants.{On};
 ghost use Rattle.fz_filling.specs.Verdict.Verdict.{Undecided};
-ghost use Rattle.fz_filling.specs.BlockView.{located_block, located_items};
 ghost use Rattle.fz_filling.specs.Judged.{IsBlockRefusal, IsJudged, IsOfPoint, TellsKind};
 ghost use Rattle.fz_filling.specs.View.{fault_view, reason_view, verdict_view};
 ghost use Rattle.fz_filling.specs.Working.{IsFound, compared, not_shown_better, with_objective};
@@ -50,9 +50,9 @@ fn verdict_under<'a>(
     before: Option<i64>,
 ) -> Result<(Verdict<'a>, Option<i64>), AllocError>
     requires overview { IsOverview model.now overview.now }
-    requires clean { items_fault model.now (located_items block.now.items.items) ≡ None }
+    requires fits { AllFit model.now (bare_items block.now.items.items) }
     ensures judged { IfOk result (λ r. verdict_view r.0
-        ≡ verdict model.now partial.now (located_block block.now) before) }
+        ≡ verdict model.now partial.now (block_of block.now) before) }
     ensures objective { IfOk result (λ r. r.1 ≡ objective model.now partial.now) }
 {
     let now = objective(model, partial);
@@ -75,9 +75,9 @@ fn verdict_over<'a>(
     before: Option<i64>,
 ) -> Result<(Verdict<'a>, Option<i64>), AllocError>
     requires overview { IfSome known.old (IsOverview model.now) }
-    requires clean { items_fault model.now (located_items block.now.items.items) ≡ None }
+    requires fits { AllFit model.now (bare_items block.now.items.items) }
     ensures judged { IfOk result (λ r. verdict_view r.0
-        ≡ verdict model.now partial.now (located_block block.now) before) }
+        ≡ verdict model.now partial.now (block_of block.now) before) }
     ensures objective { IfOk result (λ r. r.1 ≡ objective model.now partial.now) }
     ensures overview { IfSome known.new (IsOverview model.now) }
 {
@@ -234,13 +234,12 @@ impl<'m, 'a> Judge<'m, 'a> {
     /// The filling of the next block, in the memory of the one before.
     fn filling(&mut self, alloc: Global, block: &Block<'_>) -> Result<Box<Partial>, BlockError>
         ensures filled { IfOk result (λ f. IsFilled self.old.completion self.old.model
-            (located_block block.now) f.value) }
+            (block_of block.now) f.value) }
         ensures kinds { IfOk result (λ f. IsPartial self.old.model f.value) }
         ensures same { self.new ≡ self.old }
-        ensures only { IfErr result (λ e. TellsKind e
-            (block_fault self.old.model (located_block block.now))) }
+        ensures only { IfErr result (λ e. TellsKind e (block_fault self.old.model block.now)) }
         ensures refused { IfErr result (λ e. HasPlaces block.now → EndsWithin usize.MAX block.now
-            → IsBlockRefusal self.old.model (located_block block.now) e) }
+            → IsBlockRefusal self.old.model block.now e) }
     {
         let spare = self.spare.take();
         let course = &mut self.course;
@@ -268,14 +267,14 @@ impl<'m, 'a> Judge<'m, 'a> {
         under: Verdict<'a>,
         now: Option<i64>,
     ) -> Result<Told<'a>, AllocError>
-        requires clean { items_fault self.old.model (located_items block.now.items.items) ≡ None }
+        requires fits { AllFit self.old.model (bare_items block.now.items.items) }
         requires kinds { IsPartial self.old.model filling.now }
-        requires filling { IsFilled On self.old.model (located_block block.now) filling.now }
+        requires filling { IsFilled On self.old.model (block_of block.now) filling.now }
         requires filled { verdict_view under
-            ≡ verdict self.old.model filling.now (located_block block.now) self.old.before }
+            ≡ verdict self.old.model filling.now (block_of block.now) self.old.before }
         requires objective { now ≡ objective self.old.model filling.now }
         ensures told { IfOk result (λ r. IsCompleted self.old.model
-            (located_block block.now) self.old.found filling.now (verdict_view under.entry)
+            (block_of block.now) self.old.found filling.now (verdict_view under.entry)
             (verdict_view r.0) r.1) }
         ensures refuted { IfOk result (λ r. IfSome (option_map (λ f. f.point) r.2)
             (λ k. IsOfPoint self.old.model k (verdict_view r.0))) }
@@ -297,12 +296,12 @@ impl<'m, 'a> Judge<'m, 'a> {
         reason: Reason<'a>,
         now: Option<i64>,
     ) -> Result<Told<'a>, AllocError>
-        requires clean { items_fault self.old.model (located_items block.now.items.items) ≡ None }
+        requires fits { AllFit self.old.model (bare_items block.now.items.items) }
         requires kinds { IsPartial self.old.model filling.now }
-        requires filling { IsFilled On self.old.model (located_block block.now) filling.now }
+        requires filling { IsFilled On self.old.model (block_of block.now) filling.now }
         requires objective { now ≡ objective self.old.model filling.now }
         ensures told { IfOk result (λ r. IsCompleted self.old.model
-            (located_block block.now) self.old.found filling.now
+            (block_of block.now) self.old.found filling.now
             (Undecided (reason_view reason.entry)) (verdict_view r.0) r.1) }
         ensures refuted { IfOk result (λ r. IfSome (option_map (λ f. f.point) r.2)
             (λ k. IsOfPoint self.old.model k (verdict_view r.0))) }
@@ -332,10 +331,10 @@ impl<'m, 'a> Judge<'m, 'a> {
         values: &Partial,
         block: &Block<'_>,
     ) -> Result<Option<Option<i64>>, AllocError>
-        requires clean { items_fault self.old.model (located_items block.now.items.items) ≡ None }
+        requires fits { AllFit self.old.model (bare_items block.now.items.items) }
         requires kinds { IsPartial self.old.model values.now }
         ensures found { IfOk result (λ o. IfSome o
-            (IsFound self.old.model (located_block block.now) self.old.found)) }
+            (IsFound self.old.model (block_of block.now) self.old.found)) }
         ensures same { self.new ≡ self.old }
     {
         let overview = &mut self.overview;
@@ -358,7 +357,7 @@ impl<'m, 'a> Judge<'m, 'a> {
     /// The fault of the first printed item that has one, with its byte range in the stream, and
     /// `Memory` where memory runs out.
     pub fn judge(&mut self, alloc: Global, block: &Block<'_>) -> Result<Verdict<'a>, BlockError>
-        ensures judged { IfOk result (λ v. IsJudged self.old self.new (located_block block.now)
+        ensures judged { IfOk result (λ v. IsJudged self.old self.new (block_of block.now)
             (verdict_view v)) }
         // Where it is told why bounds refute the block, the verdict is of that very point.
         ensures refuted { IfOk result (λ v. IfSome self.new.refuted
@@ -367,12 +366,11 @@ impl<'m, 'a> Judge<'m, 'a> {
         ensures same_completion { self.new.completion ≡ self.old.completion }
         ensures unchanged { IfErr result (λ _. self.new ≡ self.old) }
         // Whatever the block: it has a fault, and its first is of the kind that the error has.
-        ensures only { IfErr result (λ e. TellsKind e
-            (block_fault self.old.model (located_block block.now))) }
+        ensures only { IfErr result (λ e. TellsKind e (block_fault self.old.model block.now)) }
         // Of a block as `fz_stream` reads it, with byte ranges in its text: the error is the
         // block's first fault, with its byte range in the stream.
         ensures refused { IfErr result (λ e. HasPlaces block.now → EndsWithin usize.MAX block.now
-            → IsBlockRefusal self.old.model (located_block block.now) e) }
+            → IsBlockRefusal self.old.model block.now e) }
     {
         let filling = self.filling(alloc, block)?;
         let partial = &*filling;

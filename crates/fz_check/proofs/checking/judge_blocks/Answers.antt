@@ -19,4 +19,4 @@ returns-in-Err-clause-refused c =
 
 pub returns-clause-report : goal.returns-clause-report
 returns-clause-report c =
-    judged_all c.args.model.now c.args.blocks.now c.args.claims.now c.loop-place.place c.loop-place.jury c.loop-place.entries.items c.loop-place.rest.now c.loop-place.invariant (answer_view c.answer.result) c.loop-place-test.false c.requires.places c.answer.ensures
+    judged_all c.args.model.now c.args.blocks.now c.args.claims.now c.loop-place.place c.loop-place.jury c.loop-place.entries.items c.loop-place.rest.now c.loop-place.invariant (answer_view c.answer.result) c.loop-place-test.false c.answer.ensures

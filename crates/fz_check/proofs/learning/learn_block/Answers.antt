@@ -1,7 +1,7 @@
 use Rattle.std.proofs.Common.{◌≡◌, ◌∙◌, ap}
 use Rattle.fz_judge.specs.of_model.Meaning.{Model}
 use Rattle.fz_judge.specs.of_model.Parts.{goal_view}
-use Rattle.fz_judge.specs.of_filling.BlockView.{located_block}
+use Rattle.fz_judge.specs.of_stream.Found.{block_of}
 use Rattle.fz_judge.specs.of_filling.Judged.{JudgeState}
 use Rattle.fz_judge.specs.of_filling.View.{verdict_view}
 use Rattle.fz_check.proofs.LearningLemmas.{learned}
@@ -11,4 +11,4 @@ pub returns-in-Ok-Satisfied-clause-knows : goal.returns-in-Ok-Satisfied-clause-k
 returns-in-Ok-Satisfied-clause-knows g c =
     let same : c.forget.new.self.model ≡ c.args.judge.now.model = ap (λ (s : JudgeState). s.model) c.forget.ensures in
     let aim : goal_view c.goal.result.now ≡ c.args.judge.now.model.aim = c.goal.ensures.asked ∙ ap (λ (m : Model). m.aim) (c.model.ensures ∙ c.judge.ensures.same_model ∙ same) in
-    learned c.args.judge.now.model c.forget.new.self c.judge.new.self (located_block c.args.block.now) _ _ _ _ _ _ same c.in-Ok-Satisfied.ensures.judged (ap verdict_view c.in-Ok-Satisfied.field-0-is) aim c.objective.ensures c.with.ensures
+    learned c.args.judge.now.model c.forget.new.self c.judge.new.self (block_of c.args.block.now) _ _ _ _ _ _ same c.in-Ok-Satisfied.ensures.judged (ap verdict_view c.in-Ok-Satisfied.field-0-is) aim c.objective.ensures c.with.ensures

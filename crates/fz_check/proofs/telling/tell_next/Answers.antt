@@ -14,7 +14,7 @@ on_err (Err e) f p = f e p
 
 pub returns-clause-told : goal.returns-clause-told
 returns-clause-told g c =
-    on_ok c.tell_part.result (λ told limits claims by m left given parts frame outcomes n h. (part_of c.in-Ok.part, c.in-Ok.ensures.part limits left given parts frame n, told claims by m parts outcomes h c.in-Ok.ensures.places)) c.tell_part.ensures.told
+    on_ok c.tell_part.result (λ told limits claims by m left given parts frame outcomes n h. (part_of c.in-Ok.part, c.in-Ok.ensures.part limits left given parts frame n, told claims by m parts outcomes h)) c.tell_part.ensures.told
 
 pub returns-clause-refused : goal.returns-clause-refused
 returns-clause-refused g c =

@@ -1,9 +1,7 @@
 use Rattle.std.proofs.Common.{◌∷◌, refl, sym, ap, subst, ◌∙◌, arith}
-use Rattle.std.specs.Prelude.{None, Some}
-use Rattle.fz_judge.specs.of_stream.Found.{EndsWithin}
+use Rattle.fz_judge.specs.of_stream.Found.{EndsWithin, block_of}
 use Rattle.fz_judge.specs.of_stream.Lending.{part_of, HasPlacesOfItems, PartEndsWithin}
 use Rattle.fz_judge.specs.of_stream.Splitting.{most_taken}
-use Rattle.fz_judge.specs.of_filling.BlockView.{located_block}
 use Rattle.fz_judge.specs.of_filling.View.{verdict_view}
 use Rattle.fz_check.specs.declared.tally.Tally.{Tally}
 use Rattle.fz_check.specs.Claims.{claim_event, late_events}
@@ -21,7 +19,7 @@ returns-in-Err-clause-refused g c = λ claims by m parts outcomes h places withi
 
 pub returns-in-Ok-clause-told : goal.returns-in-Ok-clause-told
 returns-in-Ok-clause-told g c =
-    let hears : HearsBlock c.args.jury.now c.judge.new.self c.hear_block-refuted.new.self (located_block c.in-Block.block) (record { verdict = verdict_view c.in-Ok.verdict; filled = c.judge.new.self.judge.before; found = c.judge.new.self.judge.found }) = record {
+    let hears : HearsBlock c.args.jury.now c.judge.new.self c.hear_block-refuted.new.self (block_of c.in-Block.block) (record { verdict = verdict_view c.in-Ok.verdict; filled = c.judge.new.self.judge.before; found = c.judge.new.self.judge.found }) = record {
       judges = c.in-Ok.ensures.judged;
       outcome = c.in-Ok.ensures.outcome;
       filled_is = refl;
@@ -34,15 +32,15 @@ returns-in-Ok-clause-told g c =
       same = c.hear_block-refuted.ensures.same;
     } in
     let count = ap (λ (t : Tally). t.blocks) c.hear_block-refuted.ensures.same.1 in
-    on_ok c.make_block_line.result (λ made claims by m parts outcomes h places.
+    on_ok c.make_block_line.result (λ made claims by m parts outcomes h.
     subst (λ p. TellsOneMore claims g.T.Taker.text by m c.hear_block-refuted.new.self parts outcomes (part_of p) c.make_block_line.new.line.items) (sym c.in-Block.is)
-    (tells_block claims by m c.args.jury.now parts outcomes h g.T.Taker.text c.judge.new.self c.hear_block-refuted.new.self c.in-Block.block _ c.make_block_line.new.line.items hears (made ∙ (λ i. text_of g.T.Taker.text (Judged (count i) (verdict_view c.in-Ok.verdict) ∷ late_events (c.hear_block-refuted.ensures.late i) (count i)))) (subst HasPlacesOfItems c.in-Block.is places)))
+    (tells_block claims by m c.args.jury.now parts outcomes h g.T.Taker.text c.judge.new.self c.hear_block-refuted.new.self (block_of c.in-Block.block) _ c.make_block_line.new.line.items hears (made ∙ (λ i. text_of g.T.Taker.text (Judged (count i) (verdict_view c.in-Ok.verdict) ∷ late_events (c.hear_block-refuted.ensures.late i) (count i))))))
     c.make_block_line.ensures.made
 
 pub returns-in-Some-clause-told : goal.returns-in-Some-clause-told
 returns-in-Some-clause-told g c =
     let hears : HearsClaim c.args.jury.now c.hear_claim.new.self c.in-Claim.kind = record { heard = c.hear_claim.ensures.heard; same = c.hear_claim.ensures.same } in
-    on_ok c.make_line.result (λ made claims by m parts outcomes h places.
+    on_ok c.make_line.result (λ made claims by m parts outcomes h.
     subst (λ p. TellsOneMore claims g.T.Taker.text by m c.hear_claim.new.self parts outcomes (part_of p) c.make_line.new.line.items) (sym c.in-Claim.is)
     (tells_claim claims by m c.args.jury.now parts outcomes h g.T.Taker.text c.hear_claim.new.self c.in-Claim.kind c.make_line.new.line.items hears
     (made ∙ ap (λ r. g.T.Taker.text (claim_event c.in-Claim.kind r)) (sym c.in-Some.is ∙ c.hear_claim.ensures.refutation))))
@@ -51,7 +49,7 @@ returns-in-Some-clause-told g c =
 pub returns-in-None-clause-told : goal.returns-in-None-clause-told
 returns-in-None-clause-told g c =
     let hears : HearsClaim c.args.jury.now c.hear_claim.new.self c.in-Claim.kind = record { heard = c.hear_claim.ensures.heard; same = c.hear_claim.ensures.same } in
-    on_ok c.make_line-in-None.result (λ made claims by m parts outcomes h places.
+    on_ok c.make_line-in-None.result (λ made claims by m parts outcomes h.
     subst (λ p. TellsOneMore claims g.T.Taker.text by m c.hear_claim.new.self parts outcomes (part_of p) c.make_line-in-None.new.line.items) (sym c.in-Claim.is)
     (tells_claim claims by m c.args.jury.now parts outcomes h g.T.Taker.text c.hear_claim.new.self c.in-Claim.kind c.make_line-in-None.new.line.items hears
     (made ∙ ap (λ r. g.T.Taker.text (claim_event c.in-Claim.kind r)) (sym c.in-None.is ∙ c.hear_claim.ensures.refutation))))

@@ -4,9 +4,9 @@ use Rattle.fz_index.specs.of_model.declared.Slot.{Slot}
 use Rattle.fz_index.specs.of_model.declared.Term.{Term}
 use Rattle.fz_index.specs.of_model.Slots.{slot_term}
 use Rattle.fz_index.specs.of_model.Meaning.{Partial}
-use Rattle.fz_index.specs.of_model.View.{located_literal}
+use Rattle.fz_index.specs.of_model.Names.{literal_value}
+use Rattle.fz_stream.specs.of_syntax.View.{bare_literal}
 use Rattle.fz_stream.specs.of_syntax.declared.Literal.{Literal}
-use Rattle.fz_filling.specs.Solutions.{printed_values}
 use Rattle.fz_filling.specs.Filling.{pairs}
 use Rattle.fz_filling.specs.Working.{IsWithin, with_all}
 use Rattle.fz_filling.proofs.Lists.{both_end, mapped_at}
@@ -28,4 +28,4 @@ pub returns : goal.returns
 returns c =
     let e = zip_end c.args.list.slots.now c.args.literals.now c.loop-slot.yielded c.into_iter-slot-iterator.result c.loop-slot.slot-iterator c.next.new.self c.next.result (cc) (cc) c.loop-slot.yielded_by c.in-None.is c.next.ensures.steps in
     sym (c.loop-slot.invariant.given
-    ∙ both_end (λ (xs : List Slot) (ls : List Literal). with_all c.loop-slot.partial (pairs (map (slot_term c.args.list.constants.now) xs) (printed_values (map located_literal ls)))) c.loop-slot.partial (λ ls. refl) (λ xs. no_literals c.loop-slot.partial (map (slot_term c.args.list.constants.now) xs)) c.args.list.slots.now c.args.literals.now (length c.loop-slot.yielded) e)
+    ∙ both_end (λ (xs : List Slot) (ls : List Literal). with_all c.loop-slot.partial (pairs (map (slot_term c.args.list.constants.now) xs) (map literal_value (map bare_literal ls)))) c.loop-slot.partial (λ ls. refl) (λ xs. no_literals c.loop-slot.partial (map (slot_term c.args.list.constants.now) xs)) c.args.list.slots.now c.args.literals.now (length c.loop-slot.yielded) e)

@@ -1,13 +1,13 @@
 use Rattle.std.proofs.Common.{◌≡◌, ℤ, Bool, true, false, Option, None, Some, IfOk, int_lt, refl, sym, ap, subst, ◌∙◌}
 use Rattle.fz_search.specs.of_model.Meaning.{Aim, Model, Partial, IsPartial, objective}
 use Rattle.fz_search.specs.of_model.Meaning.Aim.{Satisfy, Minimize, Maximize}
-use Rattle.fz_filling.specs.Solutions.{Block}
+use Rattle.fz_filling.specs.of_stream.Parts.{SolutionBlock}
 use Rattle.fz_filling.specs.Completed.{IsCompleted}
 use Rattle.fz_filling.specs.Completed.IsCompleted.{Found, AsFilled, NotBetterThanFound}
 use Rattle.fz_filling.specs.Verdict.{Fault, Verdict, not_better_if, objective_fails, verdict}
 use Rattle.fz_filling.specs.Verdict.Fault.{NotBetter}
 use Rattle.fz_filling.specs.Verdict.Verdict.{Satisfied, Undecided, Violated}
-use Rattle.fz_filling.specs.BlockView.{located_block}
+use Rattle.fz_filling.specs.of_stream.Found.{block_of}
 use Rattle.fz_filling.proofs.Accepted.{satisfied_after}
 use Rattle.fz_filling.specs.Judged.{JudgeState}
 use Rattle.fz_filling.specs.View.{fault_view, reason_view, verdict_view}
@@ -31,7 +31,7 @@ only_not_better (Maximize t) (Some b) None f e = cc
 only_not_better (Maximize t) (Some b) (Some n) f e = by_test (int_lt b n) n b f e
 
 -- a block that is satisfied under its filling, beside an objective that was looked for
-satisfied_told : (m : Model) (block : Block) (before found : Option ℤ) (F : Partial) (v w : Verdict)
+satisfied_told : (m : Model) (block : SolutionBlock) (before found : Option ℤ) (F : Partial) (v w : Verdict)
     (kept : Option ℤ) → IsPartial m F → v ≡ verdict m F block before → v ≡ Satisfied
     → kept ≡ objective m F → w ≡ compared (objective_fails m.aim found kept)
     → IsCompleted m block found F v w kept
@@ -47,13 +47,13 @@ satisfied_told m block before found F v w kept partial is satisfied kept_is told
 pub returns-in-Satisfied-clause-told : goal.returns-in-Satisfied-clause-told
 returns-in-Satisfied-clause-told c =
     let s = c.args.self.now in
-    satisfied_told s.model (located_block c.args.block.now) s.before s.found c.args.filling.now (verdict_view c.args.under) (verdict_view c.compared.result) c.args.now c.requires.kinds c.requires.filled (ap verdict_view c.in-Satisfied.is) c.requires.objective
+    satisfied_told s.model (block_of c.args.block.now) s.before s.found c.args.filling.now (verdict_view c.args.under) (verdict_view c.compared.result) c.args.now c.requires.kinds c.requires.filled (ap verdict_view c.in-Satisfied.is) c.requires.objective
     (subst (λ (t : JudgeState). verdict_view c.compared.result ≡ compared (objective_fails t.model.aim t.found c.args.now)) c.self.view_is c.compared.ensures)
 
 pub returns-in-Undecided-clause-told : goal.returns-in-Undecided-clause-told
 returns-in-Undecided-clause-told c =
     let told : verdict_view c.args.under ≡ Undecided (reason_view c.in-Undecided.reason) = ap verdict_view c.in-Undecided.is in
-    subst (λ w. IfOk c.undecided.result (λ r. IsCompleted c.args.self.now.model (located_block c.args.block.now) c.args.self.now.found c.args.filling.now w (verdict_view r.0) r.1)) (sym told) c.undecided.ensures.told
+    subst (λ w. IfOk c.undecided.result (λ r. IsCompleted c.args.self.now.model (block_of c.args.block.now) c.args.self.now.found c.args.filling.now w (verdict_view r.0) r.1)) (sym told) c.undecided.ensures.told
 
 pub returns-in-Violated-clause-told : goal.returns-in-Violated-clause-told
 returns-in-Violated-clause-told c =

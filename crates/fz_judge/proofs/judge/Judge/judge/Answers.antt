@@ -1,7 +1,7 @@
 use Rattle.std.proofs.Common.{◌≡◌, ◌∙◌, sym, ap, subst, rules}
 use Rattle.fz_search.specs.of_model.Meaning.{IsPartial}
 use Rattle.fz_filling.specs.Verdict.{IsFilled}
-use Rattle.fz_filling.specs.BlockView.{located_block}
+use Rattle.fz_filling.specs.of_stream.Found.{block_of}
 use Rattle.fz_filling.specs.Judged.{JudgeState}
 use Rattle.fz_filling.specs.Working.{HasRoom}
 use Rattle.fz_filling.proofs.Starting.{has_room}
@@ -18,7 +18,7 @@ invariant_of-self-2 c =
 pub returns-clause-judged : goal.returns-clause-judged
 returns-clause-judged c = record {
   filling = c.deref-partial.result.now;
-  is_filled = subst (IsFilled c.args.self.now.completion c.args.self.now.model (located_block c.args.block.now)) (sym c.deref-partial.ensures) (search rules);
+  is_filled = subst (IsFilled c.args.self.now.completion c.args.self.now.model (block_of c.args.block.now)) (sym c.deref-partial.ensures) (search rules);
   partial = subst (IsPartial c.args.self.now.model) (sym c.deref-partial.ensures) (search rules);
   told = search rules;
   kept_is = search rules;

@@ -4,19 +4,19 @@ use Rattle.fz_search.specs.of_model.Meaning.{Assignment, Model, Partial, objecti
 use Rattle.fz_search.specs.of_model.Openings.{HasEach}
 use Rattle.fz_search.specs.of_model.States.{IsKnownSolution}
 use Rattle.fz_search.specs.of_model.Shown.{point_name}
-use Rattle.fz_filling.specs.Solutions.{Block}
+use Rattle.fz_filling.specs.of_stream.Parts.{SolutionBlock}
 use Rattle.fz_filling.specs.Completed.{IsCompleted, LacksValuesAtMost}
 use Rattle.fz_filling.specs.Completed.IsCompleted.{Found, AsFilled}
 use Rattle.fz_filling.specs.Verdict.{Reason, Verdict}
 use Rattle.fz_filling.specs.Verdict.Verdict.{Satisfied, Undecided, Violated}
-use Rattle.fz_filling.specs.BlockView.{located_block}
+use Rattle.fz_filling.specs.of_stream.Found.{block_of}
 use Rattle.fz_filling.specs.Judged.{IsOfPoint, JudgeState}
 use Rattle.fz_filling.specs.View.{fault_view, reason_view}
 use Rattle.fz_filling.specs.Working.{IsFound}
 use Rattle.fz_judge.proofs.Refuting.{of_point, refuted_told}
 use Rattle.fz_judge.proofs.judge.Judge.undecided.Goals as goal
 
-found_told : (m : Model) (block : Block) (before : Option ℤ) (F : Partial) (v : Verdict)
+found_told : (m : Model) (block : SolutionBlock) (before : Option ℤ) (F : Partial) (v : Verdict)
     (kept : Option ℤ) (o : Option (Option ℤ)) → o ≡ Some kept → LacksValuesAtMost v
     → IfSome o (IsFound m block before)
     → IsCompleted m block before F v Satisfied kept
@@ -30,20 +30,20 @@ abbrev HasNoneWith : Model → Partial → Type 0
 HasNoneWith m F = (A : Assignment) → IsKnownSolution m A → HasEach F (whole A) → ⊥
 
 -- nothing is found, and the verdict stays
-stays : (s : JudgeState) (block : Block) (F : Partial) (r : Reason) (o : Option ℤ)
+stays : (s : JudgeState) (block : SolutionBlock) (F : Partial) (r : Reason) (o : Option ℤ)
     → o ≡ objective s.model F → IsCompleted s.model block s.found F (Undecided r) (Undecided r) o
 stays s block F r o is = rw is (AsFilled (λ (e : ◌≡◌ {A = Verdict} (Undecided r) Satisfied). cc))
 
 pub returns-in_default : goal.returns-in_default
-returns-in_default c = record { told = stays c.args.self.now (located_block c.args.block.now) c.args.filling.now (reason_view c.args.reason) c.args.now c.requires.objective; refuted = tt; same = refl }
+returns-in_default c = record { told = stays c.args.self.now (block_of c.args.block.now) c.args.filling.now (reason_view c.args.reason) c.args.now c.requires.objective; refuted = tt; same = refl }
 
 pub returns-in-Some-clause-told : goal.returns-in-Some-clause-told
 returns-in-Some-clause-told c =
     let told = ap (λ r. Undecided (reason_view r)) c.in-NoValue.is in
-    found_told c.args.self.now.model (located_block c.args.block.now) c.args.self.now.found c.args.filling.now (Undecided (reason_view c.args.reason)) c.in-Some.found _ c.in-Some.is (subst LacksValuesAtMost (sym told) tt) (subst (λ (s : JudgeState). IfSome c.in_ok-found-in-Values.field-0 (IsFound s.model (located_block c.args.block.now) s.found)) c.self.view_is c.in_ok-found-in-Values.ensures.found)
+    found_told c.args.self.now.model (block_of c.args.block.now) c.args.self.now.found c.args.filling.now (Undecided (reason_view c.args.reason)) c.in-Some.found _ c.in-Some.is (subst LacksValuesAtMost (sym told) tt) (subst (λ (s : JudgeState). IfSome c.in_ok-found-in-Values.field-0 (IsFound s.model (block_of c.args.block.now) s.found)) c.self.view_is c.in_ok-found-in-Values.ensures.found)
 
 pub returns-in-Values-clause-told : goal.returns-in-Values-clause-told
-returns-in-Values-clause-told c = stays c.args.self.now (located_block c.args.block.now) c.args.filling.now (reason_view c.args.reason) c.args.now c.requires.objective
+returns-in-Values-clause-told c = stays c.args.self.now (block_of c.args.block.now) c.args.filling.now (reason_view c.args.reason) c.args.now c.requires.objective
 
 pub returns-in-Refuted : goal.returns-in-Refuted
 returns-in-Refuted c =
@@ -55,11 +55,11 @@ returns-in-Refuted c =
     let here : IsOfPoint c.args.self.now.model k (Violated f) = subst (λ (s : JudgeState). IsOfPoint s.model k (Violated f)) c.self.view_is there in
     let nobody : HasNoneWith c.args.self.now.model c.args.filling.now = subst (λ (s : JudgeState). HasNoneWith s.model c.args.filling.now) c.self.view_is none in
     record {
-      told = subst (λ w. IsCompleted c.args.self.now.model (located_block c.args.block.now) c.args.self.now.found c.args.filling.now w (Violated f) c.args.now) (sym told)
-          (refuted_told c.args.self.now.model (located_block c.args.block.now) c.args.self.now.found c.args.filling.now _ k (Violated f) c.args.now c.requires.filling here nobody c.requires.objective);
+      told = subst (λ w. IsCompleted c.args.self.now.model (block_of c.args.block.now) c.args.self.now.found c.args.filling.now w (Violated f) c.args.now) (sym told)
+          (refuted_told c.args.self.now.model (block_of c.args.block.now) c.args.self.now.found c.args.filling.now _ k (Violated f) c.args.now c.requires.filling here nobody c.requires.objective);
       refuted = here;
       same = c.self.view_is;
     }
 
 pub returns-clause-told : goal.returns-clause-told
-returns-clause-told c = stays c.args.self.now (located_block c.args.block.now) c.args.filling.now (reason_view c.args.reason) c.args.now c.requires.objective
+returns-clause-told c = stays c.args.self.now (block_of c.args.block.now) c.args.filling.now (reason_view c.args.reason) c.args.now c.requires.objective
