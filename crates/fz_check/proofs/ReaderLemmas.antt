@@ -14,8 +14,8 @@ use Rattle.fz_judge.specs.of_stream.Splitting.{SplitterState, Holds, Fits, Passe
 use Rattle.fz_judge.specs.of_syntax.Limits.{Limits}
 use Rattle.fz_judge.proofs.of_stream.PartLemmas.{every_append, into_frames}
 use Rattle.fz_judge.specs.of_syntax.Span.{Span}
-use Rattle.fz_check.specs.declared.ending.Ending.{Ending}
-use Rattle.fz_check.specs.declared.ending.Ending.TheVariants.{Whole, Cut}
+use Rattle.fz_check.specs.declared.options.Ending.{Ending}
+use Rattle.fz_check.specs.declared.options.Ending.TheVariants.{Whole, Cut}
 use Rattle.fz_check.specs.declared.reader.Step.TheVariants.{Part, End}
 use Rattle.fz_check.specs.Reading.{PiecesState, ReaderState, HasRead, HasEnded, WaitsInside, HasNext, StandsAt, HasNoMore, IsRefusedInside, IsRefusedBy}
 use Rattle.fz_check.specs.Streaming.{EndInside}

@@ -19,9 +19,8 @@ use Rattle.fz_judge.specs.of_stream.declared.reading.Claim.{Claim}
 use Rattle.fz_judge.specs.of_stream.declared.block.Block as the_block
 use Rattle.fz_check.specs.declared.error.CheckError.{CheckError}
 use Rattle.fz_check.specs.declared.error.CheckError.TheVariants as errors
-use Rattle.fz_check.specs.Passing.{IsJudgingRefusal, IsStreamRefusal}
 use Rattle.fz_check.specs.Refused.{HasStreamFault, IsRefusal, HasTextFault, IsBroken}
-use Rattle.fz_check.specs.Telling.{stream_refusal}
+use Rattle.fz_check.specs.Telling.{IsJudgingRefusal, IsStreamRefusal, stream_refusal}
 
 -- ---- texts
 

@@ -6,8 +6,8 @@ ghost use Rattle.fz_judge.specs.of_stream.Splitting.{EndsLast, most_taken};
 ghost use Rattle.fz_check.specs.Reading.{HasNext, HasRead, StandsAt, WaitsInside, piece_size, steps_left};
 ghost use Rattle.fz_check.specs.Telling.{IsEndOf, IsUnread, broken_end};
 
-use crate::ending::Ending;
 use crate::error::{CheckError, stream_refusal};
+use crate::options::Ending;
 use crate::pieces::{Pieces, ReadFailed};
 use fz_judge::{Limits, Part, Span, Splitter, StreamError};
 use std::alloc::Global;
@@ -61,7 +61,7 @@ impl Model for PartReader {
 
 impl PartReader {
     ghost use Rattle.fz_judge.specs.of_syntax.Span.{Span as SpanData};
-    ghost use Rattle.fz_check.specs.declared.ending.Ending.{Ending};
+    ghost use Rattle.fz_check.specs.declared.options.Ending.{Ending};
     ghost use Rattle.fz_judge.specs.of_stream.declared.splitter.Stage.TheVariants.{Running, Finished};
     ghost use Rattle.fz_judge.specs.of_stream.Lending.{part_of, HasPlacesOfItems, PartEndsWithin};
 

@@ -14,11 +14,11 @@ on_err (Err e) f p = f e p
 
 pub returns-clause-told : goal.returns-clause-told
 returns-clause-told g c =
-    on_ok c.tell_part.result (λ told limits claims by m left given parts frame outcomes n h. (part_of c.in-Ok.part, c.in-Ok.ensures.part limits left given parts frame n, told claims by m parts outcomes h c.in-Ok.ensures.places)) c.tell_part.ensures.told
+    on_ok c.tell_part.result (λ told o m left given parts frame outcomes n h. (part_of c.in-Ok.part, c.in-Ok.ensures.part o.limits left given parts frame n, told o m parts outcomes h c.in-Ok.ensures.places)) c.tell_part.ensures.told
 
 pub returns-clause-refused : goal.returns-clause-refused
 returns-clause-refused g c =
-    on_err c.tell_part.result (λ e refused limits ending claims by m left given parts frame outcomes n h. inr (part_of c.in-Ok.part, c.in-Ok.ensures.part limits left given parts frame n, refused claims by m parts outcomes h c.in-Ok.ensures.places c.in-Ok.ensures.within)) c.tell_part.ensures.refused
+    on_err c.tell_part.result (λ e refused o m left given parts frame outcomes n h. inr (part_of c.in-Ok.part, c.in-Ok.ensures.part o.limits left given parts frame n, refused o m parts outcomes h c.in-Ok.ensures.places c.in-Ok.ensures.within)) c.tell_part.ensures.refused
 
 pub returns-in-Err-clause-refused : goal.returns-in-Err-clause-refused
-returns-in-Err-clause-refused g c = λ limits ending claims by m left given parts frame outcomes n h. inl (c.in-Err.ensures.refused limits ending left given parts frame n)
+returns-in-Err-clause-refused g c = λ o m left given parts frame outcomes n h. inl (c.in-Err.ensures.refused o.limits o.ending left given parts frame n)
