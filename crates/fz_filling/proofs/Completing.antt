@@ -11,7 +11,7 @@ use Rattle.fz_index.specs.of_model.States.PointName.{DomainOf, DefinitionOf, Con
 use Rattle.fz_filling.specs.declared.completion.Completion.{Completion}
 use Rattle.fz_filling.specs.declared.completion.Completion.TheVariants.{Off, On}
 use Rattle.fz_filling.specs.Solutions.{Block, Extends}
-use Rattle.fz_filling.specs.Completed.{AreTold, AreVerdicts, IsCompleted, IsToldBy}
+use Rattle.fz_filling.specs.Completed.{AreTold, AreVerdicts, IsToldBy}
 use Rattle.fz_filling.specs.Completed.IsCompleted.{Found, Refuted, AsFilled, NotBetterThanFound}
 use Rattle.fz_filling.specs.Completed.AreTold.{NoneLeft as NoneTold, OneMore as OneTold}
 use Rattle.fz_filling.specs.Verdict.{Verdict, Fault, verdict, fault_named, AreJudged, IsFilled, answer_of}

@@ -6,7 +6,7 @@ use Rattle.fz_index.specs.of_model.declared.Kind.{Kind}
 use Rattle.fz_index.specs.of_model.Relations.{kind_of, same_kind}
 use Rattle.fz_index.specs.of_model.Located.{Name, Literal}
 use Rattle.fz_index.specs.of_model.Names.{literal_value}
-use Rattle.fz_index.specs.of_model.Meaning.{Place, Model, value, find_name, first_some}
+use Rattle.fz_index.specs.of_model.Meaning.{Place, Model, find_name, first_some}
 use Rattle.fz_index.specs.of_model.Meaning.Place.{Scalar, Array}
 use Rattle.fz_filling.specs.Solutions.{PrintedValue, Printed, Block}
 use Rattle.fz_filling.specs.Solutions.PrintedValue.{OneValue, ArrayOf}

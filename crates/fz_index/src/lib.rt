@@ -1,6 +1,7 @@
 //! What a search knows of a model (`Search`): which variables are in each point, the linear row
-//! that it is, if it is one, and in which points a variable is. Beside it what a refutation by
-//! bounds tells. Of all this no contract speaks: it only proposes. An internal crate of `fz_check`.
+//! that it is, if it is one, and in which points a variable is. Beside it the order in which points
+//! are tried (`order_of`), and what a refutation by bounds tells. Of all this no contract speaks: it
+//! only proposes. An internal crate of `fz_check`.
 #![tactic(auto)]
 
 mod arguments;
@@ -8,6 +9,7 @@ mod builder;
 mod ends;
 mod index;
 mod known;
+mod order;
 mod points;
 mod refutation;
 mod relations;
@@ -23,5 +25,6 @@ pub use fz_model::{
 };
 pub use index::Search;
 pub use known::known_of;
+pub use order::order_of;
 pub use refutation::{Left, Narrower, Narrowing, Refutation};
 pub use row::{Claim, Place, Product, Relation, Row, Rule, Sums};
