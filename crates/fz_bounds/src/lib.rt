@@ -29,11 +29,13 @@ mod tasks;
 mod tightening;
 
 pub use bounds::Bounds;
-pub use ends::KindEnds;
+pub use ends::{KindEnds, number_as};
 pub use fz_index::{
-    Claim, Domain, End, Ends, Goal, IntSet, Kind, Left, Model, Narrower, Narrowing, Overview,
-    Partial, PointParts, Product, Refutation, Relation, Row, Rule, Scalars, Search, Slot, State,
-    Sums, Term, Value, forced_any, kind_of, known_of, same_kind, state,
+    Domain, End, Ends, Goal, IntSet, Kind, Left, Model, Narrower, Narrowing, Overview, Partial,
+    PointParts, Product, Refutation, Relation, Row, Rule, Scalars, Search, Slot, State, Sums, Term,
+    Value, forced_any, kind_of, known_of, same_kind, state,
 };
+pub use outlook::Outlook;
+pub use range::Range;
 pub use refuting::cannot_hold;
 pub use tightening::Tightened;

@@ -3,7 +3,7 @@
 use crate::arguments::{declared_elements, elements_in, scalar_in};
 use crate::points::Points;
 use crate::relations::{Shape, Terms, shape_of};
-use crate::row::{Claim, Product, Relation, Row, Rule};
+use crate::row::{Product, Relation, Row, Rule};
 use fz_model::{
     Argument, ConstraintParts, Form, Kind, Model, PointParts, Scalar, Scalars, Slot, Term, part,
     scalar_at,
@@ -108,7 +108,8 @@ impl Builder {
             Kind::Set => Ok(Rule::Plain),
             Kind::Int | Kind::Bool => Ok(Rule::Linear(Row {
                 relation: Relation::Equal(0),
-                claim: Claim::Holds,
+                truth: None,
+                is_half: false,
             })),
         }
     }
@@ -163,7 +164,7 @@ impl Builder {
         }
     }
 
-    /// Adds the products of a linear row.
+    /// Adds the products of a linear row, and its Boolean. There is no row where that says nothing.
     fn add_row(
         &mut self,
         parts: &ConstraintParts<'_, '_>,
@@ -171,36 +172,26 @@ impl Builder {
         form: Form,
     ) -> Result<Option<Row>, AllocError> {
         self.add_terms(parts, shape.terms)?;
-        let claim = match shape.truth {
-            Some(index) => self.add_truth(scalar_in(parts, index), form)?,
-            None => Some(Claim::Holds),
+        let relation = shape.relation.without(self.constant);
+        let is_half = matches!(form, Form::Implied);
+        let truth = match shape.truth {
+            Some(index) => scalar_in(parts, index),
+            None => Scalar::Truth(true),
         };
-        let Some(claim) = claim else {
-            return Ok(None);
-        };
-        Ok(Some(Row {
-            relation: shape.relation.without(self.constant),
-            claim,
-        }))
-    }
-
-    /// What the Boolean of a row says of it, where it says anything.
-    fn add_truth(&mut self, truth: Scalar<'_>, form: Form) -> Result<Option<Claim>, AllocError> {
-        match truth {
+        let (relation, truth) = match truth {
             Scalar::Variable(number) => {
                 self.add_variable(number, 0)?;
-                match form {
-                    Form::Base | Form::Reified => Ok(Some(Claim::Exactly(number))),
-                    Form::Implied => Ok(Some(Claim::Where(number))),
-                }
+                (relation, Some(number))
             }
-            Scalar::Truth(true) => Ok(Some(Claim::Holds)),
-            Scalar::Truth(false) => match form {
-                Form::Base | Form::Reified => Ok(Some(Claim::Fails)),
-                Form::Implied => Ok(None),
-            },
-            Scalar::Number(_) | Scalar::Set(_) => Ok(None),
-        }
+            Scalar::Truth(true) => (relation, None),
+            Scalar::Truth(false) if !is_half => (relation.negated(), None),
+            Scalar::Truth(_) | Scalar::Number(_) | Scalar::Set(_) => return Ok(None),
+        };
+        Ok(Some(Row {
+            relation,
+            truth,
+            is_half,
+        }))
     }
 
     fn add_terms(

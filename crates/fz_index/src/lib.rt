@@ -24,4 +24,4 @@ pub use fz_model::{
 pub use index::Search;
 pub use known::known_of;
 pub use refutation::{Left, Narrower, Narrowing, Refutation};
-pub use row::{Claim, Place, Product, Relation, Row, Rule, Sums};
+pub use row::{Place, Product, Relation, Row, Rule, Sums};

@@ -1,10 +1,10 @@
 //! Changes of a search: values that variables get, and bounds that become narrower.
 
-use crate::ends::{admits, number_of, value_of};
+use crate::ends::{admits, number_of};
 use crate::grounds::Step;
 use crate::stop::Stop;
 use crate::work::Work;
-use fz_bounds::{Domain, Ends, Value};
+use fz_bounds::{Domain, Ends, Value, number_as};
 use std::alloc::AllocError;
 
 impl<'k, 'm, 'a> Work<'k, 'm, 'a> {
@@ -91,7 +91,7 @@ impl<'k, 'm, 'a> Work<'k, 'm, 'a> {
     pub(crate) fn narrowed(&mut self, variable: usize, before: Ends) -> Result<(), Stop> {
         let then = self.ends_of(variable);
         if then.low == then.high && !self.proposal.has(variable) {
-            let value = value_of(self.kind_of(variable), then.low);
+            let value = number_as(self.kind_of(variable), then.low);
             self.move_sums(variable, before);
             return self.give(variable, value);
         }
@@ -118,8 +118,7 @@ impl<'k, 'm, 'a> Work<'k, 'm, 'a> {
         let then = self.ends_of(variable);
         for place in self.known.places_of(variable) {
             if let Some(sums) = self.sums.get_mut(place.point) {
-                let rest = sums.without(place.coefficient, before);
-                *sums = rest.with(place.coefficient, then);
+                *sums = sums.moved(place.coefficient, before, then);
             }
         }
     }

@@ -1,10 +1,9 @@
 //! Values that nothing forces.
 
-use crate::ends::value_of;
 use crate::stop::Stop;
 use crate::subsets::{few_members, subset, subsets_of};
 use crate::work::Work;
-use fz_bounds::{End, IntSet, Kind, State, Value};
+use fz_bounds::{End, IntSet, Kind, State, Value, number_as};
 use std::alloc::AllocError;
 
 /// At most this many numbers are tried for one variable.
@@ -27,7 +26,7 @@ impl<'k, 'm, 'a> Work<'k, 'm, 'a> {
             let Some(number) = ends.counted(from, step) else {
                 return Err(Stop::NothingFound);
             };
-            if self.suits(variable, value_of(kind, number))? {
+            if self.suits(variable, number_as(kind, number))? {
                 return self.keep(variable);
             }
         }

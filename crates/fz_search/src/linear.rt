@@ -2,13 +2,27 @@
 
 use crate::stop::Stop;
 use crate::work::Work;
-use fz_bounds::{Claim, Ends, Product, Relation, Row, Value};
+use fz_bounds::{Ends, Outlook, Product, Range, Relation, Row, Sums, Value};
 
 /// The number in 64 bits, or the nearest.
 fn nearest(number: i128) -> i64 {
     match i64::try_from(number) {
         Ok(number) => number,
         Err(_) => if number < 0 { i64::MIN } else { i64::MAX },
+    }
+}
+
+/// What the bounds of a sum say of a relation.
+fn outlook_of(relation: Relation, sums: Sums) -> Outlook {
+    let sum = Range {
+        low: Some(sums.least),
+        high: Some(sums.most),
+    };
+    match relation {
+        Relation::AtMost(number) => sum.at_most(Range::of(number)),
+        Relation::AtLeast(number) => Range::of(number).at_most(sum),
+        Relation::Equal(number) => sum.equal(Range::of(number)),
+        Relation::Unequal(number) => sum.equal(Range::of(number)).negated(),
     }
 }
 
@@ -48,25 +62,17 @@ fn exact(rest: i128, coefficient: i64) -> Option<i64> {
 impl<'k, 'm, 'a> Work<'k, 'm, 'a> {
     /// Visits a linear row.
     pub(crate) fn visit_row(&mut self, point: usize, row: Row) -> Result<(), Stop> {
-        match row.claim {
-            Claim::Holds => self.impose(point, row.relation),
-            Claim::Fails => self.impose(point, row.relation.negated()),
-            Claim::Exactly(truth) => match self.truth(truth) {
-                Some(true) => self.impose(point, row.relation),
-                Some(false) => self.impose(point, row.relation.negated()),
-                None => match row.relation.decided(self.sums_of(point)) {
-                    Some(holds) => self.give(truth, Value::Bool(holds)),
-                    None => Ok(()),
-                },
-            },
-            Claim::Where(truth) => match self.truth(truth) {
-                Some(true) => self.impose(point, row.relation),
-                Some(false) => Ok(()),
-                None => match row.relation.decided(self.sums_of(point)) {
-                    Some(false) => self.give(truth, Value::Bool(false)),
-                    Some(true) => Ok(()),
-                    None => Ok(()),
-                },
+        let Some(truth) = row.truth else {
+            return self.impose(point, row.relation);
+        };
+        match self.truth(truth) {
+            Some(true) => self.impose(point, row.relation),
+            Some(false) if row.is_half => Ok(()),
+            Some(false) => self.impose(point, row.relation.negated()),
+            None => match outlook_of(row.relation, self.sums_of(point)) {
+                Outlook::Always if !row.is_half => self.give(truth, Value::Bool(true)),
+                Outlook::Never => self.give(truth, Value::Bool(false)),
+                Outlook::Always | Outlook::Open => Ok(()),
             },
         }
     }

@@ -23,42 +23,30 @@ pub(crate) fn ends_in(bounds: &Bounds, variable: usize) -> Ends {
     }
 }
 
-/// How many variables of each point have no value.
-pub(crate) fn all_open(
+/// How many variables of each point have no value, and the bounds of its sum.
+pub(crate) fn open_and_sums(
     alloc: Global,
     known: &Search,
     points: usize,
     values: &Partial,
-) -> Result<Vec<usize>, AllocError> {
-    let mut open = Vec::new(alloc);
-    for point in 0..points {
-        let mut count = 0usize;
-        for product in known.products_of(point) {
-            if !values.has(product.variable) {
-                count = count.saturating_add(1);
-            }
-        }
-        open.push(count)?;
-    }
-    Ok(open)
-}
-
-/// The bounds of the sum of each point.
-pub(crate) fn all_sums(
-    alloc: Global,
-    known: &Search,
-    points: usize,
     bounds: &Bounds,
-) -> Result<Vec<Sums>, AllocError> {
-    let mut all = Vec::new(alloc);
+) -> Result<(Vec<usize>, Vec<Sums>), AllocError> {
+    let mut all_open = Vec::new(alloc);
+    let mut all_sums = Vec::new(alloc);
     for point in 0..points {
+        let mut open = 0usize;
         let mut sums = Sums { least: 0, most: 0 };
         for product in known.products_of(point) {
-            sums = sums.with(product.coefficient, ends_in(bounds, product.variable));
+            if !values.has(product.variable) {
+                open = open.saturating_add(1);
+            }
+            let ends = ends_in(bounds, product.variable);
+            sums = sums.moved(product.coefficient, Ends::at(0), ends);
         }
-        all.push(sums)?;
+        all_open.push(open)?;
+        all_sums.push(sums)?;
     }
-    Ok(all)
+    Ok((all_open, all_sums))
 }
 
 /// How far products move is measured only when it is needed.

@@ -4,7 +4,7 @@ use crate::agenda::Agenda;
 use crate::grounds::Step;
 use crate::proposal::Proposal;
 use crate::stop::Stop;
-use crate::tables::{Reach, all_open, all_sums, ends_in, no_reaches};
+use crate::tables::{Reach, ends_in, no_reaches, open_and_sums};
 use fz_bounds::{Bounds, Domain, Ends, Kind, Model, Partial, Rule, Search, Sums};
 use std::alloc::{AllocError, Global};
 
@@ -76,11 +76,12 @@ impl<'k, 'm, 'a> Work<'k, 'm, 'a> {
     ) -> Result<Work<'k, 'm, 'a>, AllocError> {
         let proposal = Proposal::new(alloc, model, filling)?;
         let points = model.points();
+        let (open, sums) = open_and_sums(alloc, known, points, proposal.values(), bounds)?;
         Ok(Work {
             alloc,
             known,
-            open: all_open(alloc, known, points, proposal.values())?,
-            sums: all_sums(alloc, known, points, bounds)?,
+            open,
+            sums,
             reaches: no_reaches(alloc, points)?,
             bounds: bounds.copy(alloc, model)?,
             agenda: Agenda::new(alloc, points)?,
