@@ -3,7 +3,7 @@ use Rattle.std.proofs.Common.{◌≡◌, subst, sym}
 use Rattle.fz_index.specs.of_model.declared.Builtin.{Builtin}
 use Rattle.fz_index.specs.of_model.Builtins.{row_at}
 use Rattle.fz_bounds.specs.Within.{Foretells}
-use Rattle.fz_bounds.specs.declared.limits.BoundedConstraint.{BoundedConstraint}
+use Rattle.fz_bounds.specs.declared.bounded.BoundedConstraint.{BoundedConstraint}
 use Rattle.fz_bounds.specs.declared.outlook.Outlook.{Outlook}
 
 pub at_row : (s : BoundedConstraint) (b d : Builtin) (o : Outlook) → b ≡ d → Foretells s (row_at d) o

@@ -4,11 +4,26 @@ use Rattle.std.proofs.lemmas.Int.{ints}
 use Rattle.std.specs.List.{list_all}
 use Rattle.fz_index.specs.of_model.Relations.{◌=ℤ◌, all_both, all_neighbours, all_pairs, count_of, counts_lie, load_of, loads_are, precedes, rises_by_one}
 use Rattle.fz_index.proofs.of_model.Values.{and_first, no'}
-use Rattle.fz_bounds.proofs.Indexed.{one_fails}
+use Rattle.fz_bounds.specs.Decided.{Decides}
+use Rattle.fz_bounds.specs.declared.outlook.Outlook.{Outlook}
+use Rattle.fz_bounds.specs.declared.outlook.Outlook.TheVariants.{Never}
 
 pub and_false : (a b : Bool) → b ≡ false → (a && b) ≡ false
 and_false true b e = e
 and_false false b e = refl
+
+-- a test that never holds fails
+pub never_so : (o : Outlook) (b : Bool) → o ≡ Never → Decides o b → b ≡ false
+never_so o b e h = subst (λ p. Decides p b) e h
+
+-- where one element fails, not all pass
+pub one_fails : {A : Type 0} (f : A → Bool) (xs : List A) (i : ℕ) (x : A)
+    → slice_get xs i ≡ Some x → f x ≡ false → list_all f xs ≡ false
+one_fails f [] i x at e = cc
+one_fails f (y ∷ xs) zero x at e =
+    let same : y ≡ x = cc in
+    ap (λ b. b && list_all f xs) (ap f same ∙ e)
+one_fails f (y ∷ xs) (suc i) x at e = and_false (f y) (list_all f xs) (one_fails f xs i x at e)
 
 pub both_fail : {A B : Type 0} (p : A → B → Bool) (xs : List A) (ys : List B) (i : ℕ) (x : A) (y : B)
     → slice_get xs i ≡ Some x → slice_get ys i ≡ Some y → p x y ≡ false → all_both p xs ys ≡ false
@@ -59,7 +74,7 @@ load_fails bin bins weights (m ∷ ns) (suc i) n at h =
     later b i = omega (arith, ints)
 
 pub none_before : (s t : ℤ) (xs : List ℤ) (i : ℕ)
-    → ((j : ℕ) (x : ℤ) → j < i → slice_get xs j ≡ Some x → (x =ℤ s) ≡ false)
+    → ((j : ℕ) → j < i → (x : ℤ) → slice_get xs j ≡ Some x → (x =ℤ s) ≡ false)
     → slice_get xs i ≡ Some t → (t =ℤ t) ≡ true → precedes s t xs ≡ false
 none_before s t [] i before at is = cc
 none_before s t (x ∷ xs) zero before at is =
@@ -67,8 +82,8 @@ none_before s t (x ∷ xs) zero before at is =
     (λ j. not (same j =ℤ t) && ((x =ℤ s) || precedes s t xs)) ∙ ap (λ b. not b && ((x =ℤ s) || precedes s t xs)) is
 none_before s t (x ∷ xs) (suc i) before at is =
     and_false (not (x =ℤ t)) ((x =ℤ s) || precedes s t xs)
-    (ap (λ b. b || precedes s t xs) (before zero x (omega arith) refl)
-    ∙ none_before s t xs i (λ j y l d. before (suc j) y (omega arith) d) at is)
+    (ap (λ b. b || precedes s t xs) (before zero (omega arith) x refl)
+    ∙ none_before s t xs i (λ j l y d. before (suc j) (omega arith) y d) at is)
 
 pub count_fails : (xs cover least most : List ℤ) (i : ℕ) (v m n : ℤ) → slice_get cover i ≡ Some v
     → slice_get least i ≡ Some m → slice_get most i ≡ Some n

@@ -4,7 +4,7 @@ use Rattle.fz_index.specs.of_model.declared.Builtin.{Builtin}
 use Rattle.fz_index.specs.of_model.declared.Kind.TheVariants.{Bool as BoolKind}
 use Rattle.fz_index.specs.of_model.Relations.{◌=ᴮ◌}
 use Rattle.fz_index.specs.of_model.Builtins.{Row, Shape, Test, row_at, with_bool, with_truth}
-use Rattle.fz_index.specs.of_model.declared.Form.TheVariants.{Base, Reified, Implied}
+use Rattle.fz_index.specs.of_model.declared.Form.TheVariants.{Reified, Implied}
 use Rattle.fz_index.specs.of_model.declared.Known.{Known}
 use Rattle.fz_index.specs.of_model.of_builtins.of_meaning.Known.{form_at, known_row}
 use Rattle.fz_index.specs.of_model.Meaning.{Argument, Partial}
@@ -13,7 +13,7 @@ use Rattle.fz_index.specs.of_model.of_builtins.Outcomes.{argument_at, test_from}
 use Rattle.fz_bounds.specs.Between.{AreBelow, at_most}
 use Rattle.fz_bounds.specs.Decided.{Decides}
 use Rattle.fz_bounds.specs.Within.{Foretells, IsBetween, TellsTruth, TruthLies, given}
-use Rattle.fz_bounds.specs.declared.limits.BoundedConstraint.{BoundedConstraint}
+use Rattle.fz_bounds.specs.declared.bounded.BoundedConstraint.{BoundedConstraint}
 use Rattle.fz_bounds.specs.declared.outlook.Outlook.{Outlook}
 
 -- ---- the Boolean after the arguments of the base row
@@ -74,7 +74,6 @@ module _ (s : BoundedConstraint) (b : Builtin) where
       form_test says K xs 0 base.shapes base.holds
       ∙ ap (λ n. says (bool_at K xs n) (test_from 0 K xs base.shapes base.holds)) same_place
 
-  -- what is said of the Boolean and of the base row
   -- what is said of the Boolean and of the base row is said of the form
   form_told : (says : Bool → Bool → Bool) (truth holds outlook : Outlook)
       → TellsTruth s (length base.shapes) truth → Foretells s base holds
@@ -84,10 +83,6 @@ module _ (s : BoundedConstraint) (b : Builtin) where
   form_told says truth holds outlook told foretold both K h =
       subst (Decides outlook) (sym (form_is says K))
       (both (bool_at K xs (length base.shapes)) (test_from 0 K xs base.shapes base.holds) (told K (control_lies K h)) (foretold K (base_between K h)))
-
-  pub base_told : (k : Known) (o : Outlook) → k.builtin ≡ b → k.form ≡ Base → Foretells s base o
-      → Foretells s (known_row k) o
-  base_told k o e f h = subst₂ (λ c g. Foretells s (form_at g (row_at c)) o) (sym e) (sym f) h
 
   pub reified_told : (k : Known) (truth holds o : Outlook) → k.builtin ≡ b → k.form ≡ Reified
       → TellsTruth s (length base.shapes) truth → Foretells s base holds

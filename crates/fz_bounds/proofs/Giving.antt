@@ -1,5 +1,5 @@
 -- Another value of a variable.
-use Rattle.std.proofs.Common.{◌≡◌, ℕ, zero, suc, ◌≤◌, [], ◌∷◌, length, Option, Some, refl, sym, ap, arith, slice_set}
+use Rattle.std.proofs.Common.{◌≡◌, ℕ, zero, suc, ◌≤◌, [], ◌∷◌, length, Some, refl, sym, ap, arith}
 use Rattle.fz_index.specs.of_model.of_base.declared.value.Value.{Value}
 use Rattle.fz_index.specs.of_model.Meaning.{Partial, value_at}
 use Rattle.fz_index.specs.of_model.Steps.{give}
@@ -30,11 +30,6 @@ pub given_there : (K : Partial) (n : ℕ) (v w : Value) → value_at K n ≡ Som
 given_there [] n v w e = cc
 given_there (o ∷ K) zero v w e = refl
 given_there (o ∷ K) (suc n) v w e = given_there K n v w e
-
-pub as_long : (K : Partial) (n : ℕ) (o : Option Value) → length (slice_set K n o) ≡ length K
-as_long [] n o = refl
-as_long (p ∷ K) zero o = refl
-as_long (p ∷ K) (suc n) o = ap suc (as_long K n o)
 
 -- ---- one partial assignment under another
 

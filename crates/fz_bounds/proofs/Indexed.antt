@@ -1,6 +1,6 @@
 -- The element at an index.
 use Rattle.std.proofs.Common.{◌≡◌, ℕ, zero, suc, ℤ, pos, negsuc, Bool, true, false, ◌&&◌, not, ◌||◌, ◌<◌, arith, List, [], ◌∷◌, Some, slice_get, refl, sym, ap, subst, ◌∙◌}
-use Rattle.std.specs.List.{filter, list_all, list_any}
+use Rattle.std.specs.List.{filter, list_any}
 use Rattle.std.specs.Prelude.{cond}
 use Rattle.fz_index.specs.of_model.Relations.{◌=ℤ◌, all_different, is_among, is_element}
 use Rattle.fz_index.proofs.of_model.Values.{int_itself}
@@ -28,20 +28,6 @@ pub never_both : (o : Outlook) (p q : Bool) → o ≡ Never → Decides o (p && 
 never_both o p q e h is =
     let neither : (p && q) ≡ false = subst (λ z. Decides z (p && q)) e h in
     sym (ap (λ z. z && q) is) ∙ neither
-
--- where one element fails, not all pass
-pub one_fails : {A : Type 0} (f : A → Bool) (xs : List A) (i : ℕ) (x : A)
-    → slice_get xs i ≡ Some x → f x ≡ false → list_all f xs ≡ false
-one_fails f [] i x at e = cc
-one_fails f (y ∷ xs) zero x at e =
-    let same : y ≡ x = cc in
-    ap (λ b. b && list_all f xs) (ap f same ∙ e)
-one_fails f (y ∷ xs) (suc i) x at e =
-    ap (λ b. f y && b) (one_fails f xs i x at e) ∙ and_false (f y)
-  where
-    and_false : (b : Bool) → (b && false) ≡ false
-    and_false true = refl
-    and_false false = refl
 
 -- where each element fails, none passes
 pub none_passes : {A : Type 0} (f : A → Bool) (xs : List A)

@@ -1,5 +1,5 @@
 -- Lists between others.
-use Rattle.std.proofs.Common.{◌≡◌, ℕ, zero, suc, ◌<◌, ℤ, ◌≤ℤ◌, Bool, true, List, [], ◌∷◌, length, Some, slice_get, sym, ap, subst₂, ◌∙◌, arith, int_le}
+use Rattle.std.proofs.Common.{◌≡◌, ℕ, zero, suc, ◌<◌, ℤ, ◌≤ℤ◌, Bool, true, List, [], ◌∷◌, length, Some, slice_get, sym, subst₂, ◌∙◌, arith, int_le}
 use Rattle.std.proofs.lemmas.Int.{ints as numerals}
 use Rattle.std.proofs.lemmas.List.{length-map}
 use Rattle.std.proofs.lemmas.Option.{same_Some, slice_get_within}
@@ -8,9 +8,7 @@ use Rattle.fz_index.specs.of_model.declared.Kind.TheVariants.{Int as IntKind, Bo
 use Rattle.fz_index.specs.of_model.Builtins.{Plain}
 use Rattle.fz_index.specs.of_model.Meaning.{Argument, Partial}
 use Rattle.fz_index.proofs.of_model.Lists.{there_is}
-use Rattle.fz_index.specs.of_model.of_builtins.of_kernel.declared.elements.Elements.{Elements}
-use Rattle.fz_index.specs.of_model.of_builtins.of_kernel.Given.{bool_of, bools_at, bools_of, int_of, ints_at, ints_of, slots_at}
-use Rattle.fz_index.specs.of_model.of_builtins.of_kernel.Views.{bools, ints, slots_of, under}
+use Rattle.fz_index.specs.of_model.of_builtins.of_kernel.Given.{bool_of, bools_at, int_of, ints_at, slots_at}
 use Rattle.fz_bounds.specs.Between.{AreAtMost, at_most}
 
 pub each_at_most : (k : Kind) (as' bs : List (Plain k)) (i : ℕ) (a b : Plain k)
@@ -29,14 +27,6 @@ ints_in_order as' bs i a b h d e = each_at_most IntKind as' bs i a b h d e
 pub truths_in_order : (as' bs : List Bool) (i : ℕ) (a b : Bool) → AreAtMost BoolKind as' bs
     → slice_get as' i ≡ Some a → slice_get bs i ≡ Some b → at_most BoolKind a b ≡ true
 truths_in_order as' bs i a b h d e = each_at_most BoolKind as' bs i a b h d e
-
--- what elements are read as
-module _ (e : Elements) (K L : Partial) (xs ys : List Argument) (i : ℕ) (is : under e ≡ K) (are : slots_of e ≡ slots_at xs i) (same : K ≡ L) (also : xs ≡ ys) where
-  pub ints_are : ints e ≡ ints_at L ys i
-  ints_are = λ j. ints_of ((is ∙ same) j) ((are ∙ ap (λ zs. slots_at zs i) also) j)
-
-  pub bools_are : bools e ≡ bools_at L ys i
-  bools_are = λ j. bools_of ((is ∙ same) j) ((are ∙ ap (λ zs. slots_at zs i) also) j)
 
 pub first_at_most : (a b n : ℤ) → a ≡ b → int_le b n ≡ true → a ≤ℤ n
 first_at_most a b n e h = grind (arith, numerals)

@@ -23,7 +23,7 @@ use Rattle.fz_bounds.specs.Bounds.{IsInside, NeverHolds, Ranges}
 use Rattle.fz_bounds.specs.Between.{AreBetween}
 use Rattle.fz_bounds.specs.Decided.{Decides}
 use Rattle.fz_bounds.specs.Within.{AreKnown, Foretells, given}
-use Rattle.fz_bounds.specs.declared.limits.BoundedConstraint.{BoundedConstraint}
+use Rattle.fz_bounds.specs.declared.bounded.BoundedConstraint.{BoundedConstraint}
 use Rattle.fz_bounds.specs.declared.outlook.Outlook.{Outlook}
 use Rattle.fz_bounds.specs.declared.outlook.Outlook.TheVariants.{Never}
 use Rattle.fz_bounds.proofs.Between.{are_between}

@@ -130,9 +130,6 @@ excluded m k B C n kind from to l h c low high never = record {
 }
 
 module _ (m : Model) (k : ℕ) (B : Ranges) (n : ℕ) (kind : Kind) where
-  pub none_excluded : (from to : ℤ) → to <ℤ from → Excludes m k B n kind from to
-  none_excluded from to less = record { never = λ p here A there a is above below. absurd (omega (arith, ints)) }
-
   pub same_excluded : {f t : ℤ} (from to : ℤ) → Excludes m k B n kind f t → f ≡ from → t ≡ to
       → Excludes m k B n kind from to
   same_excluded from to e f t = subst₂ (λ y z. Excludes m k B n kind y z) f t e

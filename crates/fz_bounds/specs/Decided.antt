@@ -1,4 +1,4 @@
--- What an outlook says of a test, and a range of a number (private functions only).
+-- What an outlook says of a test, and a range of a number (this project's profile).
 use Rattle.std.specs.Prelude.{◌≡◌, ℤ, Bool, true, false, int_le, int_lt, IfSome, ⊤}
 use Rattle.fz_index.specs.of_model.Relations.{◌=ℤ◌}
 use Rattle.fz_bounds.specs.declared.order.Order.{Order}

@@ -8,7 +8,7 @@ use Rattle.fz_index.specs.of_model.of_builtins.of_kernel.Given.{are_read, bool_a
 use Rattle.fz_index.specs.of_model.of_builtins.Outcomes.{test_from}
 use Rattle.fz_bounds.specs.Between.{AreAtMost, AreBetween, at_most}
 use Rattle.fz_bounds.specs.Decided.{Decides}
-use Rattle.fz_bounds.specs.declared.limits.BoundedConstraint.{BoundedConstraint}
+use Rattle.fz_bounds.specs.declared.bounded.BoundedConstraint.{BoundedConstraint}
 use Rattle.fz_bounds.specs.declared.outlook.Outlook.{Outlook}
 
 -- the arguments

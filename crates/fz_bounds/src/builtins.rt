@@ -3,7 +3,7 @@
 ghost use Rattle.fz_index.specs.of_model.Builtins.{row_at};
 ghost use Rattle.fz_bounds.specs.Within.{Foretells};
 
-use crate::limits::BoundedConstraint;
+use crate::bounded::BoundedConstraint;
 use crate::order::Order;
 use crate::outlook::Outlook;
 use fz_index::Builtin;
@@ -59,8 +59,8 @@ pub(crate) fn foretold(builtin: Builtin, at: &BoundedConstraint<'_, '_>) -> Outl
         Builtin::BoolLinGt => at.number(2).below(at.sum_where_true()),
         Builtin::ArrayIntElement => at.int_element(),
         Builtin::ArrayBoolElement => at.bool_element(),
-        Builtin::ArrayIntMaximum => at.is_among(at.number(0), 1).and(at.all_at_most()),
-        Builtin::ArrayIntMinimum => at.is_among(at.number(0), 1).and(at.all_at_least()),
+        Builtin::ArrayIntMaximum => at.is_among(at.number(0), 1).and(at.all_are(Order::AtMost)),
+        Builtin::ArrayIntMinimum => at.is_among(at.number(0), 1).and(at.all_are(Order::AtLeast)),
         Builtin::FznCountEq => at.number(2).equal(at.count_of(0, at.number(1))),
         Builtin::FznCountNeq => at.number(2).equal(at.count_of(0, at.number(1))).negated(),
         Builtin::FznCountGeq => at.count_of(0, at.number(1)).at_most(at.number(2)),

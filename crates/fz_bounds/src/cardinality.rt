@@ -7,7 +7,7 @@ ghost use Rattle.fz_index.specs.of_model.of_builtins.of_kernel.Given.{ints_at};
 ghost use Rattle.fz_bounds.specs.Decided.{Decides};
 ghost use Rattle.fz_bounds.specs.Within.{NumbersLie, given};
 
-use crate::limits::BoundedConstraint;
+use crate::bounded::BoundedConstraint;
 use crate::outlook::Outlook;
 
 impl<'s, 'a> BoundedConstraint<'s, 'a> {

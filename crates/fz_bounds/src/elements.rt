@@ -1,14 +1,13 @@
 //! Rows over the elements of arrays within bounds.
 
-ghost use Rattle.std.specs.Prelude.{◌≡◌, ◌<◌, ℤ, Bool, IfSome, Some, int_le, length, slice_get};
-ghost use Rattle.std.specs.List.{list_all};
+ghost use Rattle.std.specs.Prelude.{◌≡◌, ◌<◌, ℤ, Bool, IfSome, Some, length, slice_get};
 ghost use Rattle.fz_index.specs.of_model.Meaning.{Partial as Values};
 ghost use Rattle.fz_index.specs.of_model.Relations.{◌=ℤ◌, ◌=ᴮ◌, count_of, is_among, is_element, products, total, where_true};
 ghost use Rattle.fz_index.specs.of_model.of_builtins.of_kernel.Given.{bool_at, bools_at, int_at, ints_at, slots_at};
 ghost use Rattle.fz_bounds.specs.Decided.{Decides, LiesIn};
 ghost use Rattle.fz_bounds.specs.Within.{NumberLies, NumbersLie, TruthLies, TruthsLie, given};
 
-use crate::limits::BoundedConstraint;
+use crate::bounded::BoundedConstraint;
 use crate::outlook::Outlook;
 use crate::range::Range;
 
@@ -171,33 +170,5 @@ impl<'s, 'a> BoundedConstraint<'s, 'a> {
             }
         }
         Outlook::Never
-    }
-
-    /// Whether each element of the second argument is at most the first.
-    pub(crate) fn all_at_most(&self) -> Outlook
-        ensures { (K : Values) → NumberLies self.now 0 K → NumbersLie self.now 1 K → Decides result
-            (list_all (λ x. int_le x (int_at K (given self.now) 0))
-            (ints_at K (given self.now) 1)) }
-    {
-        for place in 0..self.count(1) {
-            if self.number_at(1, place).at_most(self.number(0)).is_never() {
-                return Outlook::Never;
-            }
-        }
-        Outlook::Open
-    }
-
-    /// Whether each element of the second argument is at least the first.
-    pub(crate) fn all_at_least(&self) -> Outlook
-        ensures { (K : Values) → NumberLies self.now 0 K → NumbersLie self.now 1 K → Decides result
-            (list_all (λ x. int_le (int_at K (given self.now) 0) x)
-            (ints_at K (given self.now) 1)) }
-    {
-        for place in 0..self.count(1) {
-            if self.number(0).at_most(self.number_at(1, place)).is_never() {
-                return Outlook::Never;
-            }
-        }
-        Outlook::Open
     }
 }

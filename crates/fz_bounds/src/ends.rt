@@ -16,7 +16,7 @@ pub struct KindEnds {
 
 /// The value that a number stands for in a variable of the kind: of a Boolean, a number above 0 is
 /// true.
-pub(crate) fn number_as(kind: Kind, number: i64) -> Value
+pub fn number_as(kind: Kind, number: i64) -> Value
     ensures { result ≡ number_as kind number }
 {
     match kind {

@@ -8,6 +8,7 @@
 #![tactic(auto)]
 
 mod bins;
+mod bounded;
 mod bounds;
 mod builtins;
 mod cardinality;
@@ -16,7 +17,6 @@ mod different;
 mod domains;
 mod elements;
 mod ends;
-mod limits;
 mod members;
 mod order;
 mod outlook;
@@ -29,11 +29,13 @@ mod tasks;
 mod tightening;
 
 pub use bounds::Bounds;
-pub use ends::KindEnds;
+pub use ends::{KindEnds, number_as};
 pub use fz_index::{
-    Claim, Domain, End, Ends, Goal, IntSet, Kind, Left, Model, Narrower, Narrowing, Overview,
-    Partial, PointParts, Product, Refutation, Relation, Row, Scalars, Search, Slot, State, Sums,
-    Term, Value, Visit, forced_any, kind_of, known_of, same_kind, state,
+    Domain, End, Ends, Goal, IntSet, Kind, Left, Model, Narrower, Narrowing, Overview, Partial,
+    PointParts, Product, Refutation, Relation, Row, Scalars, Search, Slot, State, Sums, Term,
+    Value, Visit, forced_any, kind_of, known_of, same_kind, state,
 };
+pub use outlook::Outlook;
+pub use range::Range;
 pub use refuting::cannot_hold;
 pub use tightening::Tightened;

@@ -8,8 +8,8 @@ ghost use Rattle.fz_index.specs.of_model.of_builtins.of_kernel.Given.{int_at, in
 ghost use Rattle.fz_bounds.specs.Decided.{Decides, LiesIn};
 ghost use Rattle.fz_bounds.specs.Within.{NumberLies, NumbersLie, SetLies, given};
 
+use crate::bounded::BoundedConstraint;
 use crate::declarations::membership;
-use crate::limits::BoundedConstraint;
 use crate::outlook::Outlook;
 use crate::range::Range;
 

@@ -1,17 +1,18 @@
 //! Order within bounds.
 
 ghost use Rattle.std.specs.Prelude.{◌≡◌, ◌||◌, ℤ, Bool, not, pos};
+ghost use Rattle.std.specs.List.{list_all};
 ghost use Rattle.fz_index.specs.of_model.Meaning.{Partial as Values};
 ghost use Rattle.fz_index.specs.of_model.Relations.{all_neighbours, precedes, rises_by_one};
-ghost use Rattle.fz_index.specs.of_model.of_builtins.of_kernel.Given.{bools_at, ints_at};
+ghost use Rattle.fz_index.specs.of_model.of_builtins.of_kernel.Given.{bools_at, int_at, ints_at};
 ghost use Rattle.fz_bounds.specs.Decided.{Decides, LiesIn, in_order};
-ghost use Rattle.fz_bounds.specs.Within.{NumbersLie, TruthsLie, given};
+ghost use Rattle.fz_bounds.specs.Within.{NumberLies, NumbersLie, TruthsLie, given};
 
-use crate::limits::BoundedConstraint;
+use crate::bounded::BoundedConstraint;
 use crate::outlook::Outlook;
 use crate::range::Range;
 
-/// How an element compares with the next one.
+/// How a number compares with another.
 #[derive(Clone, Copy)]
 pub(crate) enum Order {
     Below,
@@ -43,6 +44,23 @@ impl<'s, 'a> BoundedConstraint<'s, 'a> {
         for place in 1..self.count(0) {
             let before = self.number_at(0, place - 1);
             if order.of(before, self.number_at(0, place)).is_never() {
+                return Outlook::Never;
+            }
+        }
+        Outlook::Open
+    }
+
+    /// Whether each element of the second argument compares so with the first argument.
+    pub(crate) fn all_are(&self, order: Order) -> Outlook
+        ensures { (K : Values) → NumberLies self.now 0 K → NumbersLie self.now 1 K → Decides result
+            (list_all (λ x. in_order order x (int_at K (given self.now) 0))
+            (ints_at K (given self.now) 1)) }
+    {
+        for place in 0..self.count(1) {
+            if order
+                .of(self.number_at(1, place), self.number(0))
+                .is_never()
+            {
                 return Outlook::Never;
             }
         }

@@ -9,7 +9,7 @@ use crate::range::Range;
 
 /// Whether a test fails, or holds, whatever the values inside the bounds are; or may do either.
 #[derive(Clone, Copy)]
-pub(crate) enum Outlook {
+pub enum Outlook {
     Never,
     Always,
     Open,
@@ -55,7 +55,7 @@ impl Outlook {
     }
 
     /// Of the opposite.
-    pub(crate) fn negated(self) -> Outlook
+    pub fn negated(self) -> Outlook
         ensures { (a : Bool) → Decides self a → Decides result (not a) }
     {
         match self {

@@ -7,7 +7,7 @@ ghost use Rattle.fz_index.specs.of_model.of_builtins.of_kernel.Given.{int_at};
 ghost use Rattle.fz_bounds.specs.Decided.{Decides, LiesIn};
 ghost use Rattle.fz_bounds.specs.Within.{NumberLies, given};
 
-use crate::limits::BoundedConstraint;
+use crate::bounded::BoundedConstraint;
 use crate::outlook::Outlook;
 use crate::range::Range;
 

@@ -9,9 +9,9 @@ use crate::outlook::Outlook;
 
 /// The numbers from one to another, where these are known.
 #[derive(Clone, Copy)]
-pub(crate) struct Range {
-    pub(crate) low: Option<i128>,
-    pub(crate) high: Option<i128>,
+pub struct Range {
+    pub low: Option<i128>,
+    pub high: Option<i128>,
 }
 
 /// Whether both ends are known, and one is at most the other.
@@ -105,7 +105,7 @@ impl Range {
     }
 
     /// Of one number.
-    pub(crate) fn of(number: i128) -> Range
+    pub fn of(number: i128) -> Range
         ensures { LiesIn result number }
     {
         Range {
@@ -132,7 +132,7 @@ impl Range {
     }
 
     /// Of the numbers of one range being at most those of another.
-    pub(crate) fn at_most(self, other: Range) -> Outlook
+    pub fn at_most(self, other: Range) -> Outlook
         ensures { (a b : ℤ) → LiesIn self a → LiesIn other b → Decides result (int_le a b) }
     {
         if is_at_most(self.high, other.low) {
@@ -158,7 +158,7 @@ impl Range {
     }
 
     /// Of their being equal.
-    pub(crate) fn equal(self, other: Range) -> Outlook
+    pub fn equal(self, other: Range) -> Outlook
         ensures { (a b : ℤ) → LiesIn self a → LiesIn other b → Decides result (a =ℤ b) }
     {
         if is_below(self.high, other.low) || is_below(other.high, self.low) {

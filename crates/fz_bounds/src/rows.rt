@@ -10,9 +10,9 @@ ghost use Rattle.fz_index.specs.of_model.of_builtins.of_kernel.declared.reading.
 ghost use Rattle.fz_bounds.specs.Bounds.{NeverHolds};
 ghost use Rattle.fz_bounds.specs.Within.{AreKnown, Foretells, TellsTruth};
 
+use crate::bounded::BoundedConstraint;
 use crate::bounds::Bounds;
 use crate::builtins::foretold;
-use crate::limits::BoundedConstraint;
 use crate::outlook::Outlook;
 use fz_index::{Builtin, ConstraintParts, Form, Known, Readiness, control_index};
 

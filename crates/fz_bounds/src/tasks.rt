@@ -10,7 +10,7 @@ ghost use Rattle.fz_bounds.specs.Decided.{Decides, LiesIn};
 ghost use Rattle.fz_bounds.specs.Spans.{keep_apart};
 ghost use Rattle.fz_bounds.specs.Within.{NumberLies, NumbersLie, given};
 
-use crate::limits::BoundedConstraint;
+use crate::bounded::BoundedConstraint;
 use crate::outlook::Outlook;
 use crate::range::Range;
 

@@ -1,24 +1,22 @@
 -- Where a stream is cut that ends inside a block, and what is judged of it.
-use Rattle.std.proofs.Common.{◌≡◌, ◌≢◌, ℕ, ◌+◌, Bool, true, false, cond, List, [], ◌∷◌, ◌++◌, length, Option, Some, None, Result, Ok, Err, inl, inr, ◌⊎◌, refl, sym, ap, ◌∙◌, subst, append_assoc, append-nil, arith}
+use Rattle.std.proofs.Common.{◌≡◌, ◌≢◌, ℕ, ◌+◌, Bool, true, false, cond, List, [], ◌∷◌, ◌++◌, length, Option, Some, None, inl, inr, ◌⊎◌, refl, sym, ap, ◌∙◌, subst, append_assoc, append-nil}
 use Rattle.std.proofs.lemmas.Bool.{ne_eqb, eq-eqb, cases_eq, false≢true}
 use Rattle.std.specs.List.{AllByRecursion, onto_first}
-use Rattle.std.specs.Prelude.{IfErr}
-use Rattle.std.specs.Io.KnownBytes.{IsAtEnd}
 use Rattle.fz_judge.specs.of_syntax.Span.{Span}
 use Rattle.fz_judge.specs.of_stream.declared.error.StreamError.{StreamError}
 use Rattle.fz_judge.specs.of_stream.declared.error.StreamError.TheVariants as stream
 use Rattle.fz_judge.specs.of_stream.declared.line.LineKind.{LineKind}
 use Rattle.fz_judge.specs.of_stream.declared.line.LineKind.TheVariants.{Blank, Comment, Marker, Claim, Item}
-use Rattle.fz_judge.specs.of_stream.Broken.{BreaksAfter, CannotEnd, IsBrokenAtEndAfter}
-use Rattle.fz_judge.specs.of_stream.Parts.{Line, lines_of, joined, kind_of, IsFiller, IsFillerKind, IsInner, IsInnerKind, Frame, BlockFrame, ClaimFrame, StreamPart, frame_of, AreBlockLines, Closes, AreLinesOfFrame, AreLinesOf, Covers, IsFramed, IsStreamTextWithin}
+use Rattle.fz_judge.specs.of_stream.Broken.{BreaksAfter, CannotEnd}
+use Rattle.fz_judge.specs.of_stream.Parts.{Line, lines_of, joined, kind_of, IsFiller, IsFillerKind, IsInner, IsInnerKind, Frame, BlockFrame, ClaimFrame, StreamPart, AreBlockLines, Closes, AreLinesOfFrame, AreLinesOf, Covers, IsFramed, IsStreamTextWithin}
 use Rattle.fz_judge.specs.of_stream.Splitting.{EndsLast, EndsWithFeed}
 use Rattle.fz_judge.specs.of_stream.Telling.{IsNoneOrClaim, first_kind}
 use Rattle.fz_judge.specs.of_syntax.Limits.{Limits}
-use Rattle.fz_judge.proofs.of_stream.PartLemmas.{into_frames, two_parts}
+use Rattle.fz_judge.proofs.of_stream.PartLemmas.{into_frames}
 use Rattle.fz_judge.proofs.of_stream.SplitLemmas.{lines_up_to}
-use Rattle.fz_check.specs.declared.ending.Ending.{Ending}
-use Rattle.fz_check.specs.declared.ending.Ending.TheVariants.{Whole, Cut}
-use Rattle.fz_check.specs.Cutting.{HoldsOfJudged, IsCutOff, IsHalfClaim}
+use Rattle.fz_check.specs.declared.options.Ending.{Ending}
+use Rattle.fz_check.specs.declared.options.Ending.TheVariants.{Whole, Cut}
+use Rattle.fz_check.specs.Cutting.{HoldsOfJudged, IsCutOff}
 use Rattle.fz_check.specs.Reading.{IsRefusedAfter, IsRefusedBy, IsRefusedInside}
 use Rattle.fz_check.specs.Report.{Event}
 use Rattle.fz_check.specs.Report.Event.{CutOff}
@@ -72,12 +70,6 @@ front_ended : (bytes : List ℕ) (xs body last : List Line) → body ≢ []
 front_ended bytes xs [] last some e = absurd (some refl)
 front_ended bytes xs (y ∷ body) last some e = ended_before bytes xs y (body ++ last) e
 
-half_claim : (limits : Limits) (text : List ℕ) (last : List Line) → CannotEnd limits text last
-    → IsNoneOrClaim (first_kind last) → IsHalfClaim last
-half_claim limits text [] cannot claim = tt
-half_claim limits text (line ∷ []) cannot claim = (cannot.0, claim)
-half_claim limits text (line ∷ next ∷ lines) cannot claim = cannot
-
 module _ {limits : Limits} (given : List ℕ) (frames : List Frame) (span : Span)
     (b : BreaksAfter limits CannotEnd given frames (stream.Unfinished span)) where
   abbrev before : List Line
@@ -106,19 +98,8 @@ module _ {limits : Limits} (given : List ℕ) (frames : List Frame) (span : Span
     },
   )
 
-  pub is_cut : IsCutOff given front_of span
-  is_cut = record {
-    before = before;
-    body = b.body;
-    last = b.rest;
-    lines_are = lines_are;
-    front_is = refl;
-    begun = b.begun;
-    own = b.covers.own;
-    half = half_claim limits (joined b.body) b.rest b.breaks b.tells.0;
-    start_is = b.tells.1 ∙ sym (two_parts b.covers.covered b.gap);
-    end_is = omega (arith, b.tells.2, two_parts b.covers.covered b.gap);
-  }
+  pub is_cut : IsCutOff limits given front_of span
+  is_cut = record { frames = frames; breaks = b; front_is = refl }
 
 -- ---- a text ends outside of blocks
 
@@ -184,28 +165,30 @@ over_frames start lines (frame ∷ frames) h =
     ap (is_open false) h.2 ∙ over_lines false h.0 h.1 ∙ ap (λ o. is_open o h.1) own
     ∙ over_frames (start + length (joined h.0)) h.1 frames h.4
 
-over_half : (last : List Line) → IsHalfClaim last → is_open true last ≡ true
-over_half [] h = refl
-over_half (line ∷ []) h = ap (open_after true) h.1.1
-over_half (line ∷ next ∷ lines) h = absurd h
+over_rest : (limits : Limits) (text : List ℕ) (rest : List Line) → CannotEnd limits text rest
+    → IsNoneOrClaim (first_kind rest) → is_open true rest ≡ true
+over_rest limits text [] cannot tells = refl
+over_rest limits text (line ∷ []) cannot tells = ap (open_after true) tells.1
+over_rest limits text (line ∷ next ∷ lines) cannot tells = absurd cannot
 
--- what is cut off is part of no text
-pub cut_not_framed : (given front : List ℕ) (span : Span) (frames : List Frame)
-    → IsCutOff given front span → IsFramed given frames → ⊥
-cut_not_framed given front span frames cut framed =
+-- bytes that end inside a block are cut into no frames
+pub open_not_framed : {limits : Limits} → (given : List ℕ) (frames others : List Frame) (span : Span)
+    → BreaksAfter limits CannotEnd given frames (stream.Unfinished span) → IsFramed given others → ⊥
+open_not_framed {limits} given frames others span b framed =
     let c = framed.1 in
     let gap = framed.0 in
     let closed : is_open false (lines_of given) ≡ false =
     ap (is_open false) (c.whole ∙ ap (λ g. c.covered ++ g) (append-nil gap))
     ∙ over_lines false c.covered gap
-    ∙ ap (λ o. is_open o gap) (over_frames 0 c.covered frames c.of_frames)
+    ∙ ap (λ o. is_open o gap) (over_frames 0 c.covered others c.of_frames)
     ∙ over_fillers false gap c.fillers in
-    let at = is_open false cut.before in
+    let before = b.covers.covered ++ b.gap in
+    let at = is_open false before in
     let still : is_open false (lines_of given) ≡ true =
-    ap (is_open false) cut.lines_are ∙ over_lines false cut.before (cut.body ++ cut.last)
-    ∙ over_lines at cut.body cut.last
-    ∙ ap (λ o. is_open o cut.last) (over_body at cut.body cut.begun cut.own)
-    ∙ over_half cut.last cut.half in
+    ap (is_open false) (lines_are given frames span b) ∙ over_lines false before (b.body ++ b.rest)
+    ∙ over_lines at b.body b.rest
+    ∙ ap (λ o. is_open o b.rest) (over_body at b.body b.begun b.covers.own)
+    ∙ over_rest limits (joined b.body) b.rest b.breaks b.tells.0 in
     false≢true (sym closed ∙ still)
 
 -- where the last line ends a frame, no block is left open
@@ -213,17 +196,16 @@ pub last_not_open : {limits : Limits} → (given : List ℕ) (frames : List Fram
     → EndsLast given frames frame
     → BreaksAfter limits CannotEnd given frames (stream.Unfinished span) → ⊥
 last_not_open given frames frame span ends broken =
-    let cut = is_cut given frames span broken in
     let covers = into_frames ends.covers ends.line frame ends.closes in
     let all : List Frame = frames ++ frame ∷ [] in
-    cut_not_framed given _ _ all cut ([], subst (λ l. Covers l all [] []) (sym ends.whole) covers)
+    open_not_framed given frames all span broken ([], subst (λ l. Covers l all [] []) (sym ends.whole) covers)
 
 -- ---- what is judged
 
 pub holds_at_end : {limits : Limits} → (ending : Ending) (given : List ℕ) (parts : List StreamPart) (cut : Option Span)
     (Holds : List ℕ → List Event → Type 0) → IsEndOf limits ending given parts cut
     → ((front : List ℕ) → IsStreamTextWithin limits front parts → Holds front (cut_events cut))
-    → HoldsOfJudged ending given Holds
+    → HoldsOfJudged limits ending given Holds
 holds_at_end Whole given parts None Holds end holds = holds given end
 holds_at_end Whole given parts (Some span) Holds end holds =
     absurd (let no : Whole ≡ Cut = end.0 in cc)
@@ -231,12 +213,12 @@ holds_at_end Cut given parts None Holds end holds = inl (holds given end)
 holds_at_end Cut given parts (Some span) Holds end holds =
     inr (end.1.0, span, end.1.1, holds end.1.0 end.1.2)
 
-pub if_judged : (ending : Ending) (given : List ℕ) (P Q : List ℕ → List Event → Type 0)
+pub if_judged : (limits : Limits) (ending : Ending) (given : List ℕ) (P Q : List ℕ → List Event → Type 0)
     → ((front : List ℕ) (cut : List Event) → P front cut → Q front cut)
-    → HoldsOfJudged ending given P → HoldsOfJudged ending given Q
-if_judged Whole given P Q f p = f given [] p
-if_judged Cut given P Q f (inl p) = inl (f given [] p)
-if_judged Cut given P Q f (inr p) = inr (p.0, p.1, p.2, f p.0 (CutOff p.1 ∷ []) p.3)
+    → HoldsOfJudged limits ending given P → HoldsOfJudged limits ending given Q
+if_judged limits Whole given P Q f p = f given [] p
+if_judged limits Cut given P Q f (inl p) = inl (f given [] p)
+if_judged limits Cut given P Q f (inr p) = inr (p.0, p.1, p.2, f p.0 (CutOff p.1 ∷ []) p.3)
 
 -- ---- why a stream is refused
 

@@ -8,7 +8,7 @@ pub mod ReaderLemmas
 pub mod ReportLemmas
 pub mod StreamingLemmas
 pub mod LearningLemmas
-pub mod PassingLemmas
+pub mod CheckingLemmas
 pub mod Refusals
 pub mod Showing
 pub mod Tokens

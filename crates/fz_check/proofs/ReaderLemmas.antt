@@ -14,9 +14,9 @@ use Rattle.fz_judge.specs.of_stream.Splitting.{SplitterState, Holds, Fits, Passe
 use Rattle.fz_judge.specs.of_syntax.Limits.{Limits}
 use Rattle.fz_judge.proofs.of_stream.PartLemmas.{every_append, into_frames}
 use Rattle.fz_judge.specs.of_syntax.Span.{Span}
-use Rattle.fz_check.specs.declared.ending.Ending.{Ending}
-use Rattle.fz_check.specs.declared.ending.Ending.TheVariants.{Whole, Cut}
-use Rattle.fz_check.specs.declared.reader.Step.TheVariants.{Part, End}
+use Rattle.fz_check.specs.declared.options.Ending.{Ending}
+use Rattle.fz_check.specs.declared.options.Ending.TheVariants.{Whole, Cut}
+use Rattle.fz_check.specs.declared.reader.Step.TheVariants.{End}
 use Rattle.fz_check.specs.Reading.{PiecesState, ReaderState, HasRead, HasEnded, WaitsInside, HasNext, StandsAt, HasNoMore, IsRefusedInside, IsRefusedBy}
 use Rattle.fz_check.specs.Streaming.{EndInside}
 use Rattle.fz_check.specs.Telling.{IsEndOf, IsUnread, broken_end, stream_refusal}
@@ -99,24 +99,29 @@ module _ {limits : Limits} (old : ReaderState) (s : SplitterState) (p : PiecesSt
   fed_refused e broken long = inr (h.items, subst₂ (λ (m : Limits) l. BreaksAfter m CannotGoOn l (map frame_of parts) e) under_old (sym whole_old) (broken (λ q. cc) h.taken (map frame_of parts) fits_old))
 
 -- what `finish` promises, from what the splitter's own promises
-module _ {limits : Limits} (old new : ReaderState) (s : SplitterState) (same : old.splitter ≡ s) (none : old.pieces.pending ≡ []) (given : List ℕ) (parts : List StreamPart) (h : HasRead limits old given parts) where
+module _ {limits : Limits} (old : ReaderState) (s : SplitterState) (same : old.splitter ≡ s) (none : old.pieces.pending ≡ []) (given : List ℕ) (parts : List StreamPart) (h : HasRead limits old given parts) where
   all_fits : Fits s given (map frame_of parts)
   all_fits =
       let all : h.taken ≡ given = sym (h.whole ∙ ap (λ l. h.taken ++ l) none ∙ append-nil h.taken) in
       subst (λ l. Fits s l (map frame_of parts)) all (subst (λ t. Fits t h.taken (map frame_of parts)) same h.fits)
 
-  module _ (ends : (bytes : List ℕ) (frames : List Frame) → Fits s bytes frames → EndsWith new.splitter.waits bytes frames) where
-    pub ended_more : IsSome new.splitter.waits → (frame : Frame)
-        × (new.splitter.waits ≡ Some frame) × EndsLast given (map frame_of parts) frame
+  module _ (waits : Option Frame) (ends : (bytes : List ℕ) (frames : List Frame) → Fits s bytes frames → EndsWith waits bytes frames) where
+    pub ended_more : IsSome waits → (frame : Frame) × (waits ≡ Some frame)
+        × EndsLast given (map frame_of parts) frame
     ended_more some =
-        let w = some_is new.splitter.waits some in
+        let w = some_is waits some in
         (w.0, w.1, subst (λ o. EndsWith o given (map frame_of parts)) w.1 (ends given (map frame_of parts) all_fits))
 
-    pub ended_none : (IsSome new.splitter.waits → ⊥) → IsStreamTextWithin limits given parts
+    pub ended_none : (IsSome waits → ⊥) → IsStreamTextWithin limits given parts
     ended_none not_some = record {
-      framed = subst (λ o. EndsWith o given (map frame_of parts)) (none_is new.splitter.waits not_some) (ends given (map frame_of parts) all_fits);
+      framed = subst (λ o. EndsWith o given (map frame_of parts)) (none_is waits not_some) (ends given (map frame_of parts) all_fits);
       items = h.items;
     }
+
+  pub ended_running : (e : StreamError) → (e ≡ stream.Failed → s.stage ≡ Failed)
+      → e ≢ stream.Failed
+  ended_running e failed q =
+      let no : Running ≡ Failed = sym all_fits.running ∙ failed q in cc
 
   pub ended_broken : (e : StreamError)
       → ((bytes : List ℕ) (frames : List Frame) → Fits s bytes frames → BreaksAfter s.limits CannotEnd bytes frames e)
@@ -135,21 +140,8 @@ pub unread : (limits : Limits) (ending : Ending) (left : Option (List ℕ)) (giv
     → (e ≢ stream.Memory → IsRefusedBy limits ending left given parts e)
     → IsUnread limits ending left given parts (stream_refusal e)
 unread limits ending left given parts stream.Memory fault why = tt
-unread limits ending left given parts stream.TooLong fault why =
-    let n : stream.TooLong ≢ stream.Memory = λ m. cc in
-    (fault n, n, why n)
-unread limits ending left given parts (stream.Item f) fault why =
-    let n : stream.Item f ≢ stream.Memory = λ m. cc in
-    (fault n, n, why n)
-unread limits ending left given parts (stream.DuplicateName s) fault why =
-    let n : stream.DuplicateName s ≢ stream.Memory = λ m. cc in
-    (fault n, n, why n)
-unread limits ending left given parts (stream.Unfinished s) fault why =
-    let n : stream.Unfinished s ≢ stream.Memory = λ m. cc in
-    (fault n, n, why n)
-unread limits ending left given parts stream.Failed fault why =
-    let n : stream.Failed ≢ stream.Memory = λ m. cc in
-    (fault n, n, why n)
+unread limits ending left given parts e fault why =
+    (fault (λ m. cc), (λ m. cc), why (λ m. cc))
 
 -- what holds of each error that a result may be
 pub if_err_is : {T E : Type 0} (r : Result T E) (P : E → Type 0)
@@ -184,14 +176,6 @@ ended_cut {limits} Cut given parts (stream.Unfinished s) broken cut is =
     subst (IsEndOf limits Cut given parts) same (refl, (_, is_cut given frames s broken.1, text))
 ended_cut Cut given parts e broken cut is =
     absurd (let no : Err (stream_refusal e) ≡ Ok (End cut) = is in cc)
-
--- and no part comes
-pub ended_no_part : (ending : Ending) (e : StreamError)
-    → broken_end ending e ≡ Ok Part → ⊥
-ended_no_part Whole e is = (let no : Err (stream_refusal e) ≡ Ok Part = is in cc)
-ended_no_part Cut (stream.Unfinished s) is =
-    (let no : Ok (End (Some s)) ≡ Ok Part = is in cc)
-ended_no_part Cut e is = (let no : Err (stream_refusal e) ≡ Ok Part = is in cc)
 
 -- ---- where a reader stands
 

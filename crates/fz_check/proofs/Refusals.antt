@@ -19,9 +19,8 @@ use Rattle.fz_judge.specs.of_stream.declared.reading.Claim.{Claim}
 use Rattle.fz_judge.specs.of_stream.declared.block.Block as the_block
 use Rattle.fz_check.specs.declared.error.CheckError.{CheckError}
 use Rattle.fz_check.specs.declared.error.CheckError.TheVariants as errors
-use Rattle.fz_check.specs.Passing.{IsJudgingRefusal, IsStreamRefusal}
 use Rattle.fz_check.specs.Refused.{HasStreamFault, IsRefusal, HasTextFault, IsBroken}
-use Rattle.fz_check.specs.Telling.{stream_refusal}
+use Rattle.fz_check.specs.Telling.{IsJudgingRefusal, IsStreamRefusal, stream_refusal}
 
 -- ---- texts
 
@@ -47,10 +46,8 @@ stream_fault_is : (bytes : List ℕ) (e : StreamError) → (e ≡ stream.TooLong
     → (e ≢ stream.Memory → e ≢ stream.TooLong → (parts : List StreamPart) × StopsAfter bytes parts e) → IsStreamFault e → (e ≡ stream.Memory → ⊥) → HasStreamFault bytes e
 stream_fault_is bytes stream.TooLong long short none stops fault other = long refl
 stream_fault_is bytes stream.Memory long short none stops fault other = other refl
-stream_fault_is bytes (stream.Item s) long short none stops fault other = broken_by bytes (stream.Item s) (λ m. cc) (λ m. cc) short none stops fault
-stream_fault_is bytes (stream.DuplicateName s) long short none stops fault other = broken_by bytes (stream.DuplicateName s) (λ m. cc) (λ m. cc) short none stops fault
-stream_fault_is bytes (stream.Unfinished s) long short none stops fault other = broken_by bytes (stream.Unfinished s) (λ m. cc) (λ m. cc) short none stops fault
 stream_fault_is bytes stream.Failed long short none stops fault other = absurd fault
+stream_fault_is bytes e long short none stops fault other = broken_by bytes e (λ m. cc) (λ m. cc) short none stops fault
 
 -- bytes that aren't refused as too many are not
 short_of : (n most : ℕ) → (most < n → ⊥) → n ≤ most
@@ -66,12 +63,8 @@ stream_fault_on bytes e long too_long none stops fault =
   where
     by : (f : StreamError) → ((f ≡ stream.Memory → ⊥) → HasStreamFault bytes f)
         → IsStreamRefusal bytes (stream_refusal f)
-    by stream.TooLong is = is (λ m. cc)
     by stream.Memory is = tt
-    by (stream.Item s) is = is (λ m. cc)
-    by (stream.DuplicateName s) is = is (λ m. cc)
-    by (stream.Unfinished s) is = is (λ m. cc)
-    by stream.Failed is = is (λ m. cc)
+    by f is = is (λ m. cc)
 
 -- ---- blocks
 
@@ -86,8 +79,4 @@ block_refused model bytes m blocks claims loaded short read places (errors.Block
   holds = record { short = short; parts = read.parts; text_of_stream = read.text; blocks = blocks; blocks_are = read.blocks_are; places = places; first = h };
 }
 block_refused model bytes m blocks claims loaded short read places errors.Memory h = tt
-block_refused model bytes m blocks claims loaded short read places (errors.Model e) h = absurd h
-block_refused model bytes m blocks claims loaded short read places (errors.Names e) h = absurd h
-block_refused model bytes m blocks claims loaded short read places (errors.Stream e) h = absurd h
-block_refused model bytes m blocks claims loaded short read places errors.Read h = absurd h
-block_refused model bytes m blocks claims loaded short read places errors.Write h = absurd h
+block_refused model bytes m blocks claims loaded short read places _ h = absurd h

@@ -1,21 +1,22 @@
 -- Which claims of a solver on its whole search are refuted, and by which block (this project's
 -- profile). A claim is refuted by one solution; that a claim is so is never told.
-use Rattle.std.specs.Prelude.{◌≡◌, ℕ, suc, ℤ, Bool, true, false, cond, List, [], ◌∷◌, ◌++◌, map, Option, Some, None, IfSome, int_lt, nat_le, option_map, ⊤}
+use Rattle.std.specs.Prelude.{◌≡◌, ℕ, ℤ, Bool, true, false, cond, List, [], ◌∷◌, ◌++◌, map, Option, Some, None, IfSome, int_lt, nat_le, ◌+◌, option_map, ⊤}
 use Rattle.std.specs.List.{AllByRecursion}
 use Rattle.std.specs.Option.{option_or}
-use Rattle.fz_judge.specs.of_syntax.Limits.{Limits}
+use Rattle.fz_judge.specs.of_syntax.Places.{standard_limits}
 use Rattle.fz_judge.specs.of_model.Located.{LocatedTree}
 use Rattle.fz_judge.specs.of_model.Names.{HasNoFault, model_of}
 use Rattle.fz_judge.specs.of_model.Meaning.{Aim, Model, Partial, Assignment, IsSolution, objective, whole}
 use Rattle.fz_judge.specs.of_model.Meaning.Aim.{Satisfy, Minimize, Maximize}
 use Rattle.fz_judge.specs.of_stream.declared.line.ClaimKind.{ClaimKind}
 use Rattle.fz_judge.specs.of_stream.declared.line.ClaimKind.TheVariants.{Complete, Unsatisfiable}
+use Rattle.fz_judge.specs.of_stream.Found.{claims_in}
 use Rattle.fz_judge.specs.of_stream.Parts.{SolutionBlock, StreamPart, BlockPart, ClaimPart, IsStreamTextWithin, blocks_in}
 use Rattle.fz_judge.specs.of_filling.Solutions.{Extends}
 use Rattle.fz_judge.specs.of_filling.declared.completion.Completion.{Completion}
 use Rattle.fz_judge.specs.of_filling.declared.completion.Completion.TheVariants.{Off}
 use Rattle.fz_judge.specs.of_filling.Completed.{IsToldBy}
-use Rattle.fz_judge.specs.of_filling.Verdict.{Verdict, Answer, IsFilled, answer_of, verdict}
+use Rattle.fz_judge.specs.of_filling.Verdict.{Verdict, Answer, IsFilled, answer_of, is_undecided, is_violated, verdict}
 use Rattle.fz_judge.specs.of_filling.Verdict.Verdict.{Satisfied}
 use Rattle.fz_judge.specs.of_filling.Verdict.Answer.{Rejected, ClaimRejected}
 use Rattle.fz_check.specs.declared.claims.Saying.{Saying}
@@ -29,8 +30,10 @@ use Rattle.fz_check.specs.declared.claims.Refuter.TheVariants as refuters
 use Rattle.fz_check.specs.declared.claims.Known.{Known}
 use Rattle.fz_check.specs.declared.claims.Claims.{Claims}
 use Rattle.fz_check.specs.declared.claims.Claims.TheVariants.{NotJudged, Judged as ClaimsJudged}
-use Rattle.fz_check.specs.declared.ledger.Ledger.{Ledger}
-use Rattle.fz_check.specs.Report.{Event, events_of}
+use Rattle.fz_check.specs.declared.account.Account.{Account}
+use Rattle.fz_check.specs.declared.options.Ending.TheVariants.{Whole}
+use Rattle.fz_check.specs.declared.options.Options.{Options}
+use Rattle.fz_check.specs.Report.{Event, in_order}
 use Rattle.fz_check.specs.Report.Event.{Judged, Claimed, Refuted}
 use Rattle.fz_check.specs.Reported.{AreBorneOut, HoldsOfModelWithin}
 
@@ -137,36 +140,40 @@ known_refuter aim k NoSolution = k.satisfied
 known_refuter aim k s = best_refuter aim s k.best
 
 -- the first satisfied block of the stream so far, where it refutes
-abbrev pub own_refuter : Ledger → Saying → Option Refuter
-own_refuter l NoSolution = option_map refuters.Block l.satisfied
-own_refuter l s = None
+abbrev pub own_refuter : Account → Saying → Option Refuter
+own_refuter a NoSolution = option_map refuters.Block a.satisfied
+own_refuter a s = None
 
-abbrev pub refuter : Aim → Claims → Ledger → Saying → Option Refuter
-refuter aim NotJudged l s = None
-refuter aim (ClaimsJudged k) l s =
-    option_or (own_refuter l s) (option_map refuters.Known (known_refuter aim k s))
+abbrev pub refuter : Aim → Claims → Account → Saying → Option Refuter
+refuter aim NotJudged a s = None
+refuter aim (ClaimsJudged k) a s =
+    option_or (own_refuter a s) (option_map refuters.Known (known_refuter aim k s))
 
--- the claim that comes next, behind so many blocks
-abbrev pub statement : ℕ → Ledger → ClaimKind → Statement
-statement n l kind = record { after = n; kind = kind; says = saying kind l.objective }
+-- the claim that comes next
+abbrev pub statement : Account → ClaimKind → Statement
+statement a kind = record { after = a.blocks; kind = kind; says = saying kind a.objective }
 
 abbrev pub earliest : Option ℕ → ℕ → Option ℕ
 earliest None n = Some n
 earliest (Some first) n = Some (cond (nat_le first n) first n)
 
 -- of the claims that a later block may refute the last one waits
-abbrev pub waiting : Saying → Statement → Option Statement → Option Statement
-waiting Nothing s before = before
-waiting _ s before = Some s
+abbrev pub waiting : Claims → Option Refuter → Saying → Statement → Option Statement
+    → Option Statement
+waiting (ClaimsJudged k) None NoSolution s before = Some s
+waiting (ClaimsJudged k) None (NoneBetter last) s before = Some s
+waiting _ _ _ s before = before
 
-abbrev pub claim_noted : Claims → Option Refuter → Statement → Ledger → Ledger
-claim_noted NotJudged by s l = l
-claim_noted (ClaimsJudged k) (Some by) s l = record l { refuted = earliest l.refuted s.after }
-claim_noted (ClaimsJudged k) None s l = record l { waiting = waiting s.says s l.waiting }
+abbrev pub refuted_by : Option Refuter → ℕ → Option ℕ → Option ℕ
+refuted_by None after before = before
+refuted_by (Some by) after before = earliest before after
 
-abbrev pub behind_claim : Aim → Claims → ℕ → Ledger → ClaimKind → Ledger
-behind_claim aim c n l kind =
-    claim_noted c (refuter aim c l (saying kind l.objective)) (statement n l kind) l
+abbrev pub behind_claim : Aim → Claims → Account → ClaimKind → Account
+behind_claim aim c a kind = record a {
+  waiting = waiting c (refuter aim c a (saying kind a.objective)) (saying kind a.objective)
+      (statement a kind) a.waiting;
+  refuted = refuted_by (refuter aim c a (saying kind a.objective)) a.blocks a.refuted;
+}
 
 abbrev pub is_satisfied : Verdict → Bool
 is_satisfied Satisfied = true
@@ -177,35 +184,47 @@ abbrev pub late_refuted : Aim → Option Statement → Bool → Option ℤ → O
 late_refuted aim (Some s) true found = cond (refutes aim s.says found) (Some s) None
 late_refuted aim _ _ found = None
 
-abbrev pub late_noted : Option Statement → Ledger → Ledger
-late_noted None l = l
-late_noted (Some s) l =
-    record l { waiting = None; refuted = earliest l.refuted s.after }
+abbrev pub late_waiting : Option Statement → Option Statement → Option Statement
+late_waiting None before = before
+late_waiting (Some s) before = None
 
--- behind the block that comes next, which has the number, is satisfied or not, and has these
--- objectives
-abbrev pub behind_block : Aim → ℕ → Ledger → Bool → Option ℤ → Option ℤ → Ledger
-behind_block aim number l satisfied filled found =
-    late_noted (late_refuted aim l.waiting satisfied found) (record {
-      satisfied = option_or l.satisfied (cond satisfied (Some number) None);
-      objective = filled;
-      waiting = l.waiting;
-      refuted = l.refuted;
-    })
+abbrev pub late_earliest : Option Statement → Option ℕ → Option ℕ
+late_earliest None before = before
+late_earliest (Some s) before = earliest before s.after
 
-abbrev pub behind : Aim → ℕ → Ledger → Outcome → Ledger
-behind aim number l o =
-    behind_block aim number l (is_satisfied o.verdict) o.filled o.found
+-- the number of the first block of a kind, where the next one has the number and is of it or not
+abbrev pub first_of : Option ℕ → Bool → ℕ → Option ℕ
+first_of before is number = option_or before (cond is (Some number) None)
+
+-- behind the block that comes next, which has this verdict and these objectives
+abbrev pub behind_block : Aim → Account → Verdict → Option ℤ → Option ℤ → Account
+behind_block aim a v filled found = record {
+  blocks = a.blocks + 1;
+  satisfied = first_of a.satisfied (is_satisfied v) (a.blocks + 1);
+  violated = first_of a.violated (is_violated v) (a.blocks + 1);
+  undecided = first_of a.undecided (is_undecided v) (a.blocks + 1);
+  objective = filled;
+  waiting = late_waiting (late_refuted aim a.waiting (is_satisfied v) found) a.waiting;
+  refuted = late_earliest (late_refuted aim a.waiting (is_satisfied v) found) a.refuted;
+}
 
 -- before the first part
-abbrev pub no_ledger : Ledger
-no_ledger = record { satisfied = None; objective = None; waiting = None; refuted = None }
+abbrev pub no_account : Account
+no_account = record {
+  blocks = 0;
+  satisfied = None;
+  violated = None;
+  undecided = None;
+  objective = None;
+  waiting = None;
+  refuted = None;
+}
 
 -- ---- what is told
 
-abbrev pub claim_refutation : Aim → Claims → ℕ → Ledger → ClaimKind → Option Refutation
-claim_refutation aim c n l kind = option_map (λ by. record { claim = statement n l kind; by = by })
-    (refuter aim c l (saying kind l.objective))
+abbrev pub claim_refutation : Aim → Claims → Account → ClaimKind → Option Refutation
+claim_refutation aim c a kind = option_map (λ by. record { claim = statement a kind; by = by })
+    (refuter aim c a (saying kind a.objective))
 
 abbrev pub claim_event : ClaimKind → Option Refutation → Event
 claim_event kind None = Claimed kind
@@ -216,33 +235,44 @@ late_events None number = []
 late_events (Some s) number =
     Refuted (record { claim = s; by = refuters.Behind number }) ∷ []
 
-abbrev pub claim_told : Aim → Claims → ℕ → Ledger → ClaimKind → Event
-claim_told aim c n l kind = claim_event kind (claim_refutation aim c n l kind)
+abbrev pub claim_told : Aim → Claims → Account → ClaimKind → Event
+claim_told aim c a kind = claim_event kind (claim_refutation aim c a kind)
 
-abbrev pub block_told : Aim → ℕ → Ledger → Outcome → List Event
-block_told aim number l o = Judged number o.verdict
-    ∷ late_events (late_refuted aim l.waiting (is_satisfied o.verdict) o.found) number
+abbrev pub block_told : Aim → Account → Outcome → List Event
+block_told aim a o = Judged (a.blocks + 1) o.verdict
+    ∷ late_events (late_refuted aim a.waiting (is_satisfied o.verdict) o.found) (a.blocks + 1)
 
--- the events of parts whose blocks have these outcomes, where n blocks come before them, and what
--- is known behind them
-abbrev pub told : Aim → Claims → ℕ → Ledger → List Outcome → List StreamPart → List Event
-told aim c n l os [] = []
-told aim c n l os (ClaimPart kind ∷ ps) =
-    claim_told aim c n l kind ∷ told aim c n (behind_claim aim c n l kind) os ps
-told aim c n l [] (BlockPart b ∷ ps) = told aim c n l [] ps
-told aim c n l (o ∷ os) (BlockPart b ∷ ps) =
-    block_told aim (suc n) l o ++ told aim c (suc n) (behind aim (suc n) l o) os ps
+-- a part of a stream as a report has it: a block by its outcome, or a claim
+pub data Entry : Type 0 where
+  BlockEntry : Outcome → Entry
+  ClaimEntry : ClaimKind → Entry
 
-abbrev pub ledger : Aim → Claims → ℕ → Ledger → List Outcome → List StreamPart → Ledger
-ledger aim c n l os [] = l
-ledger aim c n l os (ClaimPart kind ∷ ps) =
-    ledger aim c n (behind_claim aim c n l kind) os ps
-ledger aim c n l [] (BlockPart b ∷ ps) = ledger aim c n l [] ps
-ledger aim c n l (o ∷ os) (BlockPart b ∷ ps) =
-    ledger aim c (suc n) (behind aim (suc n) l o) os ps
+-- the parts so, where their blocks have these outcomes
+abbrev pub entries : List Outcome → List StreamPart → List Entry
+entries os [] = []
+entries os (ClaimPart kind ∷ ps) = ClaimEntry kind ∷ entries os ps
+entries [] (BlockPart b ∷ ps) = entries [] ps
+entries (o ∷ os) (BlockPart b ∷ ps) = BlockEntry o ∷ entries os ps
+
+abbrev pub behind : Aim → Claims → Account → Entry → Account
+behind aim c a (ClaimEntry kind) = behind_claim aim c a kind
+behind aim c a (BlockEntry o) = behind_block aim a o.verdict o.filled o.found
+
+abbrev pub entry_told : Aim → Claims → Account → Entry → List Event
+entry_told aim c a (ClaimEntry kind) = claim_told aim c a kind ∷ []
+entry_told aim c a (BlockEntry o) = block_told aim a o
+
+-- the events of entries that come behind this account, and the account behind them
+abbrev pub told : Aim → Claims → Account → List Entry → List Event
+told aim c a [] = []
+told aim c a (e ∷ es) = entry_told aim c a e ++ told aim c (behind aim c a e) es
+
+abbrev pub account : Aim → Claims → Account → List Entry → Account
+account aim c a [] = a
+account aim c a (e ∷ es) = account aim c (behind aim c a e) es
 
 abbrev pub told_of : Model → Claims → List Outcome → List StreamPart → List Event
-told_of m c os ps = told m.aim c 0 no_ledger os ps
+told_of m c os ps = told m.aim c no_account (entries os ps)
 
 -- What stands first in the stream rejects it: a violated block, or a refuted claim, which comes
 -- after so many blocks.
@@ -253,19 +283,26 @@ answer_with (Some n) answer = ClaimRejected n
 
 abbrev pub answer_told : Model → Claims → List Outcome → List StreamPart → Answer
 answer_told m c os ps =
-    answer_with (ledger m.aim c 0 no_ledger os ps).refuted (answer_of (verdicts_of os))
+    answer_with (account m.aim c no_account (entries os ps)).refuted (answer_of (verdicts_of os))
 
 -- ---- the report
 
--- The report as `IsReportWithin` has it, with what is told of refuted claims.
-pub record IsReportWith (limits : Limits) (claims : Claims) (c : Completion) (m : Model)
-    (stream : List ℕ) (events : List Event) (answer : Answer) : Type 0 where
+-- no value is searched for, nothing is cut off, no claim is judged, and the limits are the standard
+-- ones
+abbrev pub standard_options : Options
+standard_options =
+    record { completion = Off; ending = Whole; claims = NotJudged; limits = standard_limits }
+
+-- The stream's bytes are a text of parts within the limits. The report tells of each part in order,
+-- of a block with its verdict and of a claim whether it is refuted; the answer follows from these.
+pub record IsReportWith (o : Options) (m : Model) (stream : List ℕ) (events : List Event)
+    (answer : Answer) : Type 0 where
   pub parts : List StreamPart
-  pub text_of_stream : IsStreamTextWithin limits stream parts
+  pub text_of_stream : IsStreamTextWithin o.limits stream parts
   pub outcomes : List Outcome
-  pub have_outcomes : HaveOutcomes c m parts outcomes
-  pub answer_is : answer ≡ answer_told m claims outcomes parts
-  pub events_are : events ≡ told_of m claims outcomes parts
+  pub have_outcomes : HaveOutcomes o.completion m parts outcomes
+  pub answer_is : answer ≡ answer_told m o.claims outcomes parts
+  pub events_are : events ≡ told_of m o.claims outcomes parts
 
 -- what an event says of a claim is so
 abbrev pub IsTrueOf : Model → Event → Type 0
@@ -279,12 +316,14 @@ KnowsOf m (ClaimsJudged k) = Knows m k
 
 -- The events are the report of the tree's model on the stream, its verdicts are borne out, and each
 -- claim that it tells as refuted is false.
-abbrev pub HasReportWith : Limits → Claims → Completion → List ℕ → List ℕ → List Event → Answer
-    → Type 0
-HasReportWith limits claims c model stream events answer = HoldsOfModelWithin limits model
-    (λ m. (r : IsReportWith limits claims c m stream events answer)
+abbrev pub HasReportWith : Options → List ℕ → List ℕ → List Event → Answer → Type 0
+HasReportWith o model stream events answer = HoldsOfModelWithin o.limits model
+    (λ m. (r : IsReportWith o m stream events answer)
     × AreBorneOut m (blocks_in r.parts) (verdicts_of r.outcomes)
-    × (KnowsOf m claims → AllByRecursion (IsTrueOf m) events))
+    × (KnowsOf m o.claims → AllByRecursion (IsTrueOf m) events))
+
+abbrev pub HasReport : List ℕ → List ℕ → List Event → Answer → Type 0
+HasReport = HasReportWith standard_options
 
 -- What the lines tell that were written is so, also where the stream is refused behind them: their
 -- verdicts are borne out, and each claim that they tell as refuted is false.
@@ -296,8 +335,10 @@ WrittenLinesAreBorneOut = (claims : Claims) (c : Completion) (t : LocatedTree)
     × (KnowsOf (model_of t) claims
     → AllByRecursion (IsTrueOf (model_of t)) (told_of (model_of t) claims outcomes parts))
 
--- where claims aren't judged, the events and the answer are those of a report without them
+-- where claims aren't judged, the events are the verdicts and the claims in their order, and the
+-- answer is that of the verdicts
 abbrev pub UnaskedClaimsAreNotJudged : Type 0
-UnaskedClaimsAreNotJudged = (m : Model) (os : List Outcome) (ps : List StreamPart)
-    → (told_of m NotJudged os ps ≡ events_of 0 (verdicts_of os) ps)
+UnaskedClaimsAreNotJudged = (c : Completion) (m : Model) (ps : List StreamPart) (os : List Outcome)
+    → (HaveOutcomes c m ps os
+    → told_of m NotJudged os ps ≡ in_order 0 (verdicts_of os) (claims_in 0 ps))
     × (answer_told m NotJudged os ps ≡ answer_of (verdicts_of os))

@@ -12,5 +12,4 @@ pub mod View
 pub mod Refusal
 pub mod Inside
 pub mod Telling
-pub mod Passing
 pub mod Outputs

@@ -12,8 +12,8 @@ use Rattle.fz_judge.specs.of_stream.declared.splitter.Stage.TheVariants.{Running
 use Rattle.fz_judge.specs.of_stream.Broken.{IsBrokenAfter, IsBrokenAtEndAfter}
 use Rattle.fz_judge.specs.of_stream.Parts.{StreamPart, Frame, frame_of, HasItems, IsStreamTextWithin}
 use Rattle.fz_judge.specs.of_stream.Splitting.{SplitterState, Holds, Fits, EndsLast, PassesLimit, most_taken}
-use Rattle.fz_check.specs.declared.ending.Ending.{Ending}
-use Rattle.fz_check.specs.declared.ending.Ending.TheVariants.{Whole, Cut}
+use Rattle.fz_check.specs.declared.options.Ending.{Ending}
+use Rattle.fz_check.specs.declared.options.Ending.TheVariants.{Whole, Cut}
 
 -- What was read and not taken yet, how many more reads may be made, and whether the last one found
 -- the end of the stream.

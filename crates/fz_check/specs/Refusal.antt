@@ -12,8 +12,8 @@ use Rattle.fz_judge.specs.of_filling.declared.error.BlockError.TheVariants as bl
 use Rattle.fz_check.specs.declared.error.CheckError.{CheckError}
 use Rattle.fz_check.specs.declared.error.CheckError.TheVariants as errors
 use Rattle.fz_check.specs.declared.refusal.Told.{Told}
-use Rattle.fz_check.specs.declared.tally.Answer.{Answer}
-use Rattle.fz_check.specs.declared.tally.Answer.TheVariants as answers
+use Rattle.fz_check.specs.declared.account.Answer.{Answer}
+use Rattle.fz_check.specs.declared.account.Answer.TheVariants as answers
 
 -- the name of a fault, and its byte range where it has one
 pub record Named : Type 0 where

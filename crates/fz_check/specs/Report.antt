@@ -1,17 +1,12 @@
--- What a check tells of a stream: its events in order, which make up the report, and the line of
--- each (this project's profile).
-use Rattle.std.specs.Prelude.{◌≡◌, ℕ, suc, List, [], ◌∷◌, ◌++◌, cond, codes, decimal, flat_map}
+-- What a check tells of a stream: the events of a report, and the line of each (this project's
+-- profile).
+use Rattle.std.specs.Prelude.{◌≡◌, ℕ, ◌+◌, List, [], ◌∷◌, ◌++◌, cond, map, nat_le, codes, decimal, flat_map}
 use Rattle.std.specs.Fmt.{signed_decimal}
 use Rattle.fz_judge.specs.of_syntax.Span.{Span}
-use Rattle.fz_judge.specs.of_syntax.Limits.{Limits}
-use Rattle.fz_judge.specs.of_syntax.Places.{standard_limits}
-use Rattle.fz_judge.specs.of_model.Meaning.{Model}
 use Rattle.fz_judge.specs.of_stream.declared.line.ClaimKind.{ClaimKind}
 use Rattle.fz_judge.specs.of_stream.declared.line.ClaimKind.TheVariants.{Complete, Unsatisfiable, Unknown, Unbounded, UnsatOrUnbounded, Error}
-use Rattle.fz_judge.specs.of_stream.Parts.{blocks_in, StreamPart, BlockPart, ClaimPart, IsStreamTextWithin}
-use Rattle.fz_judge.specs.of_filling.declared.completion.Completion.{Completion}
-use Rattle.fz_judge.specs.of_filling.Completed.{AreVerdicts}
-use Rattle.fz_judge.specs.of_filling.Verdict.{Fault, Reason, Verdict, Answer, answer_of}
+use Rattle.fz_judge.specs.of_stream.declared.reading.Claim.{Claim}
+use Rattle.fz_judge.specs.of_filling.Verdict.{Fault, Reason, Verdict, Answer}
 use Rattle.fz_judge.specs.of_filling.Verdict.Fault.{PrintedFault, DomainFault, DefinitionFault, ConstraintFault, NotBetter}
 use Rattle.fz_judge.specs.of_filling.Verdict.Reason.{NoValueFor, NotKnown, NotShownBetter, SumTooLarge}
 use Rattle.fz_judge.specs.of_filling.Verdict.Verdict.{Satisfied, Violated, Undecided}
@@ -30,27 +25,25 @@ pub data Event : Type 0 where
   CutOff : Span → Event
   Answered : Answer → Event
 
--- the events of parts of a stream, with the verdicts of their blocks, where n blocks come before
--- them
-abbrev pub events_of : ℕ → List Verdict → List StreamPart → List Event
-events_of n vs [] = []
-events_of n vs (ClaimPart k ∷ ps) = Claimed k ∷ events_of n vs ps
-events_of n [] (BlockPart b ∷ ps) = events_of n [] ps
-events_of n (v ∷ vs) (BlockPart b ∷ ps) = Judged (suc n) v ∷ events_of (suc n) vs ps
+abbrev pub claimed : Claim → Event
+claimed c = Claimed c.kind
 
--- The stream's bytes are a text of parts within the limits, whose blocks have no fault. The report
--- tells of each part in order, of a block with its verdict, and then the answer on these verdicts.
-pub record IsReportWithin (limits : Limits) (c : Completion) (m : Model) (stream : List ℕ)
-    (events : List Event) (answer : Answer) : Type 0 where
-  pub parts : List StreamPart
-  pub text_of_stream : IsStreamTextWithin limits stream parts
-  pub verdicts : List Verdict
-  pub are_verdicts : AreVerdicts c m (blocks_in parts) verdicts
-  pub answer_is : answer ≡ answer_of verdicts
-  pub events_are : events ≡ events_of 0 verdicts parts ++ Answered answer ∷ []
+-- of these claims, the events of those at the front that come after so many blocks or fewer, and the
+-- claims behind them
+abbrev pub claims_by : ℕ → List Claim → List Event
+claims_by n [] = []
+claims_by n (c ∷ cs) = cond (nat_le c.after n) (claimed c ∷ claims_by n cs) []
 
-abbrev pub IsReport : Completion → Model → List ℕ → List Event → Answer → Type 0
-IsReport = IsReportWithin standard_limits
+abbrev pub claims_past : ℕ → List Claim → List Claim
+claims_past n [] = []
+claims_past n (c ∷ cs) = cond (nat_le c.after n) (claims_past n cs) (c ∷ cs)
+
+-- the verdicts, where n blocks come before them, and the claims, each behind as many blocks as it
+-- says, or at the end
+abbrev pub in_order : ℕ → List Verdict → List Claim → List Event
+in_order n [] cs = map claimed cs
+in_order n (v ∷ vs) cs =
+    claims_by n cs ++ Judged (n + 1) v ∷ in_order (n + 1) vs (claims_past n cs)
 
 -- ---- the text
 
@@ -120,3 +113,13 @@ event_line e = event_text e ++ 10 ∷ []
 -- the events as bytes, each by such a text
 abbrev pub text_of : (Event → List ℕ) → List Event → List ℕ
 text_of text events = flat_map text events
+
+-- the bytes are what this text has of the event
+abbrev pub by : (Event → List ℕ) → Event → List ℕ → Type 0
+by text e bytes = bytes ≡ text e
+
+-- The bytes are those of the events, one after another. `text` says which bytes may be an event's.
+abbrev pub AreOf : (Event → List ℕ → Type 0) → List Event → List ℕ → Type 0
+AreOf text [] bytes = bytes ≡ []
+AreOf text (e ∷ es) bytes = (front : List ℕ) × (rest : List ℕ) × (bytes ≡ front ++ rest)
+    × text e front × AreOf text es rest

@@ -6,14 +6,12 @@ use Rattle.fz_judge.specs.of_syntax.Limits.{Limits}
 use Rattle.fz_judge.specs.of_model.Meaning.{Model, Assignment, IsSolution}
 use Rattle.fz_judge.specs.of_model.States.{IsKnownSolution}
 use Rattle.fz_judge.specs.of_model.Texts.{IsLoadedFromWithin}
-use Rattle.fz_judge.specs.of_filling.declared.completion.Completion.{Completion}
-use Rattle.fz_judge.specs.of_stream.Parts.{SolutionBlock, blocks_in}
+use Rattle.fz_judge.specs.of_stream.Parts.{SolutionBlock}
 use Rattle.fz_judge.specs.of_filling.Solutions.{Extends, Improves}
-use Rattle.fz_judge.specs.of_filling.Verdict.{Answer, Verdict, Fault}
+use Rattle.fz_judge.specs.of_filling.Verdict.{Verdict, Fault}
 use Rattle.fz_judge.specs.of_filling.Verdict.Verdict.{Satisfied, Violated}
 use Rattle.fz_judge.specs.of_filling.Verdict.Fault.{NotBetter}
 use Rattle.fz_check.specs.Headline.{HasSolutionsWithin}
-use Rattle.fz_check.specs.Report.{Event, IsReportWithin}
 
 -- Within the limits the model's bytes are a text of a tree without faults, and this holds of its
 -- model.
@@ -58,16 +56,6 @@ pub record AreBorneOut (m : Model) (blocks : List SolutionBlock)
       → slice_get verdicts i ≡ Some (Violated f) → IsObjective f
       → (j : ℕ) × (earlier : SolutionBlock) × (i ≡ suc j) × (slice_get blocks j ≡ Some earlier)
       × NoneImproves m earlier block
-
--- The events are the report of the tree's model on the stream, with a search for values that were
--- left out or without one, and its verdicts are borne out.
-abbrev pub HasReportWithin : Limits → Completion → List ℕ → List ℕ → List Event → Answer → Type 0
-HasReportWithin limits c model stream events answer = HoldsOfModelWithin limits model
-    (λ m. (r : IsReportWithin limits c m stream events answer)
-    × AreBorneOut m (blocks_in r.parts) r.verdicts)
-
-abbrev pub HasReport : Completion → List ℕ → List ℕ → List Event → Answer → Type 0
-HasReport = HasReportWithin standard_limits
 
 -- the stream has solutions, at the standard limits
 abbrev pub HasSolutions : List ℕ → List ℕ → ℕ → Type 0

@@ -1,15 +1,13 @@
 -- What the code tells and answers, as definitions have it.
-use Rattle.std.specs.Prelude.{List, [], ◌∷◌, ◌++◌, map}
+use Rattle.std.specs.Prelude.{List, map}
 use Rattle.fz_judge.specs.of_filling.Verdict as plain
 use Rattle.fz_judge.specs.of_filling.View.{verdict_view}
-use Rattle.fz_check.specs.declared.tally.Answer.{Answer}
-use Rattle.fz_check.specs.declared.tally.Answer.TheVariants as answers
+use Rattle.fz_check.specs.declared.account.Answer.{Answer}
+use Rattle.fz_check.specs.declared.account.Answer.TheVariants as answers
 use Rattle.fz_check.specs.declared.event.Event as the_event
 use Rattle.fz_check.specs.declared.event.Event.TheVariants as events
 use Rattle.fz_check.specs.declared.report.Report.{Report}
-use Rattle.fz_check.specs.declared.report.Entry.{Entry}
-use Rattle.fz_check.specs.declared.report.Entry.TheVariants as entries
-use Rattle.fz_check.specs.Report.{Event}
+use Rattle.fz_check.specs.Report.{Event, in_order}
 use Rattle.fz_check.specs.Report.Event.{Judged, Claimed, Refuted, CutOff, Answered}
 
 abbrev pub answer_view : Answer → plain.Answer
@@ -26,9 +24,6 @@ event_view (events.Refuted r) = Refuted r
 event_view (events.Cut span) = CutOff span
 event_view (events.Answer a) = Answered (answer_view a)
 
-abbrev pub entry_view : Entry → Event
-entry_view (entries.Block n v) = Judged n (verdict_view v)
-entry_view (entries.Claim k) = Claimed k
-
-abbrev pub report_view : Report → List Event
-report_view r = map entry_view r.entries.items ++ Answered (answer_view r.answer) ∷ []
+-- the verdicts and claims of a report, in the stream's order
+abbrev pub report_events : Report → List Event
+report_events r = in_order 0 (map verdict_view r.verdicts.items) r.claims.items

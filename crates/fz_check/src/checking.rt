@@ -2,30 +2,32 @@
 
 ghost use Rattle.std.specs.Prelude.{◌≡◌, ◌≤◌, ℕ, List, length, map, IfOk, IfErr};
 ghost use Rattle.std.specs.List.{AllByRecursion};
+ghost use Rattle.fz_judge.specs.of_syntax.Places.{standard_limits};
 ghost use Rattle.fz_judge.specs.of_syntax.Offering.{IsTextOfAllWithin, items_of_tree};
 ghost use Rattle.fz_judge.specs.of_syntax.Places.{most_bytes};
 ghost use Rattle.fz_judge.specs.of_model.Names.{HasNoFault};
 ghost use Rattle.fz_judge.specs.of_model.Texts.{IsLoadedFromWithin};
 ghost use Rattle.fz_judge.specs.of_model.View.{located};
-ghost use Rattle.fz_judge.specs.of_stream.Found.{EndsWithin, HasPlaces, IsReadAs, block_of};
-ghost use Rattle.fz_check.specs.declared.tally.Answer.TheVariants.{Accepted};
-ghost use Rattle.fz_check.specs.Passing.{IsJudgingRefusal, IsStreamRefusal, PassesClaims};
+ghost use Rattle.fz_judge.specs.of_stream.Found.{EndsWithin, HasPlaces, IsReadAs, IsStreamText, block_of, claims_in};
+ghost use Rattle.fz_judge.specs.of_stream.Parts.{StreamPart};
+ghost use Rattle.fz_check.specs.declared.account.Answer.TheVariants.{Accepted};
+ghost use Rattle.fz_check.specs.Claims.{HasReport, IsReportWith, standard_options};
 ghost use Rattle.fz_check.specs.Refused.{IsModelRefusal, IsRefusal};
-ghost use Rattle.fz_check.specs.Report.{IsReport};
-ghost use Rattle.fz_check.specs.Reported.{HasReport, HasSolutions};
+ghost use Rattle.fz_check.specs.Reported.{HasSolutions};
 ghost use Rattle.fz_check.specs.Shown.{IsShown, IsShownPrintingAll};
-ghost use Rattle.fz_check.specs.View.{answer_view, report_view};
+ghost use Rattle.fz_check.specs.Telling.{IsJudgingRefusal, IsStreamRefusal};
+ghost use Rattle.fz_check.specs.View.{answer_view, report_events};
 
-use crate::claims::Claims;
 use crate::error::{CheckError, stream_refusal};
 use crate::jury::Jury;
+use crate::options::Options;
 use crate::outputs::print_all;
-use crate::report::{Entry, Report};
+use crate::report::Report;
 use fz_judge::{
-    Ast, Block, Claim, Completion, Limits, LoadError, Model, ModelError, Stream, SyntaxError,
-    blocks, load, load_text, parse_within, to_text,
+    Ast, Block, Claim, Limits, LoadError, Model, ModelError, Stream, SyntaxError, blocks, load,
+    load_text, parse_within, to_text,
 };
-use std::alloc::{AllocError, Global};
+use std::alloc::Global;
 
 /// The model of a text that is within the limits.
 ///
@@ -99,54 +101,35 @@ fn read_stream<'s>(alloc: Global, stream: &'s [u8]) -> Result<Stream<'s>, CheckE
     }
 }
 
-/// Adds the first claims, those that come right after this number of blocks, and gives the others.
-fn push_claims<'s>(
-    entries: &mut Vec<Entry<'_>>,
-    claims: &'s [Claim],
-    after: usize,
-) -> Result<&'s [Claim], AllocError>
-    ensures { IfOk result (λ rest. PassesClaims entries.old.items entries.new.items
-        claims.now rest.now after) }
-{
-    let mut rest = claims;
-    while let Some((first, others)) = rest.split_first() {
-        if first.after != after {
-            return Ok(rest);
-        }
-        entries.push(Entry::Claim(first.kind))?;
-        rest = others;
-    }
-    Ok(rest)
-}
-
 /// The report on the blocks and claims of a stream, by one judge, which stores the objective of the
 /// block before.
 fn judge_blocks<'a>(
     alloc: Global,
     model: &Model<'a>,
     blocks: &[Block<'_>],
-    claims: &[Claim],
+    claims: Vec<Claim>,
 ) -> Result<Report<'a>, CheckError>
     requires places { AllByRecursion HasPlaces blocks.now }
     requires within { AllByRecursion (EndsWithin usize.MAX) blocks.now }
     ensures report { IfOk result (λ r. (bytes : List ℕ) → IsReadAs bytes
-        (map block_of blocks.now) claims.now
-        → IsReport Completion.Off model.now bytes (report_view r) (answer_view r.answer)) }
+        (map block_of blocks.now) claims.items → IsReportWith standard_options model.now bytes
+        (report_events r) (answer_view r.answer)) }
+    ensures claims { IfOk result (λ r. r.claims.items ≡ claims.items) }
     ensures refused { IfErr result (IsJudgingRefusal model.now blocks.now) }
 {
-    let mut jury = Jury::new(model, Completion::Off, Claims::NotJudged);
-    let mut entries = Vec::new(alloc);
-    let mut rest = push_claims(&mut entries, claims, 0)?;
-    for (place, block) in blocks.iter().enumerate() {
-        match jury.judge(alloc, block) {
-            Ok(verdict) => entries.push(Entry::Block(place + 1, verdict))?,
+    let mut jury = Jury::new(model, Options::STANDARD);
+    let mut verdicts = Vec::new(alloc);
+    for block in blocks {
+        let (verdict, _) = match jury.judge(alloc, block) {
+            Ok(judged) => judged,
             Err(error) => return Err(error),
-        }
-        rest = push_claims(&mut entries, rest, place + 1)?;
+        };
+        verdicts.push(verdict)?;
     }
     Ok(Report {
-        entries,
-        answer: jury.tally.answer(),
+        verdicts,
+        claims,
+        answer: jury.answer(),
     })
 }
 
@@ -167,8 +150,11 @@ pub fn check<'a>(alloc: Global, model: &'a [u8], stream: &[u8]) -> Result<Report
     // The report is the one as defined: each block with its verdict and each claim in the stream's
     // order, and the answer that follows. A block that is satisfied has a solution. A block that is
     // violated has none, or none that improves on the block before.
-    ensures report { IfOk result (λ r. HasReport Completion.Off model.now stream.now
-        (report_view r) (answer_view r.answer)) }
+    ensures report { IfOk result (λ r. HasReport model.now stream.now (report_events r)
+        (answer_view r.answer)) }
+    // Each claim has the number of blocks before it.
+    ensures claims { IfOk result (λ r. (parts : List StreamPart) → IsStreamText stream.now parts
+        → r.claims.items ≡ claims_in 0 parts) }
     ensures short { IfOk result (λ _. length stream.now ≤ most_bytes) }
     // The model is refused only where its bytes are not a text of any tree, or with the first
     // fault of its names; the stream only where the model has no fault, and the stream's bytes are
@@ -179,21 +165,33 @@ pub fn check<'a>(alloc: Global, model: &'a [u8], stream: &[u8]) -> Result<Report
         Ok(loaded) => loaded,
         Err(error) => return Err(error),
     };
-    let found = match read_stream(alloc, stream) {
+    let Stream { blocks, claims } = match read_stream(alloc, stream) {
         Ok(found) => found,
         Err(error) => return Err(error),
     };
-    judge_blocks(alloc, &loaded, &found.blocks, &found.claims)
+    judge_blocks(alloc, &loaded, &blocks, claims)
 }
 
-/// The canonical text of a model that is within the limits, one line for each item, as `to_text`
-/// writes it. The names of the model are looked up first.
+/// The canonical text of a model, one line for each item, as `to_text` writes it. The names of the
+/// model are looked up first.
 ///
 /// # Errors
 ///
 /// `Model` where the bytes are not a text of any tree, `Names` with the first fault of its
 /// names, and `Memory` where memory runs out.
-pub fn show(alloc: Global, model: &[u8], limits: Limits) -> Result<Vec<u8>, CheckError>
+pub fn show(alloc: Global, model: &[u8]) -> Result<Vec<u8>, CheckError>
+    ensures shown { IfOk result (λ text. IsShown standard_limits model.now text.items) }
+    ensures refused { IfErr result (IsModelRefusal standard_limits model.now) }
+{
+    show_with(alloc, model, Limits::STANDARD)
+}
+
+/// As `show`, of a model that is within these limits.
+///
+/// # Errors
+///
+/// As `show`.
+pub fn show_with(alloc: Global, model: &[u8], limits: Limits) -> Result<Vec<u8>, CheckError>
     // The bytes are a text of a tree without faults, and the result is that tree's text.
     ensures shown { IfOk result (λ text. IsShown limits model.now text.items) }
     // It is refused only where the bytes are not a text of any tree, or with the first fault of
@@ -208,7 +206,7 @@ pub fn show(alloc: Global, model: &[u8], limits: Limits) -> Result<Vec<u8>, Chec
     Ok(text)
 }
 
-/// As `show`, with `:: output_var` behind each scalar variable that lacks it. A solver that runs
+/// As `show_with`, with `:: output_var` behind each scalar variable that lacks it. A solver that runs
 /// this model prints the value of every variable, and what it prints can also be checked against
 /// the model as it was.
 ///

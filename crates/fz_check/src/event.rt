@@ -1,12 +1,13 @@
 //! What a check tells of a stream, and who takes it.
 
-ghost use Rattle.std.specs.Prelude.{◌≡◌, ◌++◌, ℕ, List, OnOk};
-ghost use Rattle.fz_check.specs.Report.{Event as PlainEvent, event_line};
+ghost use Rattle.std.specs.Prelude.{ℕ, List, OnOk};
+ghost use Rattle.fz_check.specs.Report.{Event as PlainEvent, by, event_line};
 ghost use Rattle.fz_check.specs.View.{event_view};
+ghost use Rattle.fz_check.specs.Writing.{Adds};
 
+use crate::account::Answer;
 use crate::claims::Refutation;
 use crate::line::{push_answer, push_block, push_claim, push_cut, push_refutation};
-use crate::tally::Answer;
 use fz_judge::{Block, ClaimKind, Model, Refutation as BoundsRefutation, Span, Verdict};
 use std::alloc::AllocError;
 
@@ -41,9 +42,10 @@ pub enum Event<'e, 'a> {
     Answer(Answer),
 }
 
-/// Who takes the events of a check, and says what is written of each.
+/// Who takes the events of a check, and says what is written of each. Which bytes those may be, its
+/// `text` says: one text for an event, or, where the bytes have no definition, whichever it adds.
 pub trait Taker {
-    ghost text: { PlainEvent → List ℕ };
+    ghost text: { PlainEvent → List ℕ → Type 0 };
 
     /// Adds to `line` what is to be written of an event.
     ///
@@ -51,8 +53,7 @@ pub trait Taker {
     ///
     /// Out of memory. The check ends with it.
     fn take(&mut self, event: &Event<'_, '_>, line: &mut Vec<u8>) -> Result<(), AllocError>
-        ensures { OnOk result (line.new.items
-            ≡ line.old.items ++ text (event_view event.now)) };
+        ensures { OnOk result (Adds (text (event_view event.now)) line.old.items line.new.items) };
 }
 
 /// The report as text: a line for each event.
@@ -60,7 +61,7 @@ pub trait Taker {
 pub struct TextTaker;
 
 impl Taker for TextTaker {
-    ghost text = { event_line };
+    ghost text = { by event_line };
 
     fn take(&mut self, event: &Event<'_, '_>, line: &mut Vec<u8>) -> Result<(), AllocError> {
         match event {

@@ -4,125 +4,90 @@ ghost use Rattle.std.specs.Prelude.{◌≡◌, ◌+◌, ◌<◌, None, IfOk, IfE
 ghost use Rattle.fz_judge.specs.of_filling.Verdict.{answer_by};
 ghost use Rattle.fz_judge.specs.of_stream.Found.{block_of};
 ghost use Rattle.fz_judge.specs.of_filling.View.{verdict_view};
-ghost use Rattle.fz_check.specs.Claims.{IsOutcome, answer_with, behind_block, behind_claim, claim_refutation, is_satisfied, late_refuted, no_ledger};
+ghost use Rattle.fz_check.specs.Claims.{answer_with, behind_claim, claim_refutation, is_satisfied, late_refuted, no_account};
 ghost use Rattle.fz_check.specs.Telling.{IsUnjudged, JudgesOneMore};
 ghost use Rattle.fz_check.specs.View.{answer_view};
 
+use crate::account::{Account, Answer};
 use crate::claims::{Claims, Refutation, Statement};
 use crate::error::CheckError;
-use crate::ledger::Ledger;
-use crate::tally::{Answer, Tally, is_satisfied};
-use fz_judge::{Block, BlockError, ClaimKind, Completion, Judge, Model, Verdict};
+use crate::options::Options;
+use fz_judge::{Block, BlockError, ClaimKind, Judge, Model, Verdict};
 use std::alloc::Global;
 
-/// A judge of a model's blocks, a count of the verdicts that it gave, and what is known of claims.
+/// A judge of a model's blocks, and an account of what it judged.
 #[derive(Drop)]
 pub(crate) struct Jury<'m, 'a, 'k> {
     pub(crate) judge: Judge<'m, 'a>,
-    pub(crate) tally: Tally,
+    pub(crate) account: Account,
     claims: Claims<'k>,
-    ledger: Ledger,
 }
 
 impl<'m, 'a, 'k> Jury<'m, 'a, 'k> {
     /// Before the first part.
-    pub(crate) fn new(
-        model: &'m Model<'a>,
-        completion: Completion,
-        claims: Claims<'k>,
-    ) -> Jury<'m, 'a, 'k>
+    pub(crate) fn new(model: &'m Model<'a>, options: Options<'k>) -> Jury<'m, 'a, 'k>
         ensures judge { result.judge ≡ record {
           model = model.now;
-          completion = completion;
+          completion = options.entry.completion;
           before = None;
           found = None;
           refuted = None;
         } }
-        ensures tally { result.tally ≡ record { blocks = 0; violated = None; undecided = None } }
-        ensures claims { result.claims ≡ claims.entry }
-        ensures ledger { result.ledger ≡ no_ledger }
+        ensures account { result.account ≡ no_account }
+        ensures claims { result.claims ≡ options.entry.claims }
     {
         Jury {
-            judge: Judge::new(model, completion),
-            tally: Tally::new(),
-            claims,
-            ledger: Ledger::new(),
+            judge: Judge::completing(model, options.completion),
+            account: Account::new(),
+            claims: options.claims,
         }
     }
 
-    /// The verdict on the next block.
+    /// The verdict on the next block, and the claim that the block refutes, where it refutes one
+    /// that waits.
     pub(crate) fn judge(
         &mut self,
         alloc: Global,
         block: &Block<'_>,
-    ) -> Result<Verdict<'a>, CheckError>
-        requires { self.old.tally.blocks < usize.MAX }
-        ensures judged { IfOk result (λ v. JudgesOneMore self.old self.new
-            (block_of block.now) (verdict_view v)) }
-        ensures outcome { IfOk result (λ v. IsOutcome self.old.judge.completion
-            self.old.judge.model self.old.judge.before self.old.judge.found
-            (block_of block.now) (record {
-              verdict = verdict_view v;
-              filled = self.new.judge.before;
-              found = self.new.judge.found;
-            })) }
-        ensures same_model { self.new.judge.model ≡ self.old.judge.model }
-        ensures same_claims { self.new.claims ≡ self.old.claims }
-        ensures same_ledger { self.new.ledger ≡ self.old.ledger }
-        ensures counted { OnOk result (self.new.tally.blocks ≡ self.old.tally.blocks + 1) }
+    ) -> Result<(Verdict<'a>, Option<Statement>), CheckError>
+        requires { self.old.account.blocks < usize.MAX }
+        ensures judged { IfOk result (λ r. JudgesOneMore self.old self.new (block_of block.now)
+            (verdict_view r.0)) }
+        ensures late { IfOk result (λ r. r.1 ≡ late_refuted self.old.judge.model.aim
+            self.old.account.waiting (is_satisfied (verdict_view r.0)) self.new.judge.found) }
+        ensures counted { OnOk result (self.new.account.blocks ≡ self.old.account.blocks + 1) }
         ensures refused { IfErr result (IsUnjudged usize.MAX self.old block.now) }
     {
         let verdict = match self.judge.judge(alloc, block) {
             Ok(verdict) => verdict,
             Err(BlockError::Memory) => return Err(CheckError::Memory),
-            Err(error) => return Err(CheckError::Block(self.tally.blocks + 1, error)),
+            Err(error) => return Err(CheckError::Block(self.account.blocks + 1, error)),
         };
-        self.tally.count(&verdict);
-        Ok(verdict)
-    }
-
-    /// Hears of the block that was judged last. It gives the claim that the block refutes, where
-    /// it refutes one that waits.
-    pub(crate) fn hear_block(&mut self, verdict: &Verdict<'_>) -> Option<Statement>
-        ensures late { result ≡ late_refuted self.old.judge.model.aim self.old.ledger.waiting
-            (is_satisfied (verdict_view verdict.now)) self.old.judge.found }
-        ensures heard { self.new.ledger ≡ behind_block self.old.judge.model.aim
-            self.old.tally.blocks self.old.ledger (is_satisfied (verdict_view verdict.now))
-            self.old.judge.before self.old.judge.found }
-        ensures same { (self.new.judge ≡ self.old.judge) × (self.new.tally ≡ self.old.tally)
-            × (self.new.claims ≡ self.old.claims) }
-    {
         let goal = self.judge.model().goal();
         let filled = self.judge.filled_objective();
         let found = self.judge.objective();
-        self.ledger.hear_block(
-            goal,
-            self.tally.blocks,
-            is_satisfied(verdict),
-            filled,
-            found,
-        )
+        let late = self.account.hear_block(goal, &verdict, filled, found);
+        Ok((verdict, late))
     }
 
     /// Judges the next claim of the stream. It gives the solution that refutes it, if there is one.
     pub(crate) fn hear_claim(&mut self, kind: ClaimKind) -> Option<Refutation<'k>>
         ensures refutation { result ≡ claim_refutation self.old.judge.model.aim self.old.claims
-            self.old.tally.blocks self.old.ledger kind }
-        ensures heard { self.new.ledger ≡ behind_claim self.old.judge.model.aim self.old.claims
-            self.old.tally.blocks self.old.ledger kind }
-        ensures same { (self.new.judge ≡ self.old.judge) × (self.new.tally ≡ self.old.tally)
-            × (self.new.claims ≡ self.old.claims) }
+            self.old.account kind }
+        ensures heard { self.new.account ≡ behind_claim self.old.judge.model.aim self.old.claims
+            self.old.account kind }
+        ensures counted { self.new.account.blocks ≡ self.old.account.blocks }
+        ensures same { (self.new.judge ≡ self.old.judge) × (self.new.claims ≡ self.old.claims) }
     {
         let goal = self.judge.model().goal();
-        self.ledger
-            .hear_claim(goal, &self.claims, self.tally.blocks, kind)
+        self.account.hear_claim(goal, &self.claims, kind)
     }
 
     /// The answer on what was judged.
     pub(crate) fn answer(&self) -> Answer
-        ensures { answer_view result ≡ answer_with self.now.ledger.refuted
-            (answer_by self.now.tally.violated self.now.tally.undecided self.now.tally.blocks) }
+        ensures { answer_view result ≡ answer_with self.now.account.refuted (answer_by
+            self.now.account.violated self.now.account.undecided self.now.account.blocks) }
     {
-        self.tally.answer().with_claim(self.ledger.refuted)
+        self.account.answer()
     }
 }

@@ -7,11 +7,11 @@ ghost use Rattle.fz_check.specs.Claims.{Knows};
 ghost use Rattle.fz_check.specs.Reading.{HasNext, StandsAt};
 
 use crate::claims::{Known, Source};
-use crate::ending::Ending;
 use crate::error::CheckError;
+use crate::options::{Ending, Options};
 use crate::pieces::ReadFailed;
 use crate::reader::{PartReader, Step};
-use fz_judge::{Block, BlockError, Completion, Judge, Limits, Model, Part, Verdict};
+use fz_judge::{Block, BlockError, Judge, Model, Part, Verdict};
 use std::alloc::Global;
 use std::io::Read;
 
@@ -81,8 +81,8 @@ fn learn_next<'k, L: Listener>(
 /// objective; a block that isn't satisfied, or doesn't fit the model, changes nothing. One block at
 /// a time is in memory. With completion on, what is found counts, since it is judged.
 ///
-/// `file` is the stream's name, and `is_only` says that it needn't be told. The limits are those of
-/// the text of a block.
+/// `source` has the stream's name, and no block. Of the options completion and limits count: no
+/// block is cut off, and no claim is judged.
 ///
 /// # Errors
 ///
@@ -94,22 +94,15 @@ pub fn learn<'k, R: Read, L: Listener>(
     reader: &mut R,
     listener: &mut L,
     reads: u64,
-    completion: Completion,
-    file: &'k [u8],
-    is_only: bool,
+    mut source: Source<'k>,
     known: &mut Known<'k>,
-    limits: Limits,
+    options: Options<'_>,
 ) -> Result<(), CheckError>
     // What is known stays so: there are such solutions.
     ensures knows { Knows model.now known.old → Knows model.now known.new }
 {
-    let mut parts = PartReader::new(alloc, reads, limits);
-    let mut judge = Judge::new(model, completion);
-    let mut source = Source {
-        file,
-        is_only,
-        block: 0,
-    };
+    let mut parts = PartReader::new(alloc, reads, options.limits);
+    let mut judge = Judge::completing(model, options.completion);
     loop {
         match parts.advance(Ending::Whole) {
             Ok(Step::Part) => {

@@ -5,22 +5,21 @@
 //! Worked cases are in `tests/cases`.
 #![tactic(auto)]
 
+mod account;
 mod checking;
 mod claims;
-mod ending;
 mod error;
 mod event;
 mod jury;
 mod learning;
-mod ledger;
 mod line;
+mod options;
 mod outputs;
 mod pieces;
 mod reader;
 mod refusal;
 mod report;
 mod streaming;
-mod tally;
 mod telling;
 mod text;
 mod writing;
@@ -28,21 +27,21 @@ mod writing;
 ghost use Rattle.fz_check.specs.Claims.{UnaskedClaimsAreNotJudged, WrittenLinesAreBorneOut};
 ghost use Rattle.fz_check.specs.Cutting.{IsCutOnlyWhereOpen};
 
-pub use checking::{check, read_model, show, show_printing_all};
+pub use account::Answer;
+pub use checking::{check, read_model, show, show_printing_all, show_with};
 pub use claims::{Best, Claims, Known, Refutation, Refuter, Saying, Source, Statement};
-pub use ending::Ending;
 pub use error::CheckError;
 pub use event::{Event, Judged, Taker, TextTaker};
 pub use fz_judge::{
-    BlockError, ClaimKind, Completion, Fault, Judge, Limits, Model, ModelError, Reason, Span,
-    StreamError, SyntaxError, Verdict, fill, fill_with_steps,
+    BlockError, Claim, ClaimKind, Completion, Fault, Judge, Limits, Model, ModelError, Reason,
+    Span, StreamError, SyntaxError, Verdict, fill, fill_with_steps,
 };
 pub use learning::{Listener, learn};
 pub use line::{block_text, claim_text};
+pub use options::{Ending, Options};
 pub use refusal::{Told, refusal_fault, refusal_text, status};
-pub use report::{Entry, Report, report_text};
+pub use report::{Report, report_text};
 pub use streaming::{MOST_READS, check_events, check_stream, check_stream_up_to};
-pub use tally::Answer;
 
 /// What the lines say that were written before a refusal is so, as it is of a report: of the verdicts
 /// and of the claims that are refuted.

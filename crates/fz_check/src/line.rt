@@ -6,8 +6,8 @@ ghost use Rattle.fz_check.specs.Report.Event.{Answered, Claimed, CutOff, Judged,
 ghost use Rattle.fz_judge.specs.of_filling.View.{verdict_view};
 ghost use Rattle.fz_check.specs.View.{answer_view};
 
+use crate::account::Answer;
 use crate::claims::{Refutation, Refuter};
-use crate::tally::Answer;
 use crate::text::{push_bytes, push_count, push_fault, push_reason};
 use fz_judge::{ClaimKind, Span, Verdict};
 use std::alloc::{AllocError, Global};

@@ -6,8 +6,8 @@ ghost use Rattle.fz_judge.specs.of_stream.Splitting.{EndsLast, most_taken};
 ghost use Rattle.fz_check.specs.Reading.{HasNext, HasRead, StandsAt, WaitsInside, piece_size, steps_left};
 ghost use Rattle.fz_check.specs.Telling.{IsEndOf, IsUnread, broken_end};
 
-use crate::ending::Ending;
 use crate::error::{CheckError, stream_refusal};
+use crate::options::Ending;
 use crate::pieces::{Pieces, ReadFailed};
 use fz_judge::{Limits, Part, Span, Splitter, StreamError};
 use std::alloc::Global;
@@ -27,7 +27,8 @@ pub(crate) enum Step {
 
 /// What there is to do with a stream that can't end as it is.
 fn broken_end(ending: Ending, error: StreamError) -> Result<Step, CheckError>
-    ensures { result ≡ broken_end ending error }
+    ensures is { result ≡ broken_end ending error }
+    ensures not_part { result ≢ Ok Step.Part }
 {
     match ending {
         Ending::Whole => Err(stream_refusal(error)),
@@ -61,7 +62,7 @@ impl Model for PartReader {
 
 impl PartReader {
     ghost use Rattle.fz_judge.specs.of_syntax.Span.{Span as SpanData};
-    ghost use Rattle.fz_check.specs.declared.ending.Ending.{Ending};
+    ghost use Rattle.fz_check.specs.declared.options.Ending.{Ending};
     ghost use Rattle.fz_judge.specs.of_stream.declared.splitter.Stage.TheVariants.{Running, Finished};
     ghost use Rattle.fz_judge.specs.of_stream.Lending.{part_of, HasPlacesOfItems, PartEndsWithin};
 
@@ -71,7 +72,7 @@ impl PartReader {
         ensures pieces { result.pieces ≡ record { pending = []; reads = reads; at_end = false } }
     {
         PartReader {
-            splitter: Splitter::new(alloc, limits),
+            splitter: Splitter::within(alloc, limits),
             pieces: Pieces::new(reads),
             has_ended: false,
         }

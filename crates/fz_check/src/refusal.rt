@@ -3,8 +3,8 @@
 ghost use Rattle.std.specs.Prelude.{◌≡◌, ◌++◌, IfOk, OnOk, option_map};
 ghost use Rattle.fz_check.specs.Refusal.{block_fault, model_fault, named, named_text, refusal_fault, refusal_line, status_of, stream_fault, syntax_fault};
 
+use crate::account::Answer;
 use crate::error::CheckError;
-use crate::tally::Answer;
 use crate::text::{push_bytes, push_count};
 use fz_judge::{BlockError, ModelError, Span, StreamError, SyntaxError};
 use std::alloc::{AllocError, Global};

@@ -1,36 +1,72 @@
 //! The report on a stream that was read whole, and its text.
 
-ghost use Rattle.std.specs.Prelude.{◌≡◌, ◌++◌, IfOk, OnOk};
-ghost use Rattle.fz_check.specs.Report.{event_line, text_of};
-ghost use Rattle.fz_check.specs.View.{entry_view, report_view};
+ghost use Rattle.std.specs.Prelude.{◌≡◌, [], ◌∷◌, ◌++◌, map, IfOk, OnOk};
+ghost use Rattle.fz_judge.specs.of_filling.View.{verdict_view};
+ghost use Rattle.fz_check.specs.Report.{claimed, claims_by, claims_past, event_line, in_order, text_of};
+ghost use Rattle.fz_check.specs.Report.Event.{Answered};
+ghost use Rattle.fz_check.specs.View.{answer_view, report_events};
 
+use crate::account::Answer;
 use crate::line::{push_answer, push_block, push_claim};
-use crate::tally::Answer;
-use fz_judge::{ClaimKind, Verdict};
+use fz_judge::{Claim, Verdict};
 use std::alloc::{AllocError, Global};
 
-/// A block, by its number from 1, with its verdict; or a claim.
-#[derive(Clone, Copy, Debug)]
-pub enum Entry<'a> {
-    Block(usize, Verdict<'a>),
-    Claim(ClaimKind),
-}
-
-/// What is told of a stream: its blocks and claims in order, and the answer.
+/// What is told of a stream: the verdicts on its blocks in order, its claims, and the answer.
 #[derive(Debug, Drop)]
 pub struct Report<'a> {
-    pub entries: Vec<Entry<'a>>,
+    pub verdicts: Vec<Verdict<'a>>,
+    pub claims: Vec<Claim>,
     pub answer: Answer,
 }
 
-/// Adds the line of an entry.
-fn push_entry(text: &mut Vec<u8>, entry: &Entry<'_>) -> Result<(), AllocError>
-    ensures { OnOk result (text.new.items ≡ text.old.items ++ event_line (entry_view entry.now)) }
+/// Adds the lines of the claims at the front that come after so many blocks or fewer, and gives the
+/// others.
+fn push_claims<'c>(
+    text: &mut Vec<u8>,
+    claims: &'c [Claim],
+    after: usize,
+) -> Result<&'c [Claim], AllocError>
+    ensures added { OnOk result (text.new.items
+        ≡ text.old.items ++ text_of event_line (claims_by after claims.now)) }
+    ensures rest { IfOk result (λ rest. rest.now ≡ claims_past after claims.now) }
 {
-    match entry {
-        Entry::Block(number, verdict) => push_block(text, *number, verdict),
-        Entry::Claim(kind) => push_claim(text, *kind),
+    let mut rest = claims;
+    while let Some((first, others)) = rest.split_first() {
+        if after < first.after {
+            return Ok(rest);
+        }
+        push_claim(text, first.kind)?;
+        rest = others;
     }
+    Ok(rest)
+}
+
+/// Adds the lines of claims.
+fn push_rest(text: &mut Vec<u8>, claims: &[Claim]) -> Result<(), AllocError>
+    ensures { OnOk result (text.new.items
+        ≡ text.old.items ++ text_of event_line (map claimed claims.now)) }
+{
+    for claim in claims {
+        push_claim(text, claim.kind)?;
+    }
+    Ok(())
+}
+
+/// Adds a line for each block and each claim in the stream's order.
+fn push_parts(
+    text: &mut Vec<u8>,
+    verdicts: &[Verdict<'_>],
+    claims: &[Claim],
+) -> Result<(), AllocError>
+    ensures { OnOk result (text.new.items ≡ text.old.items
+        ++ text_of event_line (in_order 0 (map verdict_view verdicts.now) claims.now)) }
+{
+    let mut rest = claims;
+    for (index, verdict) in verdicts.iter().enumerate() {
+        rest = push_claims(text, rest, index)?;
+        push_block(text, index + 1, verdict)?;
+    }
+    push_rest(text, rest)
 }
 
 /// The text of a report: a line for each block and each claim in the stream's order, and then the
@@ -40,12 +76,11 @@ fn push_entry(text: &mut Vec<u8>, entry: &Entry<'_>) -> Result<(), AllocError>
 ///
 /// Out of memory.
 pub fn report_text(alloc: Global, report: &Report<'_>) -> Result<Vec<u8>, AllocError>
-    ensures { IfOk result (λ text. text.items ≡ text_of event_line (report_view report.now)) }
+    ensures { IfOk result (λ text. text.items ≡ text_of event_line
+        (report_events report.now ++ Answered (answer_view report.now.answer) ∷ [])) }
 {
     let mut text = Vec::new(alloc);
-    for entry in &report.entries {
-        push_entry(&mut text, entry)?;
-    }
+    push_parts(&mut text, &report.verdicts, &report.claims)?;
     push_answer(&mut text, report.answer)?;
     Ok(text)
 }

@@ -6,23 +6,21 @@ ghost use Rattle.fz_check.specs.Cutting.{HoldsOfJudged};
 ghost use Rattle.fz_check.specs.Headline.{HasSolutionsWithin, HoldsOfStream};
 ghost use Rattle.fz_check.specs.Reported.{HasSolutions};
 ghost use Rattle.fz_check.specs.Reading.{SpendsReads};
-ghost use Rattle.fz_check.specs.Report.{event_line};
-ghost use Rattle.fz_check.specs.Streaming.{IsEnded, IsEndedBy, IsEndedWithin, IsReportedTo, IsReportedWith, IsReportedWithin, most_reads};
-ghost use Rattle.fz_check.specs.Telling.{AnswersOnceWritten, IsFresh, Stands, StopsOnceWritten};
+ghost use Rattle.fz_check.specs.Streaming.{IsEnded, IsEndedWith, IsReported, IsReportedWith, most_reads};
+ghost use Rattle.fz_check.specs.Telling.{AnswersOnceWritten, Stands, StopsOnceWritten};
 ghost use Rattle.fz_check.specs.View.{answer_view};
 
+use crate::account::Answer;
 use crate::checking::read_model;
-use crate::claims::Claims;
-use crate::ending::Ending;
 use crate::error::CheckError;
 use crate::event::{Taker, TextTaker};
 use crate::jury::Jury;
+use crate::options::Options;
 use crate::pieces::ReadFailed;
 use crate::reader::{PartReader, Step};
-use crate::tally::Answer;
 use crate::telling::{gather, tell_end, tell_next};
 use crate::writing::{WriteFailed, write_lines};
-use fz_judge::{Completion, Limits};
+use fz_judge::Model;
 use std::alloc::Global;
 use std::io::{Read, Write};
 
@@ -30,35 +28,30 @@ use std::io::{Read, Write};
 /// after the last one are left to be written.
 fn tell_parts<R: Read, W: Write, T: Taker>(
     alloc: Global,
-    mut jury: Jury<'_, '_, '_>,
+    model: &Model<'_>,
     reader: &mut R,
     writer: &mut W,
     taker: &mut T,
     reads: u64,
-    ending: Ending,
-    limits: Limits,
+    options: Options<'_>,
     lines: &mut Vec<u8>,
 ) -> Result<Answer, CheckError>
-    requires fresh { IsFresh jury }
     requires none { lines.old.items ≡ [] }
-    ensures stands { Stands limits ending jury.entry.claims T.text
-        jury.entry.judge.completion jury.entry.judge.model reads (R.remaining reader.old)
-        (R.remaining reader.new) (W.contents writer.old)
-        (W.contents writer.new) lines.new.items }
-    ensures answered { IfOk result (λ a. AnswersOnceWritten limits ending jury.entry.claims
-        T.text jury.entry.judge.completion jury.entry.judge.model reads (R.remaining reader.old)
-        (R.remaining reader.new) (W.contents writer.old) (W.contents writer.new) lines.new.items
-        (answer_view a)) }
-    ensures refused { IfErr result (StopsOnceWritten limits ending jury.entry.claims T.text
-        jury.entry.judge.completion jury.entry.judge.model (R.remaining reader.old)
-        (R.remaining reader.new)
-        (W.contents writer.old) (W.contents writer.new) lines.new.items) }
+    ensures stands { Stands options.entry T.text model.now reads (R.remaining reader.old)
+        (R.remaining reader.new) (W.contents writer.old) (W.contents writer.new) lines.new.items }
+    ensures answered { IfOk result (λ a. AnswersOnceWritten options.entry T.text model.now reads
+        (R.remaining reader.old) (R.remaining reader.new) (W.contents writer.old)
+        (W.contents writer.new) lines.new.items (answer_view a)) }
+    ensures refused { IfErr result (StopsOnceWritten options.entry T.text model.now
+        (R.remaining reader.old) (R.remaining reader.new) (W.contents writer.old)
+        (W.contents writer.new) lines.new.items) }
 {
-    let mut parts = PartReader::new(alloc, reads, limits);
+    let mut jury = Jury::new(model, options);
+    let mut parts = PartReader::new(alloc, reads, options.limits);
     // A line is made apart, so that running out of memory in its midst leaves whole lines.
     let mut line = Vec::new(alloc);
     loop {
-        match parts.advance(ending) {
+        match parts.advance(options.ending) {
             Ok(Step::Part) => {
                 match tell_next(alloc, &parts, &mut jury, taker, &mut line) {
                     Ok(()) => {}
@@ -87,15 +80,14 @@ fn tell_parts<R: Read, W: Write, T: Taker>(
     }
 }
 
-/// Judges each block of the stream that a reader gives, and writes what the taker says of each event,
-/// with at most `reads` reads of 4,096 bytes. What is to be written for all that was read so far is
-/// written before the next read, and before any answer. One block at a time is in memory. The
-/// limits are those of the model's text, and of the text of a block with the line after it.
+/// Judges each block of the stream that a reader gives, and writes what the taker says of each
+/// event, with at most `reads` reads of 4,096 bytes. What is to be written for all that was read so
+/// far is written before the next read, and before any answer. One block at a time is in memory.
 ///
-/// Where completion is on, a block is judged by its second filling, and values are searched for that
-/// the solver left out. What is found is judged as the filling is: it makes no block violated. It can
-/// make an undecided block satisfied, and a satisfied one undecided, where its objective isn't better
-/// than one that was found for the block before.
+/// Where completion is on, a block is judged by its second filling, and values are searched for
+/// that the solver left out. What is found is judged as the filling is: it makes no block violated.
+/// It can make an undecided block satisfied, and a satisfied one undecided, where its objective
+/// isn't better than one that was found for the block before.
 ///
 /// Where cutting is on, a stream that ends inside a block is no fault: the block is cut off, which
 /// is told before the answer, and the bytes before it are judged. A claim's line without LF in that
@@ -115,25 +107,23 @@ pub fn check_events<R: Read, W: Write, T: Taker>(
     writer: &mut W,
     taker: &mut T,
     reads: u64,
-    completion: Completion,
-    ending: Ending,
-    claims: Claims<'_>,
-    limits: Limits,
+    options: Options<'_>,
 ) -> Result<Answer, CheckError>
     // What is accepted has solutions.
     ensures accepted { IfOk result (λ a. (count : ℕ) → a ≡ Answer.Accepted count
         → HoldsOfStream (R.remaining reader.old) (R.remaining reader.new)
-        (λ given. HoldsOfJudged ending given
-        (λ front _. HasSolutionsWithin limits model.now front count))) }
+        (λ given. HoldsOfJudged options.entry.limits options.entry.ending given
+        (λ front _. HasSolutionsWithin options.entry.limits model.now front count))) }
     // The writer got the report on all that the reader gave up to its end, but for what is cut off,
     // which is told, and nothing else.
     ensures report { IfOk result (λ a. HoldsOfStream (R.remaining reader.old)
-        (R.remaining reader.new) (λ given. HoldsOfJudged ending given
-        (λ front cut. IsReportedWith limits claims.entry cut T.text completion model.now front
+        (R.remaining reader.new)
+        (λ given. HoldsOfJudged options.entry.limits options.entry.ending given
+        (λ front cut. IsReportedWith options.entry cut T.text model.now front
         (W.contents writer.old) (W.contents writer.new) (answer_view a)))) }
     // The model, the stream or a block is refused only for its first fault. What was told of the
     // parts before it was written, and nothing else.
-    ensures refused { IfErr result (IsEndedBy limits ending claims.entry T.text completion model.now
+    ensures refused { IfErr result (IsEndedWith options.entry T.text model.now
         (R.remaining reader.old) (R.remaining reader.new) (W.contents writer.old)
         (W.contents writer.new)) }
     // No more bytes were read than so many reads of 4,096 bytes can bring, and where there is an
@@ -142,14 +132,13 @@ pub fn check_events<R: Read, W: Write, T: Taker>(
     ensures end_read { IfOk result
         (λ _. SpendsReads reads 1 (R.remaining reader.old) (R.remaining reader.new)) }
 {
-    let loaded = match read_model(alloc, model, limits) {
+    let loaded = match read_model(alloc, model, options.limits) {
         Ok(loaded) => loaded,
         Err(error) => return Err(error),
     };
-    let jury = Jury::new(&loaded, completion, claims);
     let mut lines = Vec::new(alloc);
     let outcome = tell_parts(
-        alloc, jury, reader, writer, taker, reads, ending, limits, &mut lines,
+        alloc, &loaded, reader, writer, taker, reads, options, &mut lines,
     );
     match write_lines(writer, &mut lines) {
         Ok(()) => outcome,
@@ -157,7 +146,7 @@ pub fn check_events<R: Read, W: Write, T: Taker>(
     }
 }
 
-/// As `check_events`, where the report is written as text, and nothing is cut off.
+/// As `check_events` with `Options::STANDARD`, where the report is written as text.
 ///
 /// # Errors
 ///
@@ -168,36 +157,35 @@ pub fn check_stream_up_to<R: Read, W: Write>(
     reader: &mut R,
     writer: &mut W,
     reads: u64,
-    completion: Completion,
-    claims: Claims<'_>,
-    limits: Limits,
 ) -> Result<Answer, CheckError>
     ensures accepted { IfOk result (λ a. (count : ℕ) → a ≡ Answer.Accepted count
         → HoldsOfStream (R.remaining reader.old) (R.remaining reader.new)
-        (λ given. HasSolutionsWithin limits model.now given count)) }
+        (λ given. HasSolutions model.now given count)) }
     ensures report { IfOk result (λ a. HoldsOfStream (R.remaining reader.old)
-        (R.remaining reader.new) (λ given. IsReportedWithin limits claims.entry event_line
-        completion model.now given (W.contents writer.old) (W.contents writer.new)
-        (answer_view a))) }
-    ensures refused { IfErr result (IsEndedWithin limits claims.entry event_line completion
-        model.now (R.remaining reader.old) (R.remaining reader.new) (W.contents writer.old)
-        (W.contents writer.new)) }
+        (R.remaining reader.new) (λ given. IsReported model.now given (W.contents writer.old)
+        (W.contents writer.new) (answer_view a))) }
+    ensures refused { IfErr result (IsEnded model.now (R.remaining reader.old)
+        (R.remaining reader.new) (W.contents writer.old) (W.contents writer.new)) }
     ensures reads { SpendsReads reads 0 (R.remaining reader.old) (R.remaining reader.new) }
     ensures end_read { IfOk result
         (λ _. SpendsReads reads 1 (R.remaining reader.old) (R.remaining reader.new)) }
 {
     let mut taker = TextTaker;
-    let ending = Ending::Whole;
     check_events(
-        alloc, model, reader, writer, &mut taker, reads, completion, ending, claims, limits,
+        alloc,
+        model,
+        reader,
+        writer,
+        &mut taker,
+        reads,
+        Options::STANDARD,
     )
 }
 
 /// The most reads that `check_stream` makes.
 pub const MOST_READS: u64 = 4_294_967_296;
 
-/// As `check_stream_up_to` at the standard limits, with at most 4,294,967,296 reads, and without a
-/// search for values that the solver left out.
+/// As `check_stream_up_to`, with at most 4,294,967,296 reads.
 ///
 /// # Errors
 ///
@@ -212,23 +200,13 @@ pub fn check_stream<R: Read, W: Write>(
         → HoldsOfStream (R.remaining reader.old) (R.remaining reader.new)
         (λ given. HasSolutions model.now given count)) }
     ensures report { IfOk result (λ a. HoldsOfStream (R.remaining reader.old)
-        (R.remaining reader.new) (λ given. IsReportedTo Claims.NotJudged event_line Completion.Off model.now given
-        (W.contents writer.old) (W.contents writer.new) (answer_view a))) }
-    ensures refused { IfErr result (IsEnded Claims.NotJudged event_line Completion.Off model.now
-        (R.remaining reader.old) (R.remaining reader.new) (W.contents writer.old)
-        (W.contents writer.new)) }
+        (R.remaining reader.new) (λ given. IsReported model.now given (W.contents writer.old)
+        (W.contents writer.new) (answer_view a))) }
+    ensures refused { IfErr result (IsEnded model.now (R.remaining reader.old)
+        (R.remaining reader.new) (W.contents writer.old) (W.contents writer.new)) }
     ensures reads { SpendsReads most_reads 0 (R.remaining reader.old) (R.remaining reader.new) }
     ensures end_read { IfOk result
         (λ _. SpendsReads most_reads 1 (R.remaining reader.old) (R.remaining reader.new)) }
 {
-    check_stream_up_to(
-        alloc,
-        model,
-        reader,
-        writer,
-        MOST_READS,
-        Completion::Off,
-        Claims::NotJudged,
-        Limits::STANDARD,
-    )
+    check_stream_up_to(alloc, model, reader, writer, MOST_READS)
 }

@@ -4,21 +4,21 @@ ghost use Rattle.fz_judge.specs.of_stream.Parts.{StreamPart};
 ghost use Rattle.fz_judge.specs.of_stream.Splitting.{most_taken};
 ghost use Rattle.fz_judge.specs.of_stream.Lending.{part_of, HasPlacesOfItems, PartEndsWithin};
 ghost use Rattle.fz_judge.specs.of_filling.View.{verdict_view};
-ghost use Rattle.fz_judge.specs.of_filling.declared.completion.Completion.{Completion};
-ghost use Rattle.fz_check.specs.Report.{text_of};
-ghost use Rattle.fz_check.specs.declared.claims.Claims.{Claims};
+ghost use Rattle.fz_check.specs.Report.{AreOf};
+ghost use Rattle.fz_check.specs.declared.options.Options.{Options};
 ghost use Rattle.fz_check.specs.Claims.{Outcome, late_events};
 ghost use Rattle.fz_check.specs.Report.Event.{Answered, Judged as PlainJudged};
-ghost use Rattle.fz_check.specs.Telling.{HasTold, IsUntold, IsUnwritten, LeavesNext, TellsNext, TellsOneMore, cut_events};
+ghost use Rattle.fz_check.specs.Streaming.{IsUnwritten};
+ghost use Rattle.fz_check.specs.Telling.{HasTold, IsUntold, LeavesNext, TellsNext, TellsOneMore, cut_events};
 ghost use Rattle.fz_check.specs.View.{answer_view, event_view};
-ghost use Rattle.fz_check.specs.Writing.{WritesFront, Wrote};
+ghost use Rattle.fz_check.specs.Writing.{Adds, WritesFront, Wrote};
 
+use crate::account::Answer;
 use crate::claims::{Refutation, Refuter, Statement};
 use crate::error::CheckError;
 use crate::event::{Event, Judged, Taker};
 use crate::jury::Jury;
 use crate::reader::PartReader;
-use crate::tally::Answer;
 use crate::writing::{WriteFailed, write_lines};
 use fz_judge::{Part, Span};
 use std::alloc::{AllocError, Global};
@@ -33,7 +33,7 @@ fn make_line<T: Taker>(
     line: &mut Vec<u8>,
     event: &Event<'_, '_>,
 ) -> Result<(), CheckError>
-    ensures made { OnOk result (line.new.items ≡ T.text (event_view event.now)) }
+    ensures made { OnOk result (AreOf T.text (event_view event.now ∷ []) line.new.items) }
     ensures kinds { IfErr result (λ e. e ≡ CheckError.Memory) }
 {
     line.clear();
@@ -50,8 +50,9 @@ fn make_block_line<T: Taker>(
     judged: Judged<'_, '_>,
     refuted: Option<Statement>,
 ) -> Result<(), CheckError>
-    ensures made { OnOk result (line.new.items ≡ text_of T.text (PlainJudged judged.entry.number
-        (verdict_view judged.entry.verdict) ∷ late_events refuted judged.entry.number)) }
+    ensures made { OnOk result (AreOf T.text (PlainJudged judged.entry.number
+        (verdict_view judged.entry.verdict) ∷ late_events refuted judged.entry.number)
+        line.new.items) }
     ensures kinds { IfErr result (λ e. e ≡ CheckError.Memory) }
 {
     match make_line(taker, line, &Event::Block(judged)) {
@@ -76,28 +77,25 @@ fn tell_part<T: Taker>(
     line: &mut Vec<u8>,
     part: &Part<'_>,
 ) -> Result<(), CheckError>
-    requires { jury.old.tally.blocks < usize.MAX }
-    ensures told { OnOk result ((claims : Claims) (c : Completion) (m : PlainModel)
+    requires { jury.old.account.blocks < usize.MAX }
+    ensures told { OnOk result ((o : Options) (m : PlainModel) (parts : List StreamPart)
+        (outcomes : List Outcome) → HasTold o m jury.old parts outcomes
+        → TellsOneMore o T.text m jury.new parts outcomes (part_of part.now) line.new.items) }
+    ensures counted { OnOk result (jury.new.account.blocks ≤ jury.old.account.blocks + 1) }
+    ensures refused { IfErr result (λ e. (o : Options) (m : PlainModel)
         (parts : List StreamPart) (outcomes : List Outcome)
-        → HasTold claims c m jury.old parts outcomes
-        → TellsOneMore claims T.text c m jury.new parts outcomes (part_of part.now)
-        line.new.items) }
-    ensures counted { OnOk result (jury.new.tally.blocks ≤ jury.old.tally.blocks + 1) }
-    ensures refused { IfErr result (λ e. (claims : Claims) (c : Completion) (m : PlainModel)
-        (parts : List StreamPart) (outcomes : List Outcome)
-        → HasTold claims c m jury.old parts outcomes → HasPlacesOfItems part.now
+        → HasTold o m jury.old parts outcomes → HasPlacesOfItems part.now
         → PartEndsWithin most_taken part.now → IsUntold m parts (part_of part.now) e) }
 {
     match part {
         Part::Block(block) => {
-            let verdict = match jury.judge(alloc, block) {
-                Ok(verdict) => verdict,
+            let (verdict, refuted) = match jury.judge(alloc, block) {
+                Ok(judged) => judged,
                 Err(error) => return Err(error),
             };
-            let refuted = jury.hear_block(&verdict);
             let objective = jury.judge.objective();
             let judged = Judged {
-                number: jury.tally.blocks,
+                number: jury.account.blocks,
                 block,
                 verdict,
                 objective,
@@ -114,11 +112,15 @@ fn tell_part<T: Taker>(
     }
 }
 
-/// Adds the line of what was cut off, where something was.
-fn add_cut<T: Taker>(taker: &mut T, line: &mut Vec<u8>, cut: Option<Span>) -> Result<(), AllocError>
-    ensures { OnOk result (line.new.items
-        ≡ line.old.items ++ text_of T.text (cut_events cut)) }
+/// Makes the line of what was cut off, where something was.
+fn make_cut<T: Taker>(
+    taker: &mut T,
+    line: &mut Vec<u8>,
+    cut: Option<Span>,
+) -> Result<(), AllocError>
+    ensures { OnOk result (AreOf T.text (cut_events cut) line.new.items) }
 {
+    line.clear();
     match cut {
         Some(span) => taker.take(&Event::Cut(span), line),
         None => Ok(()),
@@ -134,14 +136,13 @@ pub(crate) fn tell_end<T: Taker>(
     cut: Option<Span>,
     answer: Answer,
 ) -> Result<Answer, CheckError>
-    ensures told { OnOk result (lines.new.items ≡ lines.old.items
-        ++ text_of T.text (cut_events cut ++ Answered (answer_view answer) ∷ [])) }
+    ensures told { OnOk result (Adds (AreOf T.text (cut_events cut
+        ++ Answered (answer_view answer) ∷ [])) lines.old.items lines.new.items) }
     ensures answer { IfOk result (λ a. a ≡ answer) }
     ensures unchanged { OnErr result (lines.new.items ≡ lines.old.items) }
     ensures kinds { IfErr result (λ e. e ≡ CheckError.Memory) }
 {
-    line.clear();
-    add_cut(taker, line, cut)?;
+    make_cut(taker, line, cut)?;
     taker.take(&Event::Answer(answer), line)?;
     lines.extend_from_slice(line)?;
     Ok(answer)
@@ -156,9 +157,9 @@ pub(crate) fn tell_next<T: Taker>(
     line: &mut Vec<u8>,
 ) -> Result<(), CheckError>
     requires waits { IsSome parts.now.splitter.waits }
-    requires room { jury.old.tally.blocks < usize.MAX }
+    requires room { jury.old.account.blocks < usize.MAX }
     ensures told { OnOk result (TellsNext T.text parts.now jury.old jury.new line.new.items) }
-    ensures counted { OnOk result (jury.new.tally.blocks ≤ jury.old.tally.blocks + 1) }
+    ensures counted { OnOk result (jury.new.account.blocks ≤ jury.old.account.blocks + 1) }
     ensures refused { IfErr result (LeavesNext parts.now jury.old) }
 {
     let part = match parts.take() {

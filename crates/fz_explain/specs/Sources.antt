@@ -4,17 +4,15 @@ use Rattle.std.specs.List.{list_any}
 use Rattle.std.specs.Option.{option_map_or}
 use Rattle.fz_tree.specs.of_lex.of_base.declared.value.Value.{Value}
 use Rattle.fz_filling.specs.of_model.Meaning.{Model, Partial, Point, points, value_at}
-use Rattle.fz_filling.specs.of_model.Aimed.{GivesAny}
-use Rattle.fz_filling.specs.of_model.Steps.{Gives, terms_of}
+use Rattle.fz_filling.specs.of_model.Steps.{terms_of}
 use Rattle.fz_filling.specs.declared.completion.Completion.{Completion}
-use Rattle.fz_filling.specs.declared.completion.Completion.TheVariants.{Off, On}
-use Rattle.fz_filling.specs.Filling.{AreSteps}
+use Rattle.fz_filling.specs.Filling.{IsGivenBy, Run}
 use Rattle.fz_filling.specs.of_model.declared.Term.{Term}
 use Rattle.fz_filling.specs.of_model.declared.Term.TheVariants.{Var, Fixed}
 use Rattle.fz_explain.specs.declared.source.Source.{Source}
 use Rattle.fz_explain.specs.declared.source.Source.TheVariants as sources
 
--- the number of the point that gave the variable its value, of steps as `givers` has them: each a
+-- the number of the point that gave the variable its value, of steps as `Run` has them: each a
 -- variable and a point
 abbrev pub giver_of : List (ℕ × ℕ) → ℕ → Option ℕ
 giver_of [] n = None
@@ -28,11 +26,6 @@ source_of F steps n = option_map_or
     (value_at F n) sources.Nothing
 
 -- ---- what that means, where the steps are those of a filling
-
--- the point gives the variable the value, as it does for the filling of a block
-abbrev pub IsGivenBy : Completion → Model → Partial → Point → ℕ → Value → Type 0
-IsGivenBy Off m K p n v = Gives m K p n v
-IsGivenBy On m K p n v = GivesAny m K p n v
 
 -- The point of the number gave the variable the value, from the values before the step. These stay
 -- in the filling, and each is printed or was given by a step before this one.
@@ -59,7 +52,7 @@ IsTrueSource c m K F steps n v sources.Nothing = ⊥
 -- on from these, ends at printed ones
 abbrev pub SourcesAreEarlier : Type 0
 SourcesAreEarlier = (c : Completion) (m : Model) (K F : Partial) (steps : List (ℕ × ℕ))
-    → AreSteps c m K F steps → (n : ℕ) (v : Value) → value_at F n ≡ Some v
+    → Run c m K F steps → (n : ℕ) (v : Value) → value_at F n ≡ Some v
     → IsTrueSource c m K F steps n v (source_of F steps n)
 
 -- ---- the variables of a point

@@ -22,9 +22,12 @@ use Rattle.fz_index.specs.of_model.Meaning.Point.{DomainPoint, DefinitionPoint, 
 use Rattle.fz_index.proofs.of_model.Lists.{all_left, all_right}
 use Rattle.fz_index.proofs.of_model.Powers.{same_unknown}
 use Rattle.fz_index.specs.of_model.Steps.{Gives, IsResult, IsTarget, NumbersFit, HasUnitCoefficient, terms_of, open_terms, give}
-use Rattle.fz_filling.specs.Outlooks.{Agree}
 
 -- ---- values
+
+-- the scalars have the same values under both, or none
+abbrev pub Agree : Partial → Partial → List Term → Type 0
+Agree K L ts = AllByRecursion (λ t. value K t ≡ value L t) ts
 
 pub agree_back : (K L : Partial) (ts : List Term) → Agree K L ts → Agree L K ts
 agree_back K L [] h = tt

@@ -1,6 +1,6 @@
 -- A known-solution that extends a block agrees with each value that the filling gives.
-use Rattle.std.proofs.Common.{◌≡◌, ℕ, suc, zero, ◌+◌, true, false, cond, List, [], ◌∷◌, map, Option, Some, None, refl, sym, ap, subst, ◌∙◌, option_map, IsTrue, ◌⊎◌, inl, inr, IfSome, IsSomeAnd, arith, flat_map, take, drop, ◌==◌, add-zero, zero-add, eqb-true}
-use Rattle.std.specs.List.{AllByRecursion, enumerate_from}
+use Rattle.std.proofs.Common.{◌≡◌, ℕ, suc, zero, ◌+◌, true, false, cond, List, [], ◌∷◌, map, Option, Some, None, refl, sym, ap, ◌∙◌, option_map, IsTrue, ◌⊎◌, inl, inr, IfSome, IsSomeAnd, arith, flat_map, ◌==◌, add-zero, zero-add, eqb-true}
+use Rattle.std.specs.List.{AllByRecursion}
 use Rattle.std.specs.Option.{option_map_or, option_or}
 use Rattle.fz_index.specs.of_model.of_base.declared.value.Value.{Value}
 use Rattle.fz_index.specs.of_model.Relations.{kind_of, option_cons}
@@ -18,7 +18,7 @@ use Rattle.fz_index.specs.of_model.Meaning.Place.{Scalar, Array}
 use Rattle.fz_index.specs.of_model.Meaning.Argument.{One, ListOf}
 use Rattle.fz_index.specs.of_model.Meaning.Point.{DomainPoint, DefinitionPoint, ArrayPoint, ConstraintPoint}
 use Rattle.fz_index.specs.of_model.Steps.{Gives, IsResult, give}
-use Rattle.fz_index.proofs.of_model.Lists.{all_append, all_right, all_drop, all_take, all_enumerated, all_both, at_place}
+use Rattle.fz_index.proofs.of_model.Lists.{all_append, at_place}
 use Rattle.fz_index.proofs.of_model.ConstraintStates.{row_fits}
 use Rattle.fz_index.proofs.of_model.Points.{points_fit}
 use Rattle.fz_index.proofs.of_model.Powers.{power_known, row_power}
@@ -29,20 +29,10 @@ use Rattle.fz_stream.specs.Parts.{SolutionBlock}
 use Rattle.fz_stream.specs.of_syntax.Tree.{Printed, PrintedValue}
 use Rattle.fz_filling.specs.Solutions.{Extends, HasPrinted}
 use Rattle.fz_index.specs.of_model.Names.{literal_value}
-use Rattle.fz_filling.specs.Filling.{IsFirstStep, Chain, counted_from, Further, IsFilling, pairs, pairs_at, printed_scalars, first_printed, start_from, start}
-use Rattle.fz_filling.specs.Filling.Chain.{Ends, Step}
-use Rattle.fz_filling.specs.Filling.Further.{Stays, Goes}
+use Rattle.fz_filling.specs.Filling.{IsFilling, Run, pairs, pairs_at, printed_scalars, first_printed, start_from, start}
+use Rattle.fz_filling.specs.Filling.Run.{Stays, Goes}
 use Rattle.fz_filling.specs.declared.completion.Completion.{Completion}
-use Rattle.fz_filling.specs.declared.completion.Completion.TheVariants.{Off, On}
-
--- what holds of each point holds of the one of a first step
-pub at_first_step : (P : Point → Type 0) (m : Model) (K : Partial) (from k n : ℕ) (v : Value)
-    → AllByRecursion P (points m) → (s : IsFirstStep m K from k n v) → P s.point
-at_first_step P m K from k n v h s =
-    let each : AllByRecursion (λ q. P q.1) (enumerate_from 0 (points m)) = all_enumerated P 0 (points m) h in
-    let counted : AllByRecursion (λ q. P q.1) (counted_from from (enumerate_from 0 (points m))) =
-    all_append (λ q. P q.1) (drop from (enumerate_from 0 (points m))) (take from (enumerate_from 0 (points m))) (all_drop (λ q. P q.1) from (enumerate_from 0 (points m)) each) (all_take (λ q. P q.1) from (enumerate_from 0 (points m)) each) in
-    (all_right (λ q. P q.1) s.skipped ((k, s.point) ∷ s.rest) (subst (AllByRecursion (λ q. P q.1)) s.order counted)).0
+use Rattle.fz_filling.proofs.Running.{by_any, filling_run}
 
 -- ---- one partial assignment under another
 
@@ -147,15 +137,6 @@ step_agrees m A K p n v assignment h fits under g =
     let same : v ≡ w = only_value m K p n v w fits g kind (holds_too m A K p n v w g under (under_give K (whole A) n w under at) h) in
     at ∙ ap Some (sym same)
 
--- along the chain a known-solution that agrees with the start agrees with the end
-pub chain_agrees : (m : Model) (A : Assignment) {K : Partial} {from : ℕ} {F : Partial}
-    → IsKnownSolution m A → HasEach K (whole A) → Chain m K from F → HasEach F (whole A)
-chain_agrees m A solution under (Ends h) = under
-chain_agrees m A solution under (Step {K = K} {from = from} {k = k} {n = n} {v = v} s rest) =
-    let both : HoldsIfKnown (whole A) s.point × PointFits m s.point =
-    at_first_step (λ p. HoldsIfKnown (whole A) p × PointFits m p) m K from k n v (all_both (HoldsIfKnown (whole A)) (PointFits m) (points m) solution.each_holds (points_fit m)) s in
-    chain_agrees m A solution (under_give K (whole A) n v under (step_agrees m A K s.point n v solution.assignment both.0 both.1 under s.gives)) rest
-
 -- what is asked of a point doesn't depend on which variable it may give its value
 aimed_holds : (K : Partial) (n : ℕ) (p : Point) → HoldsIfKnown K p → HoldsIfKnown K (aimed n p)
 aimed_holds K n (DomainPoint x k) h = h
@@ -169,14 +150,14 @@ aimed_fits m n (DefinitionPoint x k e) h = h
 aimed_fits m n (ArrayPoint name d ts) h = h
 aimed_fits m n (ConstraintPoint k p) h = h
 
--- the same along the steps of a second filling
-further_agrees : (m : Model) (A : Assignment) {K G : Partial} → IsKnownSolution m A
-    → HasEach K (whole A) → Further m K G → HasEach G (whole A)
-further_agrees m A solution under Stays = under
-further_agrees m A solution under (Goes {K = K} {n = n} {v = v} k p at gives rest) =
+-- along a run a known-solution that agrees with the start agrees with the end
+run_agrees : (c : Completion) (m : Model) (A : Assignment) {K F : Partial} {steps : List (ℕ × ℕ)}
+    → IsKnownSolution m A → Run c m K F steps → HasEach K (whole A) → HasEach F (whole A)
+run_agrees c m A solution Stays under = under
+run_agrees c m A solution (Goes {K = K} {n = n} k v p at gives rest) under =
     let holds : HoldsIfKnown (whole A) (aimed n p) = aimed_holds (whole A) n p (at_place (HoldsIfKnown (whole A)) (points m) k p solution.each_holds at) in
     let fits : PointFits m (aimed n p) = aimed_fits m n p (at_place (PointFits m) (points m) k p (points_fit m) at) in
-    further_agrees m A solution (under_give K (whole A) n v under (step_agrees m A K (aimed n p) n v solution.assignment holds fits under gives)) rest
+    run_agrees c m A solution rest (under_give K (whole A) n v under (step_agrees m A K (aimed n p) n v solution.assignment holds fits under (by_any c m K p n v gives)))
 
 -- ---- the start
 
@@ -241,6 +222,4 @@ start_agrees m A block h n v e = first_agrees (whole A) (printed_scalars m block
 -- a known-solution that extends a block agrees with its filling
 pub filling_agrees : (c : Completion) (m : Model) (A : Assignment) (block : SolutionBlock) (F : Partial)
     → IsKnownSolution m A → Extends m A block → IsFilling c m block F → HasEach F (whole A)
-filling_agrees Off m A block F solution extends filling = chain_agrees m A solution (start_agrees m A block extends) filling
-filling_agrees On m A block G solution extends (F, chain, furthered) =
-    further_agrees m A solution (chain_agrees m A solution (start_agrees m A block extends) chain) furthered.reached
+filling_agrees c m A block F solution extends filling = run_agrees c m A solution (filling_run c m block F filling).1 (start_agrees m A block extends)

@@ -21,18 +21,15 @@ use Rattle.fz_filling.specs.declared.completion.Completion.TheVariants.{Off, On}
 use Rattle.fz_filling.specs.Completed.{AreTold, AreVerdicts, IsCompleted, LacksValuesAtMost}
 use Rattle.fz_filling.specs.Completed.IsCompleted.{Found, Refuted, AsFilled, NotBetterThanFound}
 use Rattle.fz_filling.specs.Completed.AreTold.{NoneLeft, OneMore}
-use Rattle.fz_filling.specs.Filling.{Chain, Further, printed_scalars, start, start_from}
-use Rattle.fz_filling.specs.Filling.Chain.{Ends, Step}
-use Rattle.fz_filling.specs.Filling.Further.{Stays, Goes}
-use Rattle.fz_filling.specs.Outlooks.{Agree}
+use Rattle.fz_filling.specs.Filling.{printed_scalars, start, start_from}
 use Rattle.fz_stream.specs.Parts.{SolutionBlock}
 use Rattle.fz_filling.specs.Verdict.{Fault, Verdict, Reason, fault_at, objective_fails, point_fails, point_undecided, printed_fails, verdict, verdict_by}
 use Rattle.fz_filling.specs.Verdict.Verdict.{Violated}
 use Rattle.fz_filling.proofs.Accepted.{first_none, prints_all}
-use Rattle.fz_filling.proofs.Agreeing.{row_state_agrees}
+use Rattle.fz_filling.proofs.Agreeing.{Agree, row_state_agrees}
 use Rattle.fz_index.proofs.of_model.Under.{array_not_fails, value_under}
-use Rattle.fz_filling.proofs.Keeping.{length_given}
-use Rattle.fz_filling.proofs.Violated.{WasNotBetter, filling_grows, further_grows, is_violated_by, no_fault, none_first, none_printed, objective_fault, objective_under}
+use Rattle.fz_filling.proofs.Running.{filling_run, run_grows, run_length}
+use Rattle.fz_filling.proofs.Violated.{WasNotBetter, filling_grows, is_violated_by, no_fault, none_first, none_printed, objective_fault, objective_under}
 
 -- ---- a point that fails fails under more values
 
@@ -155,15 +152,6 @@ start_length : (qs : List (Term × Value)) (n : ℕ) (xs : List Variable)
 start_length qs n [] = refl
 start_length qs n (x ∷ xs) = ap suc (start_length qs (suc n) xs)
 
-chain_length : (m : Model) {K : Partial} {from : ℕ} {F : Partial} → Chain m K from F
-    → length F ≡ length K
-chain_length m (Ends none) = refl
-chain_length m (Step {K = K} {n = n} {v = v} s rest) = chain_length m rest ∙ length_given K n v
-
-further_length : (m : Model) {K G : Partial} → Further m K G → length G ≡ length K
-further_length m Stays = refl
-further_length m (Goes {K = K} {n = n} {v = v} k p at gives rest) = further_length m rest ∙ length_given K n v
-
 -- ---- the verdicts of a report for which values are looked for, beside those of one for which not
 
 record Beside (m : Model) (before : Option ℤ) (blocks : List SolutionBlock) (vs : List Verdict) : Type 0 where
@@ -187,9 +175,9 @@ beside : (m : Model) {filled found : Option ℤ} {blocks : List SolutionBlock} {
 beside m NoneLeft before its = record { verdicts = []; told = λ found. NoneLeft; one_each = refl; violated = λ i f is. absurd cc }
 beside m (OneMore {filled = filled} {found = found} {kept = kept} {block = block} {blocks = blocks} {v = v} {vs = vs} G is_filled is_told rest) before its =
     let (F, chain, furthered) = is_filled.filling in
-    let under : HasEach F G = further_grows m furthered.reached in
+    let under : HasEach F G = run_grows On m furthered.reached in
     let others : Beside m (objective m F) blocks vs = beside m rest (objective m F) (λ b is. objective_under m.aim F G b under is) in
-    let as_many : length G ≡ length (variables_of m) = further_length m furthered.reached ∙ chain_length m chain ∙ start_length (printed_scalars m block.items) 0 (variables_of m) in
+    let as_many : length G ≡ length (variables_of m) = run_length On m (filling_run On m block G is_filled.filling).1 ∙ start_length (printed_scalars m block.items) 0 (variables_of m) in
     record {
       verdicts = verdict m F block before ∷ others.verdicts;
       told = λ _. OneMore F (record { fits = is_filled.fits; filling = chain }) refl (others.told None);

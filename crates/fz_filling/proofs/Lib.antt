@@ -12,13 +12,11 @@ pub mod Each
 pub mod Starts
 pub mod Loops
 pub mod Agreeing
-pub mod Waiting
-pub mod Keeping
 pub mod Stepping
-pub mod Posting
 pub mod Reordering
 pub mod Runs
 pub mod Noting
+pub mod Running
 pub mod Furthering
 pub mod Lasting
 pub use Rattle.fz_index.proofs.of_model

@@ -5,8 +5,7 @@ use borrow.Author.Count.{below_more}
 use Rattle.std.proofs.lemmas.Option.{slice_get_within}
 use Rattle.fz_index.specs.of_model.Meaning.{Model, Point, points}
 use Rattle.fz_index.specs.of_model.Steps.{IsTarget}
-use Rattle.fz_filling.specs.Courses.{AreKept, IsNoted}
-use Rattle.fz_filling.specs.Runs.{AreLone}
+use Rattle.fz_filling.specs.Courses.{AreKept, AreLone, IsNoted}
 
 -- the points before this one are noted
 abbrev pub AreNoted : Model → List ℕ → ℕ → Type 0

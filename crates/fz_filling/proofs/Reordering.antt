@@ -1,6 +1,6 @@
 -- A point gives the same step under later values as long as its variable has none; so steps of two
 -- points can change places.
-use Rattle.std.proofs.Common.{◌≡◌, ℕ, suc, zero, true, false, cond, List, [], ◌∷◌, Option, Some, None, refl, sym, ap, subst, ◌∙◌, is_none}
+use Rattle.std.proofs.Common.{◌≡◌, ℕ, suc, zero, true, false, cond, List, [], ◌∷◌, length, Option, Some, None, refl, sym, ap, subst, ◌∙◌, is_none}
 use Rattle.fz_index.specs.of_model.of_base.declared.value.Value.{Value}
 use Rattle.fz_index.specs.of_model.declared.Term.{Term}
 use Rattle.fz_index.specs.of_model.declared.Term.TheVariants.{Var}
@@ -10,11 +10,21 @@ use Rattle.fz_index.specs.of_model.Steps.{Gives, open_terms, terms_of, give}
 use Rattle.fz_index.proofs.of_model.Steps.{PointFits, only_value, only_open_none, value_at_other, filter-none, is_open}
 use Rattle.fz_index.specs.of_model.Openings.{HasEach}
 use Rattle.fz_index.proofs.of_model.Under.{value_under}
-use Rattle.fz_filling.specs.Outlooks.{Agree, IsLater, IsOpen}
-use Rattle.fz_filling.proofs.Agreeing.{agree_back, gives_agree}
-use Rattle.fz_filling.proofs.Keeping.{length_given}
+use Rattle.fz_filling.proofs.Agreeing.{Agree, agree_back, gives_agree}
+use Rattle.fz_filling.proofs.Running.{length_given}
 
 -- ---- later values
+
+abbrev pub IsOpen : Partial → ℕ → Type 0
+IsOpen K n = value_at K n ≡ None
+
+-- the second is of as many variables, and has all values of the first
+pub record IsLater (K L : Partial) : Type 0 where
+  pub as_many : length K ≡ length L
+  pub has_all : HasEach K L
+
+pub same_later : (K : Partial) → IsLater K K
+same_later K = record { as_many = refl; has_all = λ n v e. e }
 
 pub then_later : (K L M : Partial) → IsLater K L → IsLater L M → IsLater K M
 then_later K L M first second = record { as_many = first.as_many ∙ second.as_many; has_all = λ n v set. second.has_all n v (first.has_all n v set) }

@@ -1,25 +1,25 @@
 -- Steps in any order make a chain, where no two points can give the same variable a value.
-use Rattle.std.proofs.Common.{◌≡◌, ℕ, suc, zero, ◌+◌, ◌-◌, ◌≤◌, ◌<◌, ◌⊎◌, inl, inr, List, [], ◌∷◌, length, Option, Some, None, refl, sym, ap, subst, subst₂, ◌∙◌, slice_get, take, drop, arith}
-use Rattle.std.specs.List.{AllByRecursion, enumerate_from}
+use Rattle.std.proofs.Common.{◌≡◌, ℕ, suc, zero, ◌+◌, ◌-◌, ◌≤◌, ◌<◌, ◌⊎◌, inl, inr, List, [], ◌∷◌, length, Option, Some, None, refl, sym, ap, subst, subst₂, ◌∙◌, slice_get, arith}
+use Rattle.std.specs.List.{AllByRecursion}
 use Rattle.std.proofs.lemmas.Bool.{cases_eq}
 use Rattle.fz_index.specs.of_model.of_base.declared.value.Value.{Value}
 use Rattle.fz_index.specs.of_model.declared.Term.{Term}
 use Rattle.fz_index.specs.of_model.declared.Term.TheVariants.{Var, Fixed}
 use Rattle.fz_index.specs.of_model.Meaning.{Model, Point, Partial, value_at, points}
 use Rattle.fz_index.specs.of_model.Steps.{Gives, GivesNothing, open_terms, terms_of, give}
-use Rattle.fz_index.proofs.of_model.Lists.{all_append, all_right, all_drop, all_take, at_place}
+use Rattle.fz_index.proofs.of_model.Lists.{at_place}
 use Rattle.fz_index.proofs.of_model.Points.{points_fit}
 use Rattle.fz_index.proofs.of_model.Steps.{PointFits, only_open_none}
-use Rattle.fz_filling.specs.Filling.{IsFirstStep, Chain, counted_from}
+use Rattle.fz_filling.specs.Filling.{IsFirstStep, Chain, Run}
 use Rattle.fz_filling.specs.Filling.Chain.{Ends, Step}
-use Rattle.fz_filling.specs.Outlooks.{IsLater, IsOpen}
+use Rattle.fz_filling.specs.Filling.Run.{Stays, Goes}
+use Rattle.fz_filling.specs.declared.completion.Completion.TheVariants.{Off}
+use Rattle.fz_filling.specs.Courses.{AreLone}
 use Rattle.fz_filling.specs.Stepping.{NoneGives, IsStepAhead}
-use Rattle.fz_filling.specs.Runs.{Run, AreLone}
-use Rattle.fz_filling.specs.Runs.Run.{Stays, Goes}
-use Rattle.fz_filling.proofs.Keeping.{same_later, none_and_one}
+use Rattle.fz_filling.proofs.Running.{chain_run, run_joined}
 use Rattle.fz_index.proofs.of_model.Lists.{there_is}
-use Rattle.fz_filling.proofs.Stepping.{ahead_is_first, wrapped_is_first, no_first}
-use Rattle.fz_filling.proofs.Reordering.{then_later, given_later, still_open, swapped, later_gives, gives_before, gives_after, step_value}
+use Rattle.fz_filling.proofs.Stepping.{ahead_is_first, wrapped_is_first, no_first, none_and_one}
+use Rattle.fz_filling.proofs.Reordering.{IsLater, IsOpen, same_later, then_later, given_later, still_open, swapped, later_gives, gives_before, gives_after, step_value}
 
 -- ---- a run by the number of its steps
 
@@ -27,42 +27,17 @@ abbrev Walk : Model → ℕ → Partial → Partial → Type 0
 Walk m zero K F = K ≡ F
 Walk m (suc l) K F = (k : ℕ) × (n : ℕ) × (v : Value) × (p : Point) × (slice_get (points m) k ≡ Some p) × Gives m K p n v × Walk m l (give K n v) F
 
--- the point of a first step stands at the step's number
-numbers_are : {A : Type 0} (P : ℕ → A → Type 0) (i : ℕ) (xs : List A)
-    → ((j : ℕ) (x : A) → slice_get xs j ≡ Some x → P (i + j) x)
-    → AllByRecursion (λ (q : ℕ × A). P q.0 q.1) (enumerate_from i xs)
-numbers_are P i [] h = tt
-numbers_are P i (x ∷ xs) h =
-    let here : i + 0 ≡ i = omega arith in
-    let rest = numbers_are P (i + 1) xs (λ j y at. let there : i + suc j ≡ (i + 1) + j = omega arith in subst (λ k. P k y) there (h (suc j) y at)) in
-    (subst (λ j. P j x) here (h zero x refl), rest)
+-- nothing gives a step at the end of a chain
+chain_ends : (m : Model) {K : Partial} {from : ℕ} {F : Partial} → Chain m K from F
+    → AllByRecursion (GivesNothing m F) (points m)
+chain_ends m (Ends none) = none
+chain_ends m (Step s rest) = chain_ends m rest
 
--- the number is that of the point
-abbrev IsNumbered : Model → (ℕ × Point) → Type 0
-IsNumbered m q = slice_get (points m) q.0 ≡ Some q.1
-
-pub stands : (m : Model) (K : Partial) (from k n : ℕ) (v : Value) (s : IsFirstStep m K from k n v)
-    → slice_get (points m) k ≡ Some s.point
-stands m K from k n v s =
-    let whole : List (ℕ × Point) = enumerate_from 0 (points m) in
-    let each : AllByRecursion (IsNumbered m) whole =
-    numbers_are (λ j p. slice_get (points m) j ≡ Some p) 0 (points m) (λ j p at. let same : 0 + j ≡ j = omega arith in ap (slice_get (points m)) same ∙ at) in
-    let counted : AllByRecursion (IsNumbered m) (counted_from from whole) =
-    all_append (IsNumbered m) (drop from whole) (take from whole) (all_drop (IsNumbered m) from whole each) (all_take (IsNumbered m) from whole each) in
-    (all_right (IsNumbered m) s.skipped ((k, s.point) ∷ s.rest) (subst (AllByRecursion (IsNumbered m)) s.order counted)).0
-
--- a chain is a run, and nothing gives a step at its end
-walk_of_chain : (m : Model) {K : Partial} {from : ℕ} {F : Partial} → Chain m K from F
-    → (l : ℕ) × Walk m l K F × AllByRecursion (GivesNothing m F) (points m)
-walk_of_chain m (Ends none) = (zero, refl, none)
-walk_of_chain m (Step {K = K} {from = from} {k = k} {n = n} {v = v} s rest) =
-    let (l, walk, none) = walk_of_chain m rest in (suc l, (k, n, v, s.point, stands m K from k n v s, s.gives, walk), none)
-
--- a run and one behind it
-walk_of_run : (m : Model) {K L : Partial} → Run m K L → (F : Partial) (l : ℕ) → Walk m l L F
-    → (j : ℕ) × Walk m j K F
-walk_of_run m Stays F l walk = (l, walk)
-walk_of_run m (Goes {n = n} {v = v} k p at g rest) F l walk = let (j, more) = walk_of_run m rest F l walk in (suc j, (k, n, v, p, at, g, more))
+walk_of_run : (m : Model) {K F : Partial} {steps : List (ℕ × ℕ)} → Run Off m K F steps
+    → (l : ℕ) × Walk m l K F
+walk_of_run m Stays = (zero, refl)
+walk_of_run m (Goes {n = n} k v p at g rest) =
+    let (l, walk) = walk_of_run m rest in (suc l, (k, n, v, p, at, g, walk))
 
 walk_later : (m : Model) (l : ℕ) (K F : Partial) → Walk m l K F → IsLater K F
 walk_later m zero K F same = subst (IsLater K) same (same_later K)
@@ -245,8 +220,8 @@ module _ (m : Model) (lone : AreLone m) (F : Partial) (nothing : AllByRecursion 
       → IsFirstStep m K from k n v
       → Walk m (suc l) K F → Walk m l (give K n v) F
   rest_of l K from k n v None still s walk =
-      absurd (set_at_end m lone (suc l) K F walk nothing k s.point n v (stands m K from k n v s) s.gives still)
-  rest_of l K from k n v (Some u) set s walk = taken_first m lone l K F s.point k n v u (stands m K from k n v s) s.gives set walk
+      absurd (set_at_end m lone (suc l) K F walk nothing k s.point n v s.at s.gives still)
+  rest_of l K from k n v (Some u) set s walk = taken_first m lone l K F s.point k n v u s.at s.gives set walk
 
   chain_of_walk : (l : ℕ) (K : Partial) (from : ℕ) → from ≤ length (points m) → Walk m l K F
       → Chain m K from F
@@ -261,14 +236,8 @@ module _ (m : Model) (lone : AreLone m) (F : Partial) (nothing : AllByRecursion 
 
 -- A run to where a chain begins is a chain itself, from any point, where no two points can give the
 -- same variable a value.
-pub run_then_chain : (m : Model) (K L F : Partial) (from j : ℕ) → AreLone m
-    → from ≤ length (points m) → Run m K L → Chain m L j F → Chain m K from F
-run_then_chain m K L F from j lone inside run chain =
-    let (l, walk, nothing) = walk_of_chain m chain in
-    let (i, whole) = walk_of_run m run F l walk in
-    chain_of_walk m lone F nothing i K from inside whole
-
--- one run after another
-pub run_joined : {m : Model} {K L F : Partial} → Run m K L → Run m L F → Run m K F
-run_joined Stays after = after
-run_joined (Goes k p at g rest) after = Goes k p at g (run_joined rest after)
+pub run_then_chain : (m : Model) (K L F : Partial) (steps : List (ℕ × ℕ)) (from j : ℕ) → AreLone m
+    → from ≤ length (points m) → Run Off m K L steps → Chain m L j F → Chain m K from F
+run_then_chain m K L F steps from j lone inside run chain =
+    let (i, walk) = walk_of_run m (run_joined Off m run (chain_run m chain).1) in
+    chain_of_walk m lone F (chain_ends m chain) i K from inside walk

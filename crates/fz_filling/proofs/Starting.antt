@@ -25,6 +25,7 @@ use Rattle.fz_index.proofs.of_model.NamedKinds.{PlaceIs, TermIs}
 use Rattle.fz_index.proofs.of_model.Partials.{fits_length, give_fits, has_place}
 use Rattle.fz_index.proofs.of_model.ScanSteps.{or_assoc, or_nothing}
 use Rattle.fz_index.proofs.of_model.Scope.{same_kind_is}
+use Rattle.fz_index.proofs.of_model.Valued.{same_as_itself}
 use Rattle.fz_stream.specs.of_syntax.Span.{Span}
 use Rattle.fz_stream.specs.of_syntax.Tree.{Literal, Printed, PrintedValue, OneValue, ArrayOf}
 use Rattle.fz_stream.specs.of_syntax.View.{bare_items, bare_literal, bare_printed, bare_printed_value}
@@ -170,6 +171,46 @@ pub items_fit : (m : Model) (items : List the_printed.Printed) → items_fault m
     → AllFit m (bare_items items)
 items_fit m [] e = tt
 items_fit m (i ∷ items) e = let (here, rest) = or_none (printed_fault m i) _ e in (item_fits m i here, items_fit m items rest)
+
+-- and one that fits has none
+clean : (b : Bool) (k : BlockFaultKind) (at : Span) → b ≡ true → fault_if (not b) k at ≡ None
+clean true k at e = refl
+clean false k at e = cc
+
+literal_clean : (k : Kind) (l : the_literal.Literal) → kind_of (literal_value (bare_literal l)) ≡ k
+    → literal_fault k l ≡ None
+literal_clean k l e =
+    let own = kind_of (literal_value (bare_literal l)) in
+    clean (same_kind own k) WrongKind l.span (subst (λ j. same_kind own j ≡ true) e (same_as_itself own))
+
+literals_clean : (k : Kind) (ls : List the_literal.Literal)
+    → AllByRecursion (λ l. kind_of (literal_value l) ≡ k) (map bare_literal ls)
+    → first_some (literal_fault k) ls ≡ None
+literals_clean k [] h = refl
+literals_clean k (l ∷ ls) h = λ i. option_or (literal_clean k l h.0 i) (literals_clean k ls h.1 i)
+
+same_count : (n k : ℕ) → n ≡ k → (n == k) ≡ true
+same_count n k e = (elim (n == k) as (λ b. (n == k) ≡ b → b ≡ true) [ true ↦ λ _. refl | false ↦ λ other. absurd (eqb-false n k other e) ]) refl
+
+value_clean : (x : the_name.Name) (p : Place) (v : the_value.PrintedValue)
+    → Fits p (bare_printed_value v) → value_fault x p v ≡ None
+value_clean x (Scalar k t) (printed.One l) h = literal_clean k l h
+value_clean x (Scalar k t) (printed.Array is ls) h = absurd h
+value_clean x (Array y k ts) (printed.One l) h = absurd h
+value_clean x (Array y k ts) (printed.Array is ls) h =
+    let as_many = clean (length ls.items == length ts) WrongLength x.span (same_count (length ls.items) (length ts) (sym (length-map ls.items bare_literal) ∙ h.0)) in
+    λ i. option_or (as_many i) (literals_clean k ls.items h.1 i)
+
+place_clean : (x : the_name.Name) (o : Option Place) (v : the_value.PrintedValue)
+    → IsSomeAnd o (λ p. Fits p (bare_printed_value v))
+    → ◌≡◌ {A = Option BlockFault} (elim o [ None ↦ Some (record { kind = UnknownName; at = x.span }) | Some p ↦ value_fault x p v ]) None
+place_clean x None v h = absurd h
+place_clean x (Some p) v h = value_clean x p v h
+
+pub items_clean : (m : Model) (items : List the_printed.Printed) → AllFit m (bare_items items)
+    → items_fault m items ≡ None
+items_clean m [] h = refl
+items_clean m (i ∷ items) h = λ j. option_or (place_clean i.name (find_name m i.name.text.now) i.value h.0 j) (items_clean m items h.1 j)
 
 module _ (Is : Kind → Value → Type 0) (m : Model) where
   -- a variable has the kind of the value that is printed for it, and a stored value is as said

@@ -15,17 +15,14 @@ use Rattle.fz_index.specs.of_model.declared.Term.TheVariants.{Var, Fixed}
 use Rattle.fz_index.specs.of_model.Steps.{kind_at}
 use Rattle.fz_index.proofs.of_model.NamedKinds.{named_fits}
 use Rattle.fz_index.proofs.of_model.Lists.{all_append}
-use Rattle.fz_index.proofs.of_model.Partials.{give_fits}
 use Rattle.fz_stream.specs.Parts.{SolutionBlock}
 use Rattle.fz_stream.specs.of_syntax.Tree.{Printed}
 use Rattle.fz_filling.specs.BlockFaults.{AllFit, Fits, ItemFits}
-use Rattle.fz_filling.specs.Filling.{Chain, Further, IsFilling, pairs_at, printed_scalars, first_printed, start_from, start}
-use Rattle.fz_filling.specs.Filling.Chain.{Ends, Step}
-use Rattle.fz_filling.specs.Filling.Further.{Stays, Goes}
+use Rattle.fz_filling.specs.Filling.{pairs_at, printed_scalars, first_printed, start_from, start}
 use Rattle.fz_filling.specs.declared.completion.Completion.{Completion}
-use Rattle.fz_filling.specs.declared.completion.Completion.TheVariants.{Off, On}
 use Rattle.fz_filling.specs.Verdict.{IsFilled, IsProposed}
 use Rattle.fz_filling.specs.Working.{item_scalars}
+use Rattle.fz_filling.proofs.Running.{filling_run, run_fits}
 use Rattle.fz_filling.proofs.Starting.{PairFits as PairIs, place_pairs_fit}
 use Rattle.fz_filling.proofs.Violated.{filling_grows}
 
@@ -95,28 +92,11 @@ start_is_partial t sound block h =
     let number : 0 + k ≡ k = omega arith in
     kind_is (variables_of (model_of t)) k x (kind_of v) at (first_fits (model_of t) (printed_scalars (model_of t) block.items) k v fit (ap (first_printed (printed_scalars (model_of t) block.items)) (sym number) ∙ printed)))
 
--- ---- the chain
-
-pub chain_is_partial : (m : Model) {K : Partial} {from : ℕ} {F : Partial} → IsPartial m K
-    → Chain m K from F → IsPartial m F
-chain_is_partial m h (Ends k) = h
-chain_is_partial m h (Step {K = K} {n = n} {v = v} s rest) = chain_is_partial m (give_fits (variables_of m) K n v h s.gives.of_kind) rest
-
-pub further_is_partial : (m : Model) {K G : Partial} → IsPartial m K → Further m K G
-    → IsPartial m G
-further_is_partial m h Stays = h
-further_is_partial m h (Goes {K = K} {n = n} {v = v} k p at gives rest) = further_is_partial m (give_fits (variables_of m) K n v h gives.of_kind) rest
-
-filling_is_partial : (c : Completion) (m : Model) (block : SolutionBlock) (F : Partial)
-    → IsPartial m (start m block) → IsFilling c m block F → IsPartial m F
-filling_is_partial Off m block F h filled = chain_is_partial m h filled
-filling_is_partial On m block G h (F, chain, furthered) = further_is_partial m (chain_is_partial m h chain) furthered.reached
-
 -- The filling of a block that fits is a partial assignment that has every value of the start.
 pub filling_proposed : (c : Completion) (t : LocatedTree) (block : SolutionBlock) (F : Partial)
     → HasNoFault t → IsFilled c (model_of t) block F → IsProposed (model_of t) block F
 filling_proposed c t block F sound filled = record {
   fits = filled.fits;
-  partial = filling_is_partial c (model_of t) block F (start_is_partial t sound block filled.fits) filled.filling;
+  partial = run_fits c (model_of t) (filling_run c (model_of t) block F filled.filling).1 (start_is_partial t sound block filled.fits);
   has_start = filling_grows c (model_of t) block F filled.filling;
 }

@@ -1,35 +1,47 @@
--- The chain of the filling: the first step, and the end where each variable has a value.
-use Rattle.std.proofs.Common.{◌≡◌, ℕ, zero, suc, ◌<◌, ◌≤◌, ◌⊎◌, inl, inr, List, [], ◌∷◌, ◌++◌, append-nil, length, Option, Some, None, slice_get, IfSome, refl, sym, ap, subst, ◌∙◌, arith}
+-- The first step of a chain, and the end where each variable has a value.
+use Rattle.std.proofs.Common.{◌≡◌, ℕ, zero, suc, ◌+◌, ◌<◌, ◌≤◌, inl, inr, List, [], ◌∷◌, length, Option, Some, None, slice_get, IfSome, refl, sym, subst, arith}
 use Rattle.std.specs.List.{AllByRecursion}
 use Rattle.std.proofs.lemmas.Bool.{cases_lt}
-use Rattle.std.proofs.lemmas.List.{append_assoc}
 use Rattle.std.proofs.lemmas.Option.{slice_get_within}
+use borrow.Author.Count.{below_more}
 use Rattle.fz_index.specs.of_model.of_base.declared.value.Value.{Value}
-use Rattle.fz_index.specs.of_model.Meaning.{Model, Point, Partial, value_at, variables_of, points, IsPartial}
+use Rattle.fz_index.specs.of_model.Meaning.{Model, Point, Partial, value_at, points, IsPartial}
 use Rattle.fz_index.specs.of_model.Partial.{unset_count}
 use Rattle.fz_index.specs.of_model.Aimed.{GivesNone, aimed}
-use Rattle.fz_index.specs.of_model.Steps.{GivesNothing, terms_of, give}
+use Rattle.fz_index.specs.of_model.Steps.{GivesNothing, terms_of}
 use Rattle.fz_index.specs.of_model.Relations.{kind_of}
 use Rattle.fz_index.proofs.of_model.Lists.{there_is}
-use Rattle.fz_index.proofs.of_model.Partials.{give_fits, has_place}
+use Rattle.fz_index.proofs.of_model.Partials.{has_place}
 use Rattle.fz_index.proofs.of_model.Steps.{only_open_none}
-use Rattle.fz_index.proofs.of_model.Tabled.{one_unset_less}
-use Rattle.fz_filling.specs.Filling.{IsFirstStep, Chain, givers}
-use Rattle.fz_filling.specs.Filling.Chain.{Ends, Step}
-use Rattle.fz_filling.proofs.Loops.{first_ahead, first_wrapped, none_gives}
-use Rattle.fz_filling.specs.Givers.{giver_view}
-use Rattle.fz_filling.specs.Stepping.{IsAdvanced, IsStepAhead, NoneGives}
-use Rattle.fz_filling.specs.declared.steps.Giver.{Giver}
+use Rattle.fz_filling.specs.Filling.{IsFirstStep}
+use Rattle.fz_filling.specs.declared.completion.Completion.TheVariants.{Off}
+use Rattle.fz_filling.specs.Stepping.{GivesNoneAt, IsStepAhead, NoneGives}
 
 -- ---- the points from a number up to another
+
+-- one more point gives nothing
+pub none_and_one : (m : Model) (K : Partial) (from k : ℕ) → NoneGives m K from k
+    → GivesNoneAt Off m K k → NoneGives m K from (k + 1)
+none_and_one m K from k before here j p above below at =
+    below_more (λ i. from ≤ i → (q : Point) → slice_get (points m) i ≡ Some q → GivesNothing m K q) k
+    (λ i l up q at'. before i q up l at') (λ _ q at'. here q at') j below above p at
 
 -- a step from the number on up to the last point is the first one
 pub ahead_is_first : (m : Model) (K : Partial) (from to k n : ℕ) (v : Value)
     → to ≡ length (points m) → IsStepAhead m K from to k n v → IsFirstStep m K from k n v
 ahead_is_first m K from to k n v all s =
     let within : k < length (points m) = subst (λ z. k < z) all s.below in
+    let ahead : from ≤ k = s.ahead in
     let (p, at) = there_is (points m) k within in
-    first_ahead m K from k n v p s.ahead at s.none_before (s.gives p at)
+    record {
+      point = p;
+      at = at;
+      none_passed = λ j q passed there. elim passed [
+        | inl h ↦ s.none_before j q h.0 h.1 there
+        | inr h ↦ absurd (omega (arith, h.0, ahead))
+      ];
+      gives = s.gives p at;
+    }
 
 -- and where there is none, one before the number is
 pub wrapped_is_first : (m : Model) (K : Partial) (from to k n : ℕ) (v : Value)
@@ -39,31 +51,30 @@ wrapped_is_first m K from to k n v all inside none s =
     let below : k < from = s.below in
     let within : k < length (points m) = omega arith in
     let (p, at) = there_is (points m) k within in
-    first_wrapped m K from k n v p s.below at (λ j q above at'. let short : j < length (points m) = slice_get_within (points m) j q at' in none j q above (subst (λ z. j < z) (sym all) short) at') s.none_before (s.gives p at)
+    record {
+      point = p;
+      at = at;
+      none_passed = λ j q passed there. elim passed [
+        | inl h ↦ absurd (omega (arith, h.0, h.1, below))
+        | inr h ↦ elim h.1 [
+          | inl above ↦ none j q above (subst (λ z. j < z) (sym all) (slice_get_within (points m) j q there)) there
+          | inr under ↦ s.none_before j q (omega arith) under there
+        ]
+      ];
+      gives = s.gives p at;
+    }
+
+pub at_each : (P : Point → Type 0) (ps : List Point)
+    → ((k : ℕ) (p : Point) → slice_get ps k ≡ Some p → P p) → AllByRecursion P ps
+at_each P [] h = tt
+at_each P (p ∷ ps) h = (h 0 p refl, at_each P ps (λ k q at. h (suc k) q at))
 
 -- where there is none from the number on and none before it, no point gives a step
 pub no_first : (m : Model) (K : Partial) (from to : ℕ) → to ≡ length (points m)
     → NoneGives m K from to → NoneGives m K 0 from → AllByRecursion (GivesNothing m K) (points m)
-no_first m K from to all after before = none_gives m K (λ j p above below at. by_number j p (cases_lt j from) below at)
-  where
-    by_number : (j : ℕ) (p : Point) → (j < from) ⊎ (from ≤ j) → j < length (points m)
-        → slice_get (points m) j ≡ Some p → GivesNothing m K p
-    by_number j p (inl l) below at = before j p (omega arith) l at
-    by_number j p (inr l) below at = after j p l (subst (λ z. j < z) (sym all) below) at
-
--- ---- a step
-
-pub step_unset : (m : Model) (K : Partial) (from k n : ℕ) (v : Value) → IsFirstStep m K from k n v
-    → value_at K n ≡ None
-step_unset m K from k n v s = only_open_none K n (terms_of s.point) s.gives.only_open
-
-pub step_within : (m : Model) (K : Partial) (from k n : ℕ) (v : Value) → IsPartial m K
-    → IsFirstStep m K from k n v → n < length K
-step_within m K from k n v fits s = has_place m K n (kind_of v) fits s.gives.of_kind
-
-pub step_fits : (m : Model) (K : Partial) (from k n : ℕ) (v : Value) → IsPartial m K
-    → IsFirstStep m K from k n v → IsPartial m (give K n v)
-step_fits m K from k n v fits s = give_fits (variables_of m) K n v fits s.gives.of_kind
+no_first m K from to all after before = at_each (GivesNothing m K) (points m) (λ j p at.
+    let short : j < length (points m) = slice_get_within (points m) j p at in
+    elim (cases_lt j from) [ inl l ↦ before j p (omega arith) l at | inr l ↦ after j p l (subst (λ z. j < z) (sym all) short) at ])
 
 -- ---- variables without a value
 
@@ -78,11 +89,6 @@ gives_nothing : (m : Model) (K : Partial) → IsPartial m K → unset_count K �
     → GivesNothing m K p
 gives_nothing m K fits none p n v g = all_set K n (has_place m K n (kind_of v) fits g.of_kind) (only_open_none K n (terms_of p) g.only_open) none
 
-pub at_each : (P : Point → Type 0) (ps : List Point)
-    → ((k : ℕ) (p : Point) → slice_get ps k ≡ Some p → P p) → AllByRecursion P ps
-at_each P [] h = tt
-at_each P (p ∷ ps) h = (h 0 p refl, at_each P ps (λ k q at. h (suc k) q at))
-
 pub nothing_left : (m : Model) (K : Partial) → IsPartial m K → unset_count K ≡ 0
     → AllByRecursion (GivesNothing m K) (points m)
 nothing_left m K fits none = at_each (GivesNothing m K) (points m) (λ k p at. gives_nothing m K fits none p)
@@ -94,51 +100,6 @@ none_left m K fits none = at_each (GivesNone m K) (points m) (λ k p at n v. giv
 
 pub at_some : {A : Type 0} (P : A → Type 0) (o : Option A) (x : A) → o ≡ Some x → IfSome o P → P x
 at_some P o x e h = subst (λ p. IfSome p P) e h
-
--- ---- what the chain reaches from here it reaches from the start, by the steps so far and its own
-
-abbrev pub ReachesBy : Model → Partial → Partial → ℕ → List (ℕ × ℕ) → Type 0
-ReachesBy m S K from steps = (F : Partial) (c : Chain m K from F) → (whole : Chain m S 0 F) × (givers whole ≡ steps ++ givers c)
-
--- of whatever steps
-abbrev pub Reaches : Model → Partial → Partial → ℕ → Type 0
-Reaches m S K from = (steps : List (ℕ × ℕ)) × ReachesBy m S K from steps
-
-module _ (m : Model) (S K L : Partial) (from on : ℕ) (o : Option Giver) (moved : IsAdvanced m K L from on o) where
-  pub reaches_after : (steps : List (ℕ × ℕ)) (g : Giver) → o ≡ Some g → ReachesBy m S K from steps
-      → ReachesBy m S L on (steps ++ giver_view g ∷ [])
-  reaches_after steps g is reaches = (elim o as (λ o. IsAdvanced m K L from on o → o ≡ Some g → ReachesBy m S L on (steps ++ giver_view g ∷ [])) [
-    | None ↦ λ _ e. cc
-    | Some h ↦ λ moved e.
-        let same : h ≡ g = cc in
-        let (v, first, given, at) = subst (λ h. IsAdvanced m K L from on (Some h)) same moved in
-        subst (λ (x : Partial × ℕ). ReachesBy m S x.0 x.1 (steps ++ giver_view g ∷ [])) (λ i. (sym given i, sym at i))
-        (λ F c. let (whole, are) = reaches F (Step first c) in (whole, are ∙ sym (append_assoc steps (giver_view g ∷ []) (givers c))))
-  ]) moved is
-
-  pub reaches_end : (steps : List (ℕ × ℕ)) → o ≡ None → ReachesBy m S K from steps
-      → (c : Chain m S 0 L) × (steps ≡ givers c)
-  reaches_end steps is reaches = (elim o as (λ o. IsAdvanced m K L from on o → o ≡ None → (c : Chain m S 0 L) × (steps ≡ givers c)) [
-    | None ↦ λ moved _.
-        let (whole, are) = reaches K (Ends moved.1) in
-        subst (λ L. (c : Chain m S 0 L) × (steps ≡ givers c)) (sym moved.0) (whole, sym (are ∙ append-nil steps))
-    | Some h ↦ λ _ e. cc
-  ]) moved is
-
-  pub fewer_unset : (g : Giver) → o ≡ Some g → IsPartial m K → unset_count L < unset_count K
-  fewer_unset g is fits = (elim o as (λ o. IsAdvanced m K L from on o → o ≡ Some g → unset_count L < unset_count K) [
-    | None ↦ λ _ e. cc
-    | Some h ↦ λ moved _.
-        let (v, first, given, at) = moved in
-        let within = step_within m K from h.point h.variable v fits first in
-        let unset = step_unset m K from h.point h.variable v first in
-        let less : unset_count K ≡ suc (unset_count (give K h.variable v)) = one_unset_less K h.variable v within unset in
-        let same : unset_count L ≡ unset_count (give K h.variable v) = ap unset_count given in
-        omega (arith, less, same)
-  ]) moved is
-
-pub no_steps : (m : Model) (S : Partial) → ReachesBy m S S 0 []
-no_steps m S = λ F c. (c, refl)
 
 -- the point of a number, and what it gives
 pub point_gives : (m : Model) (P : Point → ℕ → Value → Type 0) (k n : ℕ) (v : Value)

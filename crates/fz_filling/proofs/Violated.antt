@@ -11,7 +11,6 @@ use Rattle.fz_index.specs.of_model.declared.State.TheVariants.{Holds, Fails, NoV
 use Rattle.fz_index.specs.of_model.Names.{literal_value}
 use Rattle.fz_index.specs.of_model.Meaning.{Place, Variable, Aim, Model, Point, Partial, Assignment, value, values, value_at, whole, points, find_name, first_some, variables_of, objective, objective_of, as_int}
 use Rattle.fz_index.specs.of_model.Relations.{option_cons}
-use Rattle.fz_index.specs.of_model.Aimed.{aimed}
 use Rattle.fz_index.specs.of_model.Openings.{HasEach}
 use Rattle.fz_index.specs.of_model.States.{PointName, shown_point, state, HoldsIfKnown, IsKnownSolution, same_value, same_values}
 use Rattle.fz_index.specs.of_model.declared.Term.{Term}
@@ -19,24 +18,21 @@ use Rattle.fz_index.specs.of_model.declared.Term.TheVariants.{Var, Fixed}
 use Rattle.fz_index.specs.of_model.Meaning.Place.{Scalar, Array}
 use Rattle.fz_index.specs.of_model.Meaning.Aim.{Satisfy, Minimize, Maximize}
 use Rattle.fz_index.specs.of_model.States.PointName.{DomainOf, DefinitionOf, ConstraintOf}
-use Rattle.fz_index.specs.of_model.Steps.{terms_of, give}
 use Rattle.fz_index.proofs.of_model.Lists.{all_left, all_right, all_map, all_both}
 use Rattle.fz_index.proofs.of_model.Under.{never_fails, some_same, value_under}
-use Rattle.fz_index.proofs.of_model.Steps.{value_at_other, option_cons_parts, only_open_none}
+use Rattle.fz_index.proofs.of_model.Steps.{option_cons_parts}
 use Rattle.fz_index.proofs.of_model.Values.{value_itself, values_itself}
 use Rattle.fz_stream.specs.Parts.{SolutionBlock}
 use Rattle.fz_stream.specs.of_syntax.Tree.{Printed, PrintedValue}
 use Rattle.fz_filling.specs.Solutions.{Extends, HasPrinted, IsBetter, Improves}
-use Rattle.fz_filling.specs.Filling.{Chain, Further, IsFilling, pairs, pairs_at, printed_scalars, if_var, first_printed, start_from, start}
-use Rattle.fz_filling.specs.Filling.Chain.{Ends, Step}
-use Rattle.fz_filling.specs.Filling.Further.{Stays, Goes}
+use Rattle.fz_filling.specs.Filling.{IsFilling, pairs, pairs_at, printed_scalars, if_var, first_printed, start_from, start}
 use Rattle.fz_filling.specs.declared.completion.Completion.{Completion}
-use Rattle.fz_filling.specs.declared.completion.Completion.TheVariants.{Off, On}
 use Rattle.fz_filling.specs.Verdict.{Fault, Reason, verdict, verdict_by, has_printed, printed_fails, fault_at, fault_named, point_fails, point_undecided, objective_fails, not_better_if}
 use Rattle.fz_filling.specs.Verdict.Verdict.{Violated}
 use Rattle.fz_filling.specs.Verdict.Fault.{PrintedFault, DomainFault, DefinitionFault, ConstraintFault, NotBetter}
 use Rattle.fz_filling.proofs.Starting.{has_room}
 use Rattle.fz_filling.proofs.Chains.{Prints, filling_agrees, printed_agree, Agrees}
+use Rattle.fz_filling.proofs.Running.{filling_run, run_grows}
 
 -- ---- no point fails
 
@@ -58,28 +54,9 @@ points_hold A F ps under h = none_first (point_fails F) ps (all_map (HoldsIfKnow
 
 -- ---- what is printed has its value in the filling
 
--- a step takes no value away
-pub given_grows : (K : Partial) (n : ℕ) (v : Value) → value_at K n ≡ None → HasEach K (give K n v)
-given_grows K n v none = λ k u e. value_at_other K n k v (λ same. none_some k u same e) ∙ e
-  where
-    none_some : (k : ℕ) (u : Value) → k ≡ n → value_at K k ≡ Some u → ⊥
-    none_some k u same e = let at : value_at K n ≡ Some u = ap (value_at K) (sym same) ∙ e in cc
-
--- nor does a chain, or a second filling
-chain_grows : (m : Model) {K : Partial} {from : ℕ} {F : Partial} → Chain m K from F → HasEach K F
-chain_grows m (Ends h) = λ n v e. e
-chain_grows m (Step {K = K} {n = n} {v = v} s rest) = λ k u e.
-    chain_grows m rest k u (given_grows K n v (only_open_none K n (terms_of s.point) s.gives.only_open) k u e)
-
-pub further_grows : (m : Model) {K G : Partial} → Further m K G → HasEach K G
-further_grows m Stays = λ n v e. e
-further_grows m (Goes {K = K} {n = n} {v = v} k p at gives rest) = λ j u e.
-    further_grows m rest j u (given_grows K n v (only_open_none K n (terms_of (aimed n p)) gives.only_open) j u e)
-
 pub filling_grows : (c : Completion) (m : Model) (block : SolutionBlock) (F : Partial)
     → IsFilling c m block F → HasEach (start m block) F
-filling_grows Off m block F filled = chain_grows m filled
-filling_grows On m block G (F, chain, furthered) = λ n v e. further_grows m furthered.reached n v (chain_grows m chain n v e)
+filling_grows c m block F filled = run_grows c m (filling_run c m block F filled).1
 
 abbrev HasFirst : List (Term × Value) → (Term × Value) → Type 0
 HasFirst qs (Var n, v) = (u : Value) × (first_printed qs n ≡ Some u)

@@ -1,7 +1,7 @@
 -- The filling of a block: the values that follow from the printed ones by forced steps (this
 -- project's profile).
-use Rattle.std.specs.Prelude.{◌≡◌, ℕ, suc, cond, List, [], ◌∷◌, ◌++◌, ◌==◌, Option, Some, None, flat_map, map, slice_get, take, drop}
-use Rattle.std.specs.List.{AllByRecursion, enumerate_from}
+use Rattle.std.specs.Prelude.{◌≡◌, ◌≤◌, ◌<◌, ◌⊎◌, ℕ, suc, cond, List, [], ◌∷◌, ◌==◌, Option, Some, None, flat_map, map, slice_get}
+use Rattle.std.specs.List.{AllByRecursion}
 use Rattle.std.specs.Option.{option_map_or}
 use Rattle.fz_index.specs.of_model.of_base.declared.value.Value.{Value}
 use Rattle.fz_index.specs.of_model.Names.{literal_value}
@@ -50,19 +50,18 @@ start m block = start_from (printed_scalars m block.items) 0 (variables_of m)
 
 -- ---- the chain of the filling
 
--- the points in order from the one with this number on; after the last one come those from the
--- first on
-abbrev pub counted_from : {A : Type 0} → ℕ → List A → List A
-counted_from k ps = drop k ps ++ take k ps
+-- the point with number j is passed on the way from the one with number `from` up to the one with
+-- number k, where after the last one come those from the first on
+abbrev pub IsPassed : ℕ → ℕ → ℕ → Type 0
+IsPassed from k j = ((from ≤ j) × (j < k)) ⊎ ((k < from) × ((from ≤ j) ⊎ (j < k)))
 
 -- The point with number k is the first that gives a step, from the point with number `from` on: the
--- points that are skipped before it give none.
+-- points that are passed before it give none.
 pub record IsFirstStep (m : Model) (K : Partial) (from k n : ℕ) (v : Value) : Type 0 where
   pub point : Point
-  pub skipped : List (ℕ × Point)
-  pub rest : List (ℕ × Point)
-  pub order : counted_from from (enumerate_from 0 (points m)) ≡ skipped ++ (k, point) ∷ rest
-  pub none_skipped : AllByRecursion (λ q. GivesNothing m K q.1) skipped
+  pub at : slice_get (points m) k ≡ Some point
+  pub none_passed : (j : ℕ) (p : Point) → IsPassed from k j → slice_get (points m) j ≡ Some p
+      → GivesNothing m K p
   pub gives : Gives m K point n v
 
 -- The chain from a partial assignment and a point ends at a partial assignment where no point gives
@@ -72,41 +71,36 @@ pub data Chain (m : Model) : Partial → ℕ → Partial → Type 0 where
   Step : {K F : Partial} {from k n : ℕ} {v : Value} → IsFirstStep m K from k n v
       → Chain m (give K n v) k F → Chain m K from F
 
--- the steps of a chain in order: the variable that gets a value, and the number of the point that
--- gives it
-abbrev pub givers : {m : Model} {K F : Partial} {from : ℕ} → Chain m K from F → List (ℕ × ℕ)
-givers (Ends none) = []
-givers (Step {k = k} {n = n} first rest) = (n, k) ∷ givers rest
+-- ---- steps in whatever order, and the second filling, which goes on where the first ended
 
--- ---- the second filling, which goes on where the first ended
+-- The point gives the variable the value: a constraint to its defined variable; or, where values
+-- that the solver left out are looked for, by whichever result its row has.
+abbrev pub IsGivenBy : Completion → Model → Partial → Point → ℕ → Value → Type 0
+IsGivenBy Off m K p n v = Gives m K p n v
+IsGivenBy On m K p n v = GivesAny m K p n v
 
--- The second is reached from the first by steps of points, in whatever order: by whichever result
--- a row has, also where `defines_var` doesn't name it.
-pub data Further (m : Model) : Partial → Partial → Type 0 where
-  Stays : {K : Partial} → Further m K K
-  Goes : {K F : Partial} {n : ℕ} {v : Value} (k : ℕ) (p : Point) → slice_get (points m) k ≡ Some p
-      → GivesAny m K p n v → Further m (give K n v) F → Further m K F
+-- The second is reached from the first by these steps in their order: each has the variable that
+-- gets a value, and the number of the point that gives it.
+pub data Run (c : Completion) (m : Model) : Partial → Partial → List (ℕ × ℕ) → Type 0 where
+  Stays : {K : Partial} → Run c m K K []
+  Goes : {K F : Partial} {n : ℕ} {steps : List (ℕ × ℕ)} (k : ℕ) (v : Value) (p : Point)
+      → slice_get (points m) k ≡ Some p → IsGivenBy c m K p n v → Run c m (give K n v) F steps
+      → Run c m K F ((n, k) ∷ steps)
 
--- the steps in order, each with its variable and the number of its point
-abbrev pub further_givers : {m : Model} {K F : Partial} → Further m K F → List (ℕ × ℕ)
-further_givers Stays = []
-further_givers (Goes {n = n} k p at gives rest) = (n, k) ∷ further_givers rest
-
--- it is reached, and no point gives anything any more
+-- it is reached by whichever results rows have, and no point gives anything any more
 pub record IsFurthered (m : Model) (F G : Partial) : Type 0 where
-  pub reached : Further m F G
+  pub steps : List (ℕ × ℕ)
+  pub reached : Run On m F G steps
   pub none_left : AllByRecursion (GivesNone m G) (points m)
 
 -- ---- the filling of a block
 
--- The partial assignment is the filling of the block: the end of its chain, or the second filling
--- from there on where values that the solver left out are looked for.
-abbrev pub IsFilling : Completion → Model → SolutionBlock → Partial → Type 0
-IsFilling Off m block F = Chain m (start m block) 0 F
-IsFilling On m block G = (F : Partial) × Chain m (start m block) 0 F × IsFurthered m F G
+-- What is reached from a partial assignment: the end of its chain, or the second filling from there
+-- on where values that the solver left out are looked for.
+abbrev pub IsFilledFrom : Completion → Model → Partial → Partial → Type 0
+IsFilledFrom Off m K F = Chain m K 0 F
+IsFilledFrom On m K G = (F : Partial) × Chain m K 0 F × IsFurthered m F G
 
--- the steps from the start to a filling: those of the chain, and those of the second filling behind
-abbrev pub AreSteps : Completion → Model → Partial → Partial → List (ℕ × ℕ) → Type 0
-AreSteps Off m K F steps = (c : Chain m K 0 F) × (steps ≡ givers c)
-AreSteps On m K G steps = (F : Partial) × (c : Chain m K 0 F) × (r : Further m F G)
-    × (steps ≡ givers c ++ further_givers r)
+-- the filling of the block: what is reached from its printed values
+abbrev pub IsFilling : Completion → Model → SolutionBlock → Partial → Type 0
+IsFilling c m block F = IsFilledFrom c m (start m block) F

@@ -1,6 +1,6 @@
 -- What verdicts and reports say about solutions (this project's profile). Each law is the contract
 -- of a public function of this crate.
-use Rattle.std.specs.Prelude.{◌≡◌, ℕ, suc, ◌≤◌, ℤ, List, Option, None, Some, length}
+use Rattle.std.specs.Prelude.{◌≡◌, ◌↔◌, ℕ, suc, ◌≤◌, ℤ, List, Option, None, Some, length}
 use Rattle.std.specs.List.{slice_get}
 use Rattle.fz_index.specs.of_model.Located.{LocatedTree}
 use Rattle.fz_index.specs.of_model.Names.{HasNoFault, model_of}
@@ -8,6 +8,9 @@ use Rattle.fz_index.specs.of_model.Meaning.{Model, Partial, Assignment, objectiv
 use Rattle.fz_index.specs.of_model.Openings.{HasEach}
 use Rattle.fz_index.specs.of_model.States.{IsKnownSolution}
 use Rattle.fz_stream.specs.Parts.{SolutionBlock}
+use Rattle.fz_stream.specs.of_syntax.View.{bare_items}
+use Rattle.fz_stream.specs.of_syntax.declared.Printed.{Printed}
+use Rattle.fz_filling.specs.BlockFaults.{AllFit, items_fault}
 use Rattle.fz_filling.specs.Solutions.{Extends, Improves, HaveSolutions}
 use Rattle.fz_filling.specs.Filling.{IsFilling}
 use Rattle.fz_filling.specs.declared.completion.Completion.{Completion}
@@ -104,6 +107,11 @@ EachSatisfiedHasOne =
     → slice_get blocks i ≡ Some block
     → slice_get verdicts i ≡ Some Satisfied
     → (A : Assignment) × Extends (model_of t) A block × IsSolution (model_of t) A
+
+-- The items of a block fit the model where none has a fault, and only there.
+abbrev pub FitWithoutFault : Type 0
+FitWithoutFault =
+    (m : Model) (items : List Printed) → (items_fault m items ≡ None) ↔ AllFit m (bare_items items)
 
 -- A block has at most one filling where values aren't looked for.
 abbrev pub FillingIsOne : Type 0

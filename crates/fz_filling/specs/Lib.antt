@@ -7,10 +7,7 @@ pub mod Completed
 pub mod Laws
 pub mod BlockFaults
 pub mod Solutions
-pub mod Outlooks
-pub mod Kept
 pub mod Stepping
-pub mod Runs
 pub mod Courses
 pub mod Givers
 pub use Rattle.fz_index.specs.of_model

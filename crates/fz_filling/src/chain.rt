@@ -1,75 +1,55 @@
 //! The chain of a filling: forced steps until no point gives one.
 
-ghost use Rattle.std.specs.Prelude.{IfOk, IfSome, OnOk};
+ghost use Rattle.std.specs.Prelude.{OnOk};
 ghost use Rattle.fz_index.specs.of_model.Meaning.{IsPartial};
+ghost use Rattle.fz_filling.specs.Courses.{AreLone, IsCourse};
 ghost use Rattle.fz_filling.specs.Filling.{Chain};
-ghost use Rattle.fz_filling.specs.Courses.{IsCourse};
-ghost use Rattle.fz_filling.specs.Givers.{AreGivers};
+ghost use Rattle.fz_filling.specs.Givers.{AddsSteps};
 ghost use Rattle.fz_filling.specs.declared.completion.Completion.TheVariants.{Off};
 
 use crate::course::Course;
-use crate::retrace::retrace;
-use crate::steps::{Giver, advance, fill_on};
+use crate::steps::{Steps, fill_along, fill_on};
 use fz_index::{Model, Partial};
 use std::alloc::{AllocError, Global};
 
-/// Takes the steps of the filling before again, and then those that are left.
-fn fill_along(
+/// Takes the steps of points in this order first, and then those that are left. It comes to the
+/// same, where no two points can give the same variable a value.
+fn fill_lone(
     alloc: Global,
     model: &Model<'_>,
     partial: &mut Partial,
-    course: &mut Course,
+    steps: &mut Steps,
+    order: &[usize],
 ) -> Result<(), AllocError>
     requires fits { IsPartial model.now partial.old }
-    requires course { IsCourse model.now course.old }
+    requires lone { AreLone model.now }
     ensures filled { OnOk result (Chain model.now partial.old 0 partial.new) }
+    ensures steps { OnOk result
+        (AddsSteps Off model.now partial.old partial.new steps.old steps.new) }
     ensures kinds { OnOk result (IsPartial model.now partial.new) }
-    ensures course { IsCourse model.now course.new }
 {
-    if course.lone {
-        retrace(alloc, model, partial, &course.trail)?;
-    }
-    fill_on(alloc, model, partial, &mut course.trail)
+    fill_along(alloc, model, partial, steps, order)?;
+    fill_on(alloc, model, partial, steps)
 }
 
 /// Fills in what follows, one forced step after another. Once each variable has a value there is
-/// nothing left to give. What is known of fillings of the same model is made the first time, and
-/// stored for the next. It refuses only where memory runs out.
+/// nothing left to give. It refuses only where memory runs out.
 pub(crate) fn fill_in(
     alloc: Global,
     model: &Model<'_>,
     partial: &mut Partial,
-    known: &mut Option<Course>,
+    steps: &mut Steps,
+    course: &Course,
 ) -> Result<(), AllocError>
     requires fits { IsPartial model.now partial.old }
-    requires course { IfSome known.old (IsCourse model.now) }
+    requires course { IsCourse model.now course.now }
     ensures filled { OnOk result (Chain model.now partial.old 0 partial.new) }
-    ensures kinds { OnOk result (IsPartial model.now partial.new) }
-    ensures course { IfSome known.new (IsCourse model.now) }
-{
-    if let Some(course) = known {
-        return fill_along(alloc, model, partial, course);
-    }
-    let course = known.insert(Course::new(alloc, model)?);
-    fill_along(alloc, model, partial, course)
-}
-
-/// Fills in what follows for one block alone, and tells the steps in their order. It refuses only
-/// where memory runs out.
-pub(crate) fn fill_in_steps(
-    alloc: Global,
-    model: &Model<'_>,
-    partial: &mut Partial,
-) -> Result<Vec<Giver>, AllocError>
-    requires fits { IsPartial model.now partial.old }
-    ensures filled { IfOk result (λ v. AreGivers Off model.now partial.old partial.new v.items) }
+    ensures steps { OnOk result
+        (AddsSteps Off model.now partial.old partial.new steps.old steps.new) }
     ensures kinds { OnOk result (IsPartial model.now partial.new) }
 {
-    let mut givers = Vec::new(alloc);
-    let mut watch = None;
-    let mut from = 0;
-    while let Some(giver) = advance(alloc, model, partial, &mut watch, &mut from)? {
-        givers.push(giver)?;
+    match &course.order {
+        Some(order) => fill_lone(alloc, model, partial, steps, order),
+        None => fill_on(alloc, model, partial, steps),
     }
-    Ok(givers)
 }

@@ -2,28 +2,28 @@
 
 ghost use Rattle.std.specs.Prelude.{◌≡◌, ◌-◌, IfErr, IfOk, IfSome, None, OnOk};
 ghost use Rattle.fz_filling.specs.Courses.{IsCourse};
-ghost use Rattle.fz_filling.specs.Givers.{AreGivers};
+ghost use Rattle.fz_filling.specs.Givers.{AddsSteps, AreGivers};
 ghost use Rattle.fz_index.specs.of_model.Meaning.{IsPartial};
 ghost use Rattle.fz_stream.specs.Found.{EndsWithin, HasPlaces, block_of};
 ghost use Rattle.fz_stream.specs.of_syntax.Places.{IsSpanWithin};
 ghost use Rattle.fz_stream.specs.of_syntax.View.{bare_items};
 ghost use Rattle.fz_filling.specs.BlockFaults.{AllFit, block_fault, moved};
-ghost use Rattle.fz_filling.specs.Filling.{start};
+ghost use Rattle.fz_filling.specs.Filling.{IsFilledFrom, start};
 ghost use Rattle.fz_filling.specs.Verdict.{IsFilled};
 ghost use Rattle.fz_filling.specs.declared.completion.Completion.TheVariants.{Off};
 ghost use Rattle.fz_filling.specs.Judged.{IsBlockRefusal, TellsKind, kind_told};
 ghost use Rattle.fz_filling.specs.Working.{HasRoom, IsPlacedWithin, moved_error};
 
-use crate::chain::{fill_in, fill_in_steps};
+use crate::chain::fill_in;
 use crate::completion::Completion;
 use crate::course::Course;
 use crate::error::BlockError;
 use crate::further::further;
 use crate::start::{nothing_proposed, start};
-use crate::steps::Giver;
+use crate::steps::{Giver, Steps};
 use fz_index::{Model, Partial, Search};
 use fz_stream::{Block, Span};
-use std::alloc::Global;
+use std::alloc::{AllocError, Global};
 
 /// The byte range in the stream of one in a block's text.
 fn moved_span(span: Span, offset: usize) -> Span
@@ -72,8 +72,34 @@ fn started(
     }
 }
 
-/// The filling of a block, with or without values that are looked for, with the propagation order
-/// of those before it, in the memory of a spare filling where there is one.
+/// Fills in what follows from the values so far, with or without values that are looked for, and
+/// tells the steps where steps are told.
+fn fill_by(
+    alloc: Global,
+    model: &Model<'_>,
+    completion: Completion,
+    course: &Course,
+    search: &mut Option<Search>,
+    partial: &mut Partial,
+    steps: &mut Steps,
+) -> Result<(), AllocError>
+    requires fits { IsPartial model.now partial.old }
+    requires course { IsCourse model.now course.now }
+    ensures filled { OnOk result (IsFilledFrom completion model.now partial.old partial.new) }
+    ensures kinds { OnOk result (IsPartial model.now partial.new) }
+    ensures steps { OnOk result
+        (AddsSteps completion model.now partial.old partial.new steps.old steps.new) }
+{
+    fill_in(alloc, model, partial, steps, course)?;
+    match completion {
+        Completion::Off => Ok(()),
+        Completion::On => further(alloc, model, search, partial, steps),
+    }
+}
+
+/// The filling of a block, with or without values that are looked for, in the memory of a spare
+/// filling where there is one. What is known of fillings of the model is made the first time, and
+/// stored for the next.
 pub fn filled(
     alloc: Global,
     model: &Model<'_>,
@@ -94,19 +120,34 @@ pub fn filled(
     ensures course { IfSome course.new (IsCourse model.now) }
 {
     let mut partial = started(alloc, model, block, spare)?;
-    fill_in(alloc, model, &mut partial, course)?;
-    match completion {
-        Completion::Off => Ok(partial),
-        Completion::On => {
-            let mut steps = Vec::new(alloc);
-            further(alloc, model, search, &mut partial, &mut steps)?;
-            Ok(partial)
-        }
+    let mut steps = Steps::for_completion(alloc, completion);
+    if let Some(known) = course {
+        fill_by(
+            alloc,
+            model,
+            completion,
+            known,
+            search,
+            &mut partial,
+            &mut steps,
+        )?;
+        return Ok(partial);
     }
+    let known = course.insert(Course::new(alloc, model)?);
+    fill_by(
+        alloc,
+        model,
+        completion,
+        known,
+        search,
+        &mut partial,
+        &mut steps,
+    )?;
+    Ok(partial)
 }
 
 /// The filling of a block, with or without values that are looked for, and the steps that gave its
-/// values, in their order.
+/// values, in the order in which they were taken.
 ///
 /// # Errors
 ///
@@ -126,20 +167,28 @@ pub fn fill_with_steps(
     ensures refused { IfErr result (λ e. HasPlaces block.now → EndsWithin usize.MAX block.now
         → IsBlockRefusal model.now block.now e) }
 {
+    let course = Course::new(alloc, model)?;
+    let mut steps = Steps {
+        told: Some(Vec::new(alloc)),
+    };
     let mut partial = started(alloc, model, block, None)?;
-    let mut steps = fill_in_steps(alloc, model, &mut partial)?;
-    match completion {
-        Completion::Off => Ok((Box::into_inner(partial), steps)),
-        Completion::On => {
-            further(alloc, model, &mut None, &mut partial, &mut steps)?;
-            Ok((Box::into_inner(partial), steps))
-        }
+    fill_by(
+        alloc,
+        model,
+        completion,
+        &course,
+        &mut None,
+        &mut partial,
+        &mut steps,
+    )?;
+    match steps.told {
+        Some(told) => Ok((Box::into_inner(partial), told)),
+        None => Ok((Box::into_inner(partial), Vec::new(alloc))),
     }
 }
 
 /// The values that follow from the printed ones by forced steps. It goes over the printed items
-/// once, and then over the points, where one is looked at again only as a variable that it waits
-/// for has got a value.
+/// once, and over the points.
 ///
 /// # Errors
 ///

@@ -9,55 +9,28 @@ ghost use Rattle.fz_index.specs.of_model.Aimed.{GivesNone};
 ghost use Rattle.fz_index.specs.of_model.Meaning.{IsPartial, points};
 ghost use Rattle.fz_index.specs.of_model.Partial.{unset_count};
 ghost use Rattle.fz_filling.specs.Givers.{AddsSteps};
-ghost use Rattle.fz_filling.specs.Stepping.{GivesNoneAt};
+ghost use Rattle.fz_filling.specs.declared.completion.Completion.TheVariants.{On};
 
-use crate::steps::Giver;
-use fz_index::{Model, Partial, Place, Search, forced_any, known_of};
+use crate::completion::Completion;
+use crate::steps::{Steps, take_step};
+use fz_index::{Model, Partial, Place, Search, known_of};
 use std::alloc::{AllocError, Global};
-
-/// Takes the step that the point of a number gives, and tells whether there was one.
-fn step(
-    alloc: Global,
-    model: &Model<'_>,
-    partial: &mut Partial,
-    steps: &mut Vec<Giver>,
-    point: usize,
-) -> Result<bool, AllocError>
-    requires fits { IsPartial model.now partial.old }
-    ensures steps { OnOk result
-        (AddsSteps model.now partial.old partial.new steps.old.items steps.new.items) }
-    ensures kinds { OnOk result (IsPartial model.now partial.new) }
-    ensures fewer { IfOk result
-        (λ b. IsTrue b → unset_count partial.new < unset_count partial.old) }
-    ensures none { IfOk result
-        (λ b. b ≡ false → (partial.new ≡ partial.old) × GivesNoneAt model.now partial.new point) }
-{
-    if point >= model.points() {
-        return Ok(false);
-    }
-    let Some((variable, value)) = forced_any(alloc, model, point, partial)? else {
-        return Ok(false);
-    };
-    partial.set(variable, value);
-    steps.push(Giver { variable, point })?;
-    Ok(true)
-}
 
 /// Takes the step of each of these points that gives one.
 fn visit(
     alloc: Global,
     model: &Model<'_>,
     partial: &mut Partial,
-    steps: &mut Vec<Giver>,
+    steps: &mut Steps,
     places: &[Place],
 ) -> Result<(), AllocError>
     requires fits { IsPartial model.now partial.old }
     ensures steps { OnOk result
-        (AddsSteps model.now partial.old partial.new steps.old.items steps.new.items) }
+        (AddsSteps On model.now partial.old partial.new steps.old steps.new) }
     ensures kinds { OnOk result (IsPartial model.now partial.new) }
 {
     for place in places {
-        step(alloc, model, partial, steps, place.point)?;
+        take_step(alloc, model, Completion::On, partial, steps, place.point)?;
     }
     Ok(())
 }
@@ -70,16 +43,16 @@ fn follow(
     model: &Model<'_>,
     search: &Search,
     partial: &mut Partial,
-    steps: &mut Vec<Giver>,
+    steps: &mut Steps,
     first: usize,
 ) -> Result<(), AllocError>
     requires fits { IsPartial model.now partial.old }
     ensures steps { OnOk result
-        (AddsSteps model.now partial.old partial.new steps.old.items steps.new.items) }
+        (AddsSteps On model.now partial.old partial.new steps.old steps.new) }
     ensures kinds { OnOk result (IsPartial model.now partial.new) }
 {
     for number in first..model.variables().len() {
-        let Some(step) = steps.get(number).copied() else {
+        let Some(step) = steps.get(number) else {
             return Ok(());
         };
         visit(
@@ -100,11 +73,11 @@ fn pass(
     model: &Model<'_>,
     search: &Search,
     partial: &mut Partial,
-    steps: &mut Vec<Giver>,
+    steps: &mut Steps,
 ) -> Result<bool, AllocError>
     requires fits { IsPartial model.now partial.old }
     ensures steps { OnOk result
-        (AddsSteps model.now partial.old partial.new steps.old.items steps.new.items) }
+        (AddsSteps On model.now partial.old partial.new steps.old steps.new) }
     ensures kinds { OnOk result (IsPartial model.now partial.new) }
     ensures fewer { IfOk result
         (λ b. IsTrue b → unset_count partial.new < unset_count partial.old) }
@@ -113,8 +86,8 @@ fn pass(
 {
     let mut took = false;
     for point in 0..model.points() {
-        let first = steps.len();
-        if step(alloc, model, partial, steps, point)? {
+        let first = steps.count();
+        if take_step(alloc, model, Completion::On, partial, steps, point)? {
             took = true;
             follow(alloc, model, search, partial, steps, first)?;
         }
@@ -129,11 +102,11 @@ pub(crate) fn further(
     model: &Model<'_>,
     known: &mut Option<Search>,
     partial: &mut Partial,
-    steps: &mut Vec<Giver>,
+    steps: &mut Steps,
 ) -> Result<(), AllocError>
     requires fits { IsPartial model.now partial.old }
     ensures steps { OnOk result
-        (AddsSteps model.now partial.old partial.new steps.old.items steps.new.items) }
+        (AddsSteps On model.now partial.old partial.new steps.old steps.new) }
     ensures kinds { OnOk result (IsPartial model.now partial.new) }
     ensures none_left { OnOk result
         (AllByRecursion (GivesNone model.now partial.new) (points model.now)) }

@@ -11,6 +11,7 @@ ghost use Rattle.fz_filling.specs.Laws.{
   FillingFollows,
   FillingIsOne,
   FillingIsProposed,
+  FitWithoutFault,
   NotBetterHaveNone,
   SatisfiedIsSolved,
   ViolatedHaveNone,
@@ -60,6 +61,11 @@ pub fn each_not_better_has_none()
 /// Each satisfied block of a report has a solution, whether the report is accepted or not.
 pub fn each_satisfied_has_one()
     ensures { EachSatisfiedHasOne }
+{}
+
+/// The items of a block fit the model where none has a fault, and only there.
+pub fn fit_without_fault()
+    ensures { FitWithoutFault }
 {}
 
 /// A block has at most one filling where no values are looked for.

@@ -1,9 +1,9 @@
 //! What the blocks of a stream come to against a model, but for the search for values: the fault of
 //! a block, its filling, and the parts of the verdict on it. The filling is the chain of forced
-//! steps: those of the block before are tried first, where they come to the same in any order; one
-//! search through the points finds the rest. Where values that a solver left out are looked for, a
-//! second filling goes on from there, by whichever result a row has. An internal crate of
-//! `fz_judge`.
+//! steps. Where they come to the same in any order, points are tried behind those that give what
+//! they wait for; one search through the points finds the rest. Where values that a solver left out
+//! are looked for, a second filling goes on from there, by whichever result a row has. An internal
+//! crate of `fz_judge`.
 //!
 //! What a verdict or an accepted stream means for solutions is defined in `specs/`, and told by the
 //! laws in `laws.rt`. Worked cases are in `tests/cases`.
@@ -18,15 +18,12 @@ mod filling;
 mod further;
 mod laws;
 mod lone;
-mod outlook;
 mod points;
 mod printed;
-mod retrace;
 mod start;
 mod steps;
 mod values;
 mod verdict;
-mod watch;
 
 pub use completion::Completion;
 pub use course::Course;
@@ -44,8 +41,8 @@ pub use fz_stream::{
 pub use laws::{
     accepted_are_judged, accepted_have_solutions, completed_keep_verdicts,
     each_not_better_has_none, each_satisfied_has_one, each_violated_has_none, filling_follows,
-    filling_is_one, filling_is_proposed, not_better_have_none, satisfied_is_solved,
-    violated_have_none,
+    filling_is_one, filling_is_proposed, fit_without_fault, not_better_have_none,
+    satisfied_is_solved, violated_have_none,
 };
 pub use points::{fault_named, objective, objective_fails, points_verdict};
 pub use printed::printed_fails;

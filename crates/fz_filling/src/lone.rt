@@ -1,11 +1,10 @@
 //! Whether no two points of a model can give the same variable a value.
 
-ghost use Rattle.std.specs.Prelude.{◌≡◌, ◌<◌, ℕ, IfOk, IsTrue, Some, slice_get, suc};
+ghost use Rattle.std.specs.Prelude.{◌≡◌, ◌<◌, ℕ, IfOk, IfSome, IsTrue, Some, slice_get, suc};
 ghost use Rattle.fz_index.specs.of_model.Shown.{point_view};
-ghost use Rattle.fz_filling.specs.Courses.{AreKept, IsNoted};
-ghost use Rattle.fz_filling.specs.Runs.{AreLone};
+ghost use Rattle.fz_filling.specs.Courses.{AreKept, AreLone, IsNoted};
 
-use fz_index::{Model, PointParts, Term, only_number};
+use fz_index::{Model, PointParts, Term, only_number, order_of};
 use std::alloc::{AllocError, Global};
 
 /// Stores that a point can give a variable a value; `true` where it is the only one so far. The
@@ -62,17 +61,28 @@ fn note_sides(givers: &mut Vec<usize>, own: usize, side: &Term, point: usize) ->
     }
 }
 
-/// Whether no two points of a model can give the same variable a value. It goes over the points
-/// once.
-pub(crate) fn are_lone(alloc: Global, model: &Model<'_>) -> Result<bool, AllocError>
-    ensures { IfOk result (λ b. IsTrue b → AreLone model.now) }
+/// For each variable one more than the number of the point that can give it a value, and 0 where
+/// none can; nothing where two points can give the same variable one. It goes over the points once.
+fn lone_givers(alloc: Global, model: &Model<'_>) -> Result<Option<Vec<usize>>, AllocError>
+    ensures { IfOk result (λ o. IfSome o (λ _. AreLone model.now)) }
 {
     let mut givers = Vec::new(alloc);
     givers.resize(model.variables().len(), 0)?;
     for point in 0..model.points() {
         if !note_all(&mut givers, &model.point_parts(point), point) {
-            return Ok(false);
+            return Ok(None);
         }
     }
-    Ok(true)
+    Ok(Some(givers))
+}
+
+/// The points that can give values, in the order to try them in; nothing where two points can give
+/// the same variable a value, so that the order matters.
+pub(crate) fn lone_order(alloc: Global, model: &Model<'_>) -> Result<Option<Vec<usize>>, AllocError>
+    ensures { IfOk result (λ o. IfSome o (λ _. AreLone model.now)) }
+{
+    match lone_givers(alloc, model)? {
+        Some(givers) => Ok(Some(order_of(alloc, model, givers)?)),
+        None => Ok(None),
+    }
 }

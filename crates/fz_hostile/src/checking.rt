@@ -24,7 +24,7 @@ pub fn make_call(rt: &HostRuntime, call: &str, operands: &[String]) -> Option<()
 
 fn show_lacks_memory(rt: &HostRuntime, call: &str, model: &[u8]) -> bool {
     let shown = match call {
-        "show" => show(rt.alloc(), model, Limits::STANDARD),
+        "show" => show(rt.alloc(), model),
         _ => show_printing_all(rt.alloc(), model, Limits::STANDARD),
     };
     match shown {

@@ -114,7 +114,7 @@ fn tell_verdict(rt: &HostRuntime, judge: &mut Judge<'_, '_>, block: &Block<'_>) 
 
 /// Prints the verdicts of one judge.
 fn tell_verdicts(rt: &HostRuntime, model: &Model<'_>, given: &[Block<'_>]) -> Option<()> {
-    let mut judge = Judge::new(model, Completion::Off);
+    let mut judge = Judge::new(model);
     for block in given {
         tell_verdict(rt, &mut judge, block);
     }

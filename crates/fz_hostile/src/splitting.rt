@@ -6,7 +6,6 @@ ghost use Rattle.fz_stream.specs.declared.splitter.Stage.TheVariants.{Finished};
 use crate::outside::{file, number, tell, tell_error};
 use crate::reading::tell_block;
 use fz_stream::{Part, Splitter, Stream, StreamError, blocks};
-use fz_syntax::Limits;
 
 /// Makes a call on a stream. A splitter is fed the stream in pieces of as many bytes as the second
 /// operand says.
@@ -128,7 +127,7 @@ fn tell_failed(rt: &HostRuntime, splitter: &mut Splitter)
 }
 
 fn split(rt: &HostRuntime, stream: &[u8], piece: usize) {
-    let mut splitter = Splitter::new(rt.alloc(), Limits::STANDARD);
+    let mut splitter = Splitter::new(rt.alloc());
     if !feeds_all(rt, &mut splitter, stream, piece) {
         tell_failed(rt, &mut splitter);
         return;

@@ -1,8 +1,10 @@
 //! Checks over a reader and a writer, either of which may fail.
 
 use crate::outside::{file, number, tell};
-use fz_check::{Answer, CheckError, Claims, Completion, check_stream, check_stream_up_to};
-use fz_syntax::Limits;
+use fz_check::{
+    Answer, CheckError, Completion, Options, TextTaker, check_events, check_stream,
+    check_stream_up_to,
+};
 use std::alloc::Global;
 use std::io::{self, ErrorKind, Read, Stdout, Write};
 
@@ -106,22 +108,27 @@ fn answer(
     bounds: Bounds,
 ) -> Result<Answer, CheckError> {
     let (reader, writer) = (&mut reader, &mut writer);
-    match bounds.most {
-        Some(most) => {
-            let completion = bounds.completion;
-            let claims = Claims::NotJudged;
-            check_stream_up_to(
+    match (bounds.most, bounds.completion) {
+        (Some(most), Completion::Off) => {
+            check_stream_up_to(alloc, model, reader, writer, most as u64)
+        }
+        (Some(most), completion) => {
+            let options = Options {
+                completion,
+                ..Options::STANDARD
+            };
+            let mut taker = TextTaker;
+            check_events(
                 alloc,
                 model,
                 reader,
                 writer,
+                &mut taker,
                 most as u64,
-                completion,
-                claims,
-                Limits::STANDARD,
+                options,
             )
         }
-        None => check_stream(alloc, model, reader, writer),
+        (None, _) => check_stream(alloc, model, reader, writer),
     }
 }
 

@@ -1,6 +1,7 @@
 //! Reading the arguments of a constraint that fits a row.
 
 use fz_model::{Argument, ConstraintParts, Scalar, Scalars, Slot, Value, part, scalar_at};
+use std::slice;
 
 /// The argument at an index as a scalar: the row has one there.
 pub(crate) fn scalar_in<'m>(parts: &ConstraintParts<'m, '_>, index: usize) -> Scalar<'m> {
@@ -21,6 +22,14 @@ pub(crate) fn elements_in<'m>(parts: &ConstraintParts<'m, '_>, index: usize) -> 
             slots: part(&parts.store.slots, *at),
             constants: &parts.store.constants,
         },
+    }
+}
+
+/// The slots of an argument: its only one, or those of a list.
+pub(crate) fn slots_of<'m>(parts: &ConstraintParts<'m, '_>, argument: &'m Argument) -> &'m [Slot] {
+    match argument {
+        Argument::One(slot) => slice::from_ref(slot),
+        Argument::List(at) => part(&parts.store.slots, *at),
     }
 }
 

@@ -1,14 +1,27 @@
 //! The list of a model's points, made in one pass over them.
 
-use crate::arguments::{declared_elements, elements_in, scalar_in};
-use crate::points::Points;
+use crate::arguments::{declared_elements, elements_in, scalar_in, slots_of};
 use crate::relations::{Shape, Terms, shape_of};
-use crate::row::{Claim, Product, Relation, Row, Visit};
+use crate::row::{Product, Relation, Row, Visit};
 use fz_model::{
-    Argument, ConstraintParts, Form, Kind, Model, PointParts, Scalar, Scalars, Slot, Term, part,
-    scalar_at,
+    ConstraintParts, Form, Kind, Model, PointParts, Scalar, Scalars, Slot, Term, scalar_at,
 };
 use std::alloc::{AllocError, Global};
+
+/// The points of a model: the variables of each, how it is visited, and what that costs.
+#[derive(Drop)]
+pub(crate) struct Points {
+    /// where the products of each point end
+    pub(crate) ends: Vec<usize>,
+    /// the variables of each point, each once, the list of one point after that of another
+    pub(crate) products: Vec<Product>,
+    /// how each point is visited
+    pub(crate) visits: Vec<Visit>,
+    /// one more than the number of scalars of each point
+    pub(crate) costs: Vec<usize>,
+    /// the point that is the domain of each variable
+    pub(crate) domains: Vec<usize>,
+}
 
 /// The points of a model.
 pub(crate) fn points_of(alloc: Global, model: &Model<'_>) -> Result<Points, AllocError> {
@@ -16,28 +29,14 @@ pub(crate) fn points_of(alloc: Global, model: &Model<'_>) -> Result<Points, Allo
     for point in 0..model.points() {
         builder.add_point(&model.point_parts(point))?;
     }
-    let Builder {
-        points,
-        last: _,
-        first: _,
-        constant: _,
-        cost: _,
-    } = builder;
+    let Builder { points, .. } = builder;
     Ok(points)
 }
 
 /// Whether the coefficients of a sum are fixed.
 fn has_coefficients(parts: &ConstraintParts<'_, '_>, terms: Terms) -> bool {
-    let coefficients = match terms {
-        Terms::Weighted => elements_in(parts, 0),
-        _ => return true,
-    };
-    for slot in coefficients.slots {
-        if matches!(slot, Slot::Variable(_)) {
-            return false;
-        }
-    }
-    true
+    let mut coefficients = elements_in(parts, 0).slots.iter();
+    !matches!(terms, Terms::Weighted) || coefficients.all(|slot| !matches!(slot, Slot::Variable(_)))
 }
 
 /// The lists of the points so far, and what is needed to add one.
@@ -100,58 +99,43 @@ impl Builder {
 
     fn add_definition(&mut self, kind: Kind, own: usize, side: &Term) -> Result<Visit, AllocError> {
         self.add_variable(own, 1)?;
-        match side {
-            Term::Var(other) => self.add_variable(*other, -1)?,
-            Term::Fixed(_) => return Ok(Visit::Plain),
+        let Term::Var(other) = side else {
+            return Ok(Visit::Plain);
+        };
+        self.add_variable(*other, -1)?;
+        if matches!(kind, Kind::Set) {
+            return Ok(Visit::Plain);
         }
-        match kind {
-            Kind::Set => Ok(Visit::Plain),
-            Kind::Int | Kind::Bool => Ok(Visit::Linear(Row {
-                relation: Relation::Equal(0),
-                claim: Claim::Holds,
-            })),
-        }
+        Ok(Visit::Linear(Row {
+            relation: Relation::Equal(0),
+            truth: None,
+            is_half: false,
+        }))
     }
 
     fn add_constraint(&mut self, parts: &ConstraintParts<'_, '_>) -> Result<Visit, AllocError> {
-        let row = match parts.posted.known {
-            Some(known) => match shape_of(known) {
-                Some(shape) if has_coefficients(parts, shape.terms) => {
-                    self.add_row(parts, shape, known.form)?
-                }
-                Some(_) | None => None,
-            },
-            None => None,
-        };
-        match row {
-            Some(row) => Ok(Visit::Linear(row)),
-            None => {
-                self.add_arguments(parts)?;
-                Ok(Visit::Plain)
-            }
+        if let Some(known) = parts.posted.known
+            && let Some(shape) = shape_of(known)
+            && has_coefficients(parts, shape.terms)
+            && let Some(row) = self.add_row(parts, shape, known.form)?
+        {
+            return Ok(Visit::Linear(row));
         }
+        self.add_arguments(parts)?;
+        Ok(Visit::Plain)
     }
 
     /// Adds all variables of a constraint that is no linear row.
     fn add_arguments(&mut self, parts: &ConstraintParts<'_, '_>) -> Result<(), AllocError> {
         for argument in parts.arguments() {
-            match argument {
-                Argument::One(slot) => self.add_slot(parts, *slot)?,
-                Argument::List(at) => {
-                    for slot in part(&parts.store.slots, *at) {
-                        self.add_slot(parts, *slot)?;
-                    }
+            for slot in slots_of(parts, argument) {
+                for element in declared_elements(parts, *slot).slots {
+                    self.add_scalar(*element)?;
                 }
+                self.add_scalar(*slot)?;
             }
         }
         Ok(())
-    }
-
-    fn add_slot(&mut self, parts: &ConstraintParts<'_, '_>, slot: Slot) -> Result<(), AllocError> {
-        for element in declared_elements(parts, slot).slots {
-            self.add_scalar(*element)?;
-        }
-        self.add_scalar(slot)
     }
 
     /// Adds a scalar that is in no sum.
@@ -163,7 +147,7 @@ impl Builder {
         }
     }
 
-    /// Adds the products of a linear row.
+    /// Adds the products of a linear row, and its Boolean. There is no row where that says nothing.
     fn add_row(
         &mut self,
         parts: &ConstraintParts<'_, '_>,
@@ -171,36 +155,25 @@ impl Builder {
         form: Form,
     ) -> Result<Option<Row>, AllocError> {
         self.add_terms(parts, shape.terms)?;
-        let claim = match shape.truth {
-            Some(index) => self.add_truth(scalar_in(parts, index), form)?,
-            None => Some(Claim::Holds),
-        };
-        let Some(claim) = claim else {
-            return Ok(None);
-        };
-        Ok(Some(Row {
-            relation: shape.relation.without(self.constant),
-            claim,
-        }))
-    }
-
-    /// What the Boolean of a row says of it, where it says anything.
-    fn add_truth(&mut self, truth: Scalar<'_>, form: Form) -> Result<Option<Claim>, AllocError> {
-        match truth {
+        let relation = shape.relation.without(self.constant);
+        let is_half = matches!(form, Form::Implied);
+        let truth = shape
+            .truth
+            .map_or(Scalar::Truth(true), |index| scalar_in(parts, index));
+        let (relation, truth) = match truth {
             Scalar::Variable(number) => {
                 self.add_variable(number, 0)?;
-                match form {
-                    Form::Base | Form::Reified => Ok(Some(Claim::Exactly(number))),
-                    Form::Implied => Ok(Some(Claim::Where(number))),
-                }
+                (relation, Some(number))
             }
-            Scalar::Truth(true) => Ok(Some(Claim::Holds)),
-            Scalar::Truth(false) => match form {
-                Form::Base | Form::Reified => Ok(Some(Claim::Fails)),
-                Form::Implied => Ok(None),
-            },
-            Scalar::Number(_) | Scalar::Set(_) => Ok(None),
-        }
+            Scalar::Truth(true) => (relation, None),
+            Scalar::Truth(false) if !is_half => (relation.negated(), None),
+            Scalar::Truth(_) | Scalar::Number(_) | Scalar::Set(_) => return Ok(None),
+        };
+        Ok(Some(Row {
+            relation,
+            truth,
+            is_half,
+        }))
     }
 
     fn add_terms(
@@ -213,29 +186,21 @@ impl Builder {
                 self.add_weighted(elements_in(parts, 0), elements_in(parts, 1))?;
                 self.add(scalar_in(parts, 2), -1)
             }
-            Terms::Difference => self.add_two(parts, -1),
-            Terms::Pair => self.add_two(parts, 1),
-            Terms::Total => {
-                self.add_two(parts, 1)?;
-                self.add(scalar_in(parts, 2), -1)
+            Terms::Scalars(coefficients) => {
+                for (index, coefficient) in coefficients.iter().enumerate() {
+                    self.add(scalar_in(parts, index), *coefficient)?;
+                }
+                Ok(())
             }
-            Terms::Elements => self.add_elements(elements_in(parts, 0)),
             Terms::Complements => self.add_complements(elements_in(parts, 0)),
             Terms::Clause => {
-                self.add_elements(elements_in(parts, 0))?;
+                let elements = elements_in(parts, 0);
+                for slot in elements.slots {
+                    self.add(scalar_at(elements.constants, *slot), 1)?;
+                }
                 self.add_complements(elements_in(parts, 1))
             }
         }
-    }
-
-    /// Adds the first argument, and the second times this coefficient.
-    fn add_two(
-        &mut self,
-        parts: &ConstraintParts<'_, '_>,
-        coefficient: i64,
-    ) -> Result<(), AllocError> {
-        self.add(scalar_in(parts, 0), 1)?;
-        self.add(scalar_in(parts, 1), coefficient)
     }
 
     fn add_weighted(
@@ -244,19 +209,11 @@ impl Builder {
         scalars: Scalars<'_>,
     ) -> Result<(), AllocError> {
         for index in 0..scalars.len() {
-            let Some(Scalar::Number(coefficient)) = coefficients.get(index) else {
-                continue;
-            };
-            if let Some(scalar) = scalars.get(index) {
+            if let Some(Scalar::Number(coefficient)) = coefficients.get(index)
+                && let Some(scalar) = scalars.get(index)
+            {
                 self.add(scalar, coefficient)?;
             }
-        }
-        Ok(())
-    }
-
-    fn add_elements(&mut self, scalars: Scalars<'_>) -> Result<(), AllocError> {
-        for slot in scalars.slots {
-            self.add(scalar_at(scalars.constants, *slot), 1)?;
         }
         Ok(())
     }
@@ -272,20 +229,15 @@ impl Builder {
     /// Adds a scalar times a coefficient to the sum of the point.
     fn add(&mut self, scalar: Scalar<'_>, coefficient: i64) -> Result<(), AllocError> {
         self.cost = self.cost.saturating_add(1);
-        match scalar {
-            Scalar::Variable(number) => self.add_variable(number, coefficient),
-            Scalar::Number(number) => {
-                let product = i128::from(number).saturating_mul(i128::from(coefficient));
-                self.constant = self.constant.saturating_add(product);
-                Ok(())
-            }
-            Scalar::Truth(truth) => {
-                let product = if truth { i128::from(coefficient) } else { 0 };
-                self.constant = self.constant.saturating_add(product);
-                Ok(())
-            }
-            Scalar::Set(_) => Ok(()),
-        }
+        let number = match scalar {
+            Scalar::Variable(number) => return self.add_variable(number, coefficient),
+            Scalar::Number(number) => number,
+            Scalar::Truth(truth) => i64::from(truth),
+            Scalar::Set(_) => return Ok(()),
+        };
+        let product = i128::from(number).saturating_mul(i128::from(coefficient));
+        self.constant = self.constant.saturating_add(product);
+        Ok(())
     }
 
     /// Adds a variable to the point, or its coefficient to the product that the point has of it.

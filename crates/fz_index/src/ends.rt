@@ -34,21 +34,17 @@ impl Ends {
             End::Low => self.low.checked_add(steps)?,
             End::High => self.high.checked_sub(steps)?,
         };
-        if self.has(number) { Some(number) } else { None }
+        self.has(number).then_some(number)
     }
 
     /// The same without so many numbers from an end on.
     pub fn less(self, from: End, count: i64) -> Ends {
+        let mut left = self;
         match from {
-            End::Low => Ends {
-                low: self.low.saturating_add(count),
-                high: self.high,
-            },
-            End::High => Ends {
-                low: self.low,
-                high: self.high.saturating_sub(count),
-            },
+            End::Low => left.low = left.low.saturating_add(count),
+            End::High => left.high = left.high.saturating_sub(count),
         }
+        left
     }
 
     /// How far apart the ends are.

@@ -1,8 +1,7 @@
 //! What a search knows of a model: which variables are in a point, and in which points a variable
 //! is.
 
-use crate::builder::points_of;
-use crate::points::{Points, items_of};
+use crate::builder::{Points, points_of};
 use crate::row::{Place, Product, Visit};
 use fz_model::Model;
 use std::alloc::{AllocError, Global};
@@ -76,6 +75,31 @@ impl Search {
             size = size.saturating_add(*cost);
         }
         size
+    }
+}
+
+/// What is known of a model, made where it isn't there yet.
+pub fn known_of<'k>(
+    alloc: Global,
+    model: &Model<'_>,
+    known: &'k mut Option<Search>,
+) -> Result<&'k Search, AllocError> {
+    let search = known.get_or_try_insert_with(|| Search::new(alloc, model))?;
+    Ok(search)
+}
+
+/// The list of this number, where all lists are in one, one after another, and `ends` has their
+/// ends.
+fn items_of<'k, T>(items: &'k [T], ends: &[usize], number: usize) -> &'k [T] {
+    let first = match number.checked_sub(1) {
+        Some(before) => ends.get(before).copied().unwrap_or(0),
+        None => 0,
+    };
+    let end = ends.get(number).copied().unwrap_or(0);
+    if first <= end && end <= items.len() {
+        &items[first..end]
+    } else {
+        &[]
     }
 }
 

@@ -8,19 +8,18 @@ use fz_model::{Builtin, Form, Known};
 pub(crate) enum Terms {
     /// the products of the first two arrays, less the third argument
     Weighted,
-    /// the first argument less the second
-    Difference,
-    /// the sum of the first two arguments
-    Pair,
-    /// the sum of the first two arguments, less the third
-    Total,
-    /// the elements of the first array
-    Elements,
+    /// the first arguments, each times its coefficient
+    Scalars(&'static [i64]),
     /// the elements of the first array, each subtracted from 1
     Complements,
-    /// the elements of the first array, and those of the second, each of these subtracted from 1
+    /// the elements of the first array, and those of the second, where the second argument is one,
+    /// each of these subtracted from 1
     Clause,
 }
+
+const DIFFERENCE: Terms = Terms::Scalars(&[1, -1]);
+
+const PAIR: Terms = Terms::Scalars(&[1, 1]);
 
 /// A linear row of a builtin: its sum, what this is compared with, and the index of the Boolean
 /// that says whether the comparison holds.
@@ -31,54 +30,40 @@ pub(crate) struct Shape {
     pub(crate) truth: Option<usize>,
 }
 
-fn plain(terms: Terms, relation: Relation) -> Option<Shape> {
-    Some(Shape {
-        terms,
-        relation,
-        truth: None,
-    })
-}
-
-fn told_at(terms: Terms, relation: Relation, index: usize) -> Option<Shape> {
-    Some(Shape {
-        terms,
-        relation,
-        truth: Some(index),
-    })
-}
-
 /// The linear row of a builtin, where it has one.
 fn base_shape(builtin: Builtin) -> Option<Shape> {
-    match builtin {
-        Builtin::IntLinEq | Builtin::BoolLinEq => plain(Terms::Weighted, Relation::Equal(0)),
-        Builtin::IntLinNe => plain(Terms::Weighted, Relation::Unequal(0)),
-        Builtin::IntLinLe | Builtin::BoolLinLe => plain(Terms::Weighted, Relation::AtMost(0)),
-        Builtin::IntEq | Builtin::BoolEq => plain(Terms::Difference, Relation::Equal(0)),
-        Builtin::Bool2Int => plain(Terms::Difference, Relation::Equal(0)),
-        Builtin::IntNe => plain(Terms::Difference, Relation::Unequal(0)),
-        Builtin::IntLe | Builtin::BoolLe => plain(Terms::Difference, Relation::AtMost(0)),
-        Builtin::IntLt | Builtin::BoolLt => plain(Terms::Difference, Relation::AtMost(-1)),
-        Builtin::IntPlus => plain(Terms::Total, Relation::Equal(0)),
-        Builtin::BoolNot => plain(Terms::Pair, Relation::Equal(1)),
-        Builtin::BoolXor => told_at(Terms::Difference, Relation::Unequal(0), 2),
-        Builtin::BoolAnd => told_at(Terms::Pair, Relation::AtLeast(2), 2),
-        Builtin::BoolOr => told_at(Terms::Pair, Relation::AtLeast(1), 2),
-        Builtin::ArrayBoolAnd => told_at(Terms::Complements, Relation::AtMost(0), 1),
-        Builtin::ArrayBoolOr => told_at(Terms::Elements, Relation::AtLeast(1), 1),
-        Builtin::BoolClause => plain(Terms::Clause, Relation::AtLeast(1)),
-        _ => None,
-    }
+    let (terms, relation, truth) = match builtin {
+        Builtin::IntLinEq | Builtin::BoolLinEq => (Terms::Weighted, Relation::Equal(0), None),
+        Builtin::IntLinNe => (Terms::Weighted, Relation::Unequal(0), None),
+        Builtin::IntLinLe | Builtin::BoolLinLe => (Terms::Weighted, Relation::AtMost(0), None),
+        Builtin::IntEq | Builtin::BoolEq => (DIFFERENCE, Relation::Equal(0), None),
+        Builtin::Bool2Int => (DIFFERENCE, Relation::Equal(0), None),
+        Builtin::IntNe => (DIFFERENCE, Relation::Unequal(0), None),
+        Builtin::IntLe | Builtin::BoolLe => (DIFFERENCE, Relation::AtMost(0), None),
+        Builtin::IntLt | Builtin::BoolLt => (DIFFERENCE, Relation::AtMost(-1), None),
+        Builtin::IntPlus => (Terms::Scalars(&[1, 1, -1]), Relation::Equal(0), None),
+        Builtin::BoolNot => (PAIR, Relation::Equal(1), None),
+        Builtin::BoolXor => (DIFFERENCE, Relation::Unequal(0), Some(2)),
+        Builtin::BoolAnd => (PAIR, Relation::AtLeast(2), Some(2)),
+        Builtin::BoolOr => (PAIR, Relation::AtLeast(1), Some(2)),
+        Builtin::ArrayBoolAnd => (Terms::Complements, Relation::AtMost(0), Some(1)),
+        Builtin::ArrayBoolOr => (Terms::Clause, Relation::AtLeast(1), Some(1)),
+        Builtin::BoolClause => (Terms::Clause, Relation::AtLeast(1), None),
+        _ => return None,
+    };
+    Some(Shape {
+        terms,
+        relation,
+        truth,
+    })
 }
 
 /// The linear row of a constraint, where it has one. The control variable of a reified form is the
 /// last argument.
 pub(crate) fn shape_of(known: Known) -> Option<Shape> {
-    let base = base_shape(known.builtin)?;
-    match known.form {
-        Form::Base => Some(base),
-        Form::Reified | Form::Implied => {
-            let last = known.shapes().len().checked_sub(1)?;
-            told_at(base.terms, base.relation, last)
-        }
+    let mut shape = base_shape(known.builtin)?;
+    if !matches!(known.form, Form::Base) {
+        shape.truth = Some(known.shapes().len().checked_sub(1)?);
     }
+    Some(shape)
 }

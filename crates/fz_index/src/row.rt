@@ -25,22 +25,14 @@ pub enum Relation {
     Unequal(i128),
 }
 
-/// What a constraint says of its relation.
-#[derive(Clone, Copy)]
-pub enum Claim {
-    Holds,
-    Fails,
-    /// that it holds exactly where this variable is true
-    Exactly(usize),
-    /// that it holds where this variable is true
-    Where(usize),
-}
-
-/// What a constraint says of the sum of its products.
+/// What a constraint says of the sum of its products: that it compares so. Where there is a
+/// Boolean it says that where this is true, and else the opposite, or nothing if it is half-reified.
 #[derive(Clone, Copy)]
 pub struct Row {
     pub relation: Relation,
-    pub claim: Claim,
+    /// the variable that is the Boolean
+    pub truth: Option<usize>,
+    pub is_half: bool,
 }
 
 /// The least and the greatest that a sum can be.
@@ -51,21 +43,13 @@ pub struct Sums {
 }
 
 impl Sums {
-    /// These bounds with one more product: of a coefficient and a variable with these bounds.
-    pub fn with(self, coefficient: i64, ends: Ends) -> Sums {
-        let (low, high) = ends.times(coefficient);
+    /// What becomes of these bounds, where those of a variable with a coefficient change.
+    pub fn moved(self, coefficient: i64, before: Ends, now: Ends) -> Sums {
+        let (low, high) = before.times(coefficient);
+        let (least, most) = now.times(coefficient);
         Sums {
-            least: self.least.saturating_add(low),
-            most: self.most.saturating_add(high),
-        }
-    }
-
-    /// These bounds without that product.
-    pub fn without(self, coefficient: i64, ends: Ends) -> Sums {
-        let (low, high) = ends.times(coefficient);
-        Sums {
-            least: self.least.saturating_sub(low),
-            most: self.most.saturating_sub(high),
+            least: self.least.saturating_sub(low).saturating_add(least),
+            most: self.most.saturating_sub(high).saturating_add(most),
         }
     }
 }
@@ -89,42 +73,6 @@ impl Relation {
             Relation::Equal(number) => Relation::Equal(number.saturating_sub(constant)),
             Relation::Unequal(number) => Relation::Unequal(number.saturating_sub(constant)),
         }
-    }
-
-    /// Whether it holds, where the bounds of the sum decide that.
-    pub fn decided(self, sums: Sums) -> Option<bool> {
-        match self {
-            Relation::AtMost(number) => is_at_most(sums, number),
-            Relation::AtLeast(number) => {
-                let below = is_at_most(sums, number.saturating_sub(1))?;
-                Some(!below)
-            }
-            Relation::Equal(number) => is_equal(sums, number),
-            Relation::Unequal(number) => {
-                let equal = is_equal(sums, number)?;
-                Some(!equal)
-            }
-        }
-    }
-}
-
-fn is_at_most(sums: Sums, number: i128) -> Option<bool> {
-    if sums.most <= number {
-        Some(true)
-    } else if sums.least > number {
-        Some(false)
-    } else {
-        None
-    }
-}
-
-fn is_equal(sums: Sums, number: i128) -> Option<bool> {
-    if number < sums.least || sums.most < number {
-        Some(false)
-    } else if sums.least == sums.most {
-        Some(true)
-    } else {
-        None
     }
 }
 

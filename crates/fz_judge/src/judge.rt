@@ -8,7 +8,7 @@ ghost use Rattle.fz_filling.specs.of_syntax.View.{bare_items};
 ghost use Rattle.fz_filling.specs.BlockFaults.{AllFit, block_fault};
 ghost use Rattle.fz_filling.specs.Completed.{IsCompleted};
 ghost use Rattle.fz_filling.specs.Verdict.{IsFilled, objective_fails, verdict};
-ghost use Rattle.fz_filling.specs.declared.completion.Completion.TheVariants.{On};
+ghost use Rattle.fz_filling.specs.declared.completion.Completion.TheVariants.{Off, On};
 ghost use Rattle.fz_filling.specs.Verdict.Verdict.{Undecided};
 ghost use Rattle.fz_filling.specs.Judged.{IsBlockRefusal, IsJudged, IsOfPoint, TellsKind};
 ghost use Rattle.fz_filling.specs.View.{fault_view, reason_view, verdict_view};
@@ -164,8 +164,21 @@ impl<'m, 'a> std::marker::Model for Judge<'m, 'a> {
 }
 
 impl<'m, 'a> Judge<'m, 'a> {
-    /// A judge of a model's blocks, before the first one.
-    pub fn new(model: &'m Model<'a>, completion: Completion) -> Judge<'m, 'a>
+    /// A judge of a model's blocks, before the first one, with completion off.
+    pub fn new(model: &'m Model<'a>) -> Judge<'m, 'a>
+        ensures { result ≡ record {
+          model = model.now;
+          completion = Off;
+          before = None;
+          found = None;
+          refuted = None;
+        } }
+    {
+        Judge::completing(model, Completion::Off)
+    }
+
+    /// A judge that completes blocks in this way, before the first one.
+    pub fn completing(model: &'m Model<'a>, completion: Completion) -> Judge<'m, 'a>
         ensures { result ≡ record {
           model = model.now;
           completion = completion;

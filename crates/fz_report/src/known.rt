@@ -4,24 +4,16 @@ ghost use Rattle.std.specs.Prelude.{◌≡◌, ◌≢◌, IfOk};
 ghost use Rattle.fz_check.specs.declared.claims.Claims.TheVariants.{NotJudged};
 ghost use Rattle.fz_command.specs.declared.words.Judging.TheVariants.{Nothing};
 
-use crate::options::{completion_of, limits_of};
+use crate::options::{limits_of, options_of};
+use crate::reading::{Unread, open_file};
 use fz_check::{
-    BlockError, CheckError, Claims, Known, Listener, MOST_READS, Model, Verdict, block_text, learn,
-    read_model, refusal_text,
+    BlockError, CheckError, Claims, Known, Listener, MOST_READS, Model, Source, Verdict,
+    block_text, learn, read_model, refusal_text,
 };
 use fz_command::{CheckOptions, Judging};
 use fz_files::Recorder;
 use std::alloc::AllocError;
 use std::io::Write;
-use std::{fs, io};
-
-/// The file of a known stream that can't be read, and why.
-#[derive(Drop)]
-pub struct Unlearned<'k> {
-    pub error: CheckError,
-    pub name: &'k str,
-    pub failure: Option<io::Error>,
-}
 
 /// Whether claims are judged, and with what is known by the streams in these files. What refutes
 /// nothing in them is told on standard error.
@@ -30,7 +22,7 @@ pub fn claims_of<'k>(
     options: CheckOptions,
     model: &[u8],
     names: &[&'k str],
-) -> Result<Claims<'k>, Unlearned<'k>>
+) -> Result<Claims<'k>, Unread<'k>>
     ensures unasked { options.judging ≡ Nothing → IfOk result (λ claims. claims ≡ NotJudged) }
     ensures asked { options.judging ≢ Nothing → IfOk result (λ claims. claims ≢ NotJudged) }
 {
@@ -53,14 +45,14 @@ fn known_of<'k>(
     options: CheckOptions,
     model: &[u8],
     names: &[&'k str],
-) -> Result<Known<'k>, Unlearned<'k>> {
+) -> Result<Known<'k>, Unread<'k>> {
     let mut known = Known::nothing();
     if names.is_empty() {
         return Ok(known);
     }
     let model = match read_model(rt.alloc(), model, limits_of(options.size)) {
         Ok(model) => model,
-        Err(CheckError::Memory) => return Err(not_learned(CheckError::Memory, "", None)),
+        Err(CheckError::Memory) => return Err(Unread::new(CheckError::Memory, "", None)),
         // The check refuses it too, and tells why.
         Err(_) => return Ok(known),
     };
@@ -79,26 +71,23 @@ fn learn_file<'k>(
     name: &'k str,
     is_only: bool,
     known: &mut Known<'k>,
-) -> Result<(), Unlearned<'k>> {
-    let file = match fs::open(rt, name) {
-        Ok(file) => file,
-        Err(failure) => return Err(not_learned(CheckError::Read, name, Some(failure))),
-    };
-    let mut reader = Recorder::new(file, None);
+) -> Result<(), Unread<'k>> {
+    let mut reader = Recorder::new(open_file(rt, name)?, None);
     let mut listener = Told { rt, name };
-    let completion = completion_of(options.completes);
-    let bytes = name.as_bytes();
+    let source = Source {
+        file: name.as_bytes(),
+        is_only,
+        block: 0,
+    };
     let outcome = learn(
         rt.alloc(),
         model,
         &mut reader,
         &mut listener,
         MOST_READS,
-        completion,
-        bytes,
-        is_only,
+        source,
         known,
-        limits_of(options.size),
+        options_of(options, Claims::NotJudged),
     );
     match outcome {
         Ok(()) => Ok(()),
@@ -110,15 +99,7 @@ fn learn_file<'k>(
             );
             Ok(())
         }
-        Err(error) => Err(not_learned(error, name, reader.into_failure())),
-    }
-}
-
-fn not_learned(error: CheckError, name: &str, failure: Option<io::Error>) -> Unlearned<'_> {
-    Unlearned {
-        error,
-        name,
-        failure,
+        Err(error) => Err(Unread::new(error, name, reader.into_failure())),
     }
 }
 

@@ -1,7 +1,7 @@
 //! What the words of the command line ask of a check.
 
-use fz_check::{Completion, Limits};
-use fz_command::Size;
+use fz_check::{Claims, Completion, Ending, Limits, Options};
+use fz_command::{CheckOptions, Size};
 
 /// Whether blocks are completed by steps.
 pub fn completion_of(completes: bool) -> Completion {
@@ -17,5 +17,19 @@ pub fn limits_of(size: Size) -> Limits {
     match size {
         Size::Standard => Limits::STANDARD,
         Size::Large => Limits::LARGE,
+    }
+}
+
+/// How a stream is checked, where claims are judged in this way.
+pub fn options_of(asked: CheckOptions, claims: Claims<'_>) -> Options<'_> {
+    Options {
+        completion: completion_of(asked.completes),
+        ending: if asked.cuts {
+            Ending::Cut
+        } else {
+            Ending::Whole
+        },
+        claims,
+        limits: limits_of(asked.size),
     }
 }

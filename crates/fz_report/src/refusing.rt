@@ -4,11 +4,11 @@ ghost use Rattle.std.specs.Prelude.{◌≡◌, ◌⊎◌, Err};
 ghost use Rattle.fz_check.specs.Refusal.{status_of};
 ghost use Rattle.fz_check.specs.declared.error.CheckError.TheVariants.{Memory};
 
+use crate::reading::Unread;
 use fz_check::{CheckError, MOST_READS, refusal_text, status};
 use fz_command::USAGE;
-use fz_files::{ReadError, failure_text};
+use fz_files::failure_text;
 use std::alloc::{AllocError, Global};
-use std::io;
 use std::io::Write;
 
 /// The status where the words of the command line are wrong, or ask for help.
@@ -28,14 +28,6 @@ pub fn refuse_wrong(rt: &HostRuntime, told: &str) -> u8
 {
     let _ = eprintln!(rt; "{USAGE}\n{told}");
     WRONG_WORDS
-}
-
-/// Why a file that can't be read refuses the command.
-pub fn unread(error: ReadError) -> CheckError {
-    match error {
-        ReadError::Failed => CheckError::Read,
-        ReadError::Memory => CheckError::Memory,
-    }
 }
 
 /// Writes the line of a refusal, and gives its status, or that of out of memory.
@@ -60,18 +52,13 @@ pub fn is_told(told: u8, error: &CheckError) -> bool {
 }
 
 /// Refuses for a file that can't be read, and tells which one and why.
-pub fn refuse_file(
-    rt: &HostRuntime,
-    error: &CheckError,
-    name: &str,
-    failure: Option<&io::Error>,
-) -> u8 {
-    let told = refuse(rt, error);
-    if let CheckError::Read = error
-        && is_told(told, error)
-        && let Ok(why) = unread_text(rt.alloc(), name, failure)
+pub fn refuse_file(rt: &HostRuntime, unread: &Unread<'_>) -> u8 {
+    let told = refuse(rt, &unread.error);
+    if let CheckError::Read = unread.error
+        && is_told(told, &unread.error)
+        && let Ok(why) = unread_text(rt.alloc(), unread)
     {
-        let _ = eprintln!(rt; "{name}: {why}");
+        let _ = eprintln!(rt; "{}: {why}", unread.name);
     }
     told
 }
@@ -81,16 +68,12 @@ pub fn refuse_file(
 /// # Errors
 ///
 /// Out of memory.
-pub fn unread_text(
-    alloc: Global,
-    name: &str,
-    failure: Option<&io::Error>,
-) -> Result<String, AllocError> {
-    let Some(failure) = failure else {
+pub fn unread_text(alloc: Global, unread: &Unread<'_>) -> Result<String, AllocError> {
+    let Some(failure) = &unread.failure else {
         return format!(in alloc; "{MOST_READS} reads brought no end");
     };
     let why = failure_text(alloc, failure)?;
-    if name == "-" {
+    if unread.name == "-" {
         return format!(in alloc; "{why} (standard input is read where STREAM is left out)");
     }
     Ok(why)

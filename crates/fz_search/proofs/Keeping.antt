@@ -4,9 +4,8 @@ use Rattle.fz_bounds.specs.of_model.of_base.declared.value.Value.{Value}
 use Rattle.fz_bounds.specs.Bounds.{IsInside, LiesBetween, NumberNeverHolds, Ranges, narrowed}
 use Rattle.fz_bounds.proofs.Giving.{given_there}
 use Rattle.fz_bounds.proofs.Inside.{inside_narrowed}
-use Rattle.fz_bounds.specs.of_model.Meaning.{Assignment, Model, Partial, Point, points, value_at, whole}
-use Rattle.fz_bounds.specs.of_model.Openings.{HasEach}
-use Rattle.fz_bounds.specs.of_model.States.{HoldsIfKnown, IsKnownSolution}
+use Rattle.fz_bounds.specs.of_model.Meaning.{Assignment, Model, Point, points, value_at, whole}
+use Rattle.fz_bounds.specs.of_model.States.{HoldsIfKnown}
 use Rattle.fz_bounds.proofs.of_model.Lists.{at_place, there_is}
 use Rattle.fz_search.specs.Refuted.{HaveNoSolution, KeepSolutions}
 
@@ -54,9 +53,3 @@ lost m B C D n v l h low high copied none taken A solution inside =
     taken A inside (λ there.
     let is : LiesBetween (Some v) (Some v) (value_at (whole A) n) = subst₂ (λ o p. LiesBetween o p (value_at (whole A) n)) (given_there B.lowest n v l low) (given_there B.highest n v h high) (there n) in
     none A solution (inside_narrowed C A n v v (copied A inside) is))
-
--- where all that have some values lie inside
-pub none_with : (m : Model) (F : Partial) (B : Ranges)
-    → ((A : Assignment) → IsKnownSolution m A → HasEach F (whole A) → IsInside B A)
-    → HaveNoSolution m B → (A : Assignment) → IsKnownSolution m A → HasEach F (whole A) → ⊥
-none_with m F B all never A solution has = never A solution (all A solution has)

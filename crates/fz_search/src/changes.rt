@@ -1,24 +1,40 @@
 //! Changes of a search: values that variables get, and bounds that become narrower.
 
-use crate::ends::{admits, number_of, value_of};
-use crate::grounds::Deduction;
+use crate::conflict::Deduction;
 use crate::stop::Stop;
 use crate::work::Work;
-use fz_bounds::{Domain, Ends, Value};
+use fz_bounds::{Domain, Ends, Value, number_as};
 use std::alloc::AllocError;
 
-impl<'k, 'm, 'a> Work<'k, 'm, 'a> {
+/// The number that a value is read as, where it is no set.
+fn number_of(value: &Value) -> Option<i64> {
+    match value {
+        Value::Int(number) => Some(*number),
+        Value::Bool(truth) => Some(i64::from(*truth)),
+        Value::Set(_) => None,
+    }
+}
+
+/// Whether a domain admits a value.
+fn admits(domain: &Domain, value: &Value) -> bool {
+    match (value, domain) {
+        (Value::Bool(_), _) | (_, Domain::All) => true,
+        (Value::Int(number), Domain::Within(low, high)) => *low <= *number && *number <= *high,
+        (Value::Int(number), Domain::Among(numbers)) => numbers.contains(*number),
+        (Value::Set(set), Domain::Within(low, high)) => set.within(*low, *high),
+        (Value::Set(set), Domain::Among(numbers)) => set.is_subset(numbers),
+    }
+}
+
+impl<'m, 'a> Work<'m, 'a> {
     /// Gives a variable a value for a trial, where its domain and bounds admit that, and tells
     /// whether they do.
     pub(crate) fn put(&mut self, variable: usize, value: Value) -> bool {
-        let inside = match number_of(&value) {
-            Some(number) => self.ends_of(variable).has(number),
-            None => true,
-        };
-        let admitted = match self.domain_of(variable) {
-            Some(domain) => admits(domain, &value),
-            None => false,
-        };
+        let ends = self.ends_of(variable);
+        let inside = number_of(&value).map_or(true, |number| ends.has(number));
+        let admitted = self
+            .domain_of(variable)
+            .is_some_and(|domain| admits(domain, &value));
         inside && admitted && self.proposal.give(variable, value)
     }
 
@@ -37,8 +53,8 @@ impl<'k, 'm, 'a> Work<'k, 'm, 'a> {
             }
         }
         for place in self.known.places_of(variable) {
-            if let Some(open) = self.open.get_mut(place.point) {
-                *open = open.saturating_sub(1);
+            if let Some(standing) = self.standings.get_mut(place.point) {
+                standing.open = standing.open.saturating_sub(1);
             }
         }
         self.wake_all(variable)
@@ -91,7 +107,7 @@ impl<'k, 'm, 'a> Work<'k, 'm, 'a> {
     pub(crate) fn narrowed(&mut self, variable: usize, before: Ends) -> Result<(), Stop> {
         let then = self.ends_of(variable);
         if then.low == then.high && !self.proposal.has(variable) {
-            let value = value_of(self.kind_of(variable), then.low);
+            let value = number_as(self.kind_of(variable), then.low);
             self.move_sums(variable, before);
             return self.give(variable, value);
         }
@@ -105,7 +121,7 @@ impl<'k, 'm, 'a> Work<'k, 'm, 'a> {
 
     /// Writes down what the point that is visited leaves to a variable.
     pub(crate) fn note(&mut self, variable: usize, ends: Ends) -> Result<(), AllocError> {
-        self.steps.push(Deduction {
+        self.deductions.push(Deduction {
             point: self.point,
             variable,
             ends,
@@ -117,9 +133,8 @@ impl<'k, 'm, 'a> Work<'k, 'm, 'a> {
     fn move_sums(&mut self, variable: usize, before: Ends) {
         let then = self.ends_of(variable);
         for place in self.known.places_of(variable) {
-            if let Some(sums) = self.sums.get_mut(place.point) {
-                let rest = sums.without(place.coefficient, before);
-                *sums = rest.with(place.coefficient, then);
+            if let Some(standing) = self.standings.get_mut(place.point) {
+                standing.sums = standing.sums.moved(place.coefficient, before, then);
             }
         }
     }

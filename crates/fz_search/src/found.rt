@@ -1,6 +1,16 @@
-//! What a search comes to.
+//! What a search is asked, and what it comes to.
 
-use fz_bounds::{Partial, Refutation};
+use fz_bounds::{Model, Partial, Refutation, Search};
+use std::alloc::Global;
+
+/// What is searched: values for the variables of a model that have none.
+#[derive(Clone, Copy)]
+pub(crate) struct Task<'m, 'a> {
+    pub(crate) alloc: Global,
+    pub(crate) known: &'m Search,
+    pub(crate) model: &'m Model<'a>,
+    pub(crate) filling: &'m Partial,
+}
 
 /// What a search comes to for values that a block leaves out.
 #[derive(Drop)]

@@ -1,16 +1,14 @@
 //! Values that nothing forces.
 
-use crate::ends::value_of;
 use crate::stop::Stop;
-use crate::subsets::{few_members, subset, subsets_of};
+use crate::subsets::{subset, subsets_of};
 use crate::work::Work;
-use fz_bounds::{End, IntSet, Kind, State, Value};
-use std::alloc::AllocError;
+use fz_bounds::{End, Kind, State, Value, number_as};
 
 /// At most this many numbers are tried for one variable.
 const MOST_VALUES: i64 = 1000;
 
-impl<'k, 'm, 'a> Work<'k, 'm, 'a> {
+impl<'m, 'a> Work<'m, 'a> {
     /// Gives a variable the first value with which no point fails in which it is the only variable
     /// without a value.
     pub(crate) fn guess(&mut self, variable: usize, from: End) -> Result<(), Stop> {
@@ -27,7 +25,7 @@ impl<'k, 'm, 'a> Work<'k, 'm, 'a> {
             let Some(number) = ends.counted(from, step) else {
                 return Err(Stop::NothingFound);
             };
-            if self.suits(variable, value_of(kind, number))? {
+            if self.suits(variable, number_as(kind, number))? {
                 return self.keep(variable);
             }
         }
@@ -35,11 +33,9 @@ impl<'k, 'm, 'a> Work<'k, 'm, 'a> {
     }
 
     fn guess_set(&mut self, variable: usize) -> Result<(), Stop> {
-        let Some(domain) = self.domain_of(variable) else {
-            return Err(Stop::NothingFound);
-        };
-        let Some(members) = few_members(self.alloc, domain)? else {
-            return self.guess_no_numbers(variable);
+        let Some(members) = self.few_members(variable)? else {
+            let none = subset(self.alloc, &[], 0)?;
+            return self.give(variable, none);
         };
         for number in 0..subsets_of(&members) {
             let set = subset(self.alloc, &members, number)?;
@@ -48,11 +44,6 @@ impl<'k, 'm, 'a> Work<'k, 'm, 'a> {
             }
         }
         Err(Stop::NothingFound)
-    }
-
-    fn guess_no_numbers(&mut self, variable: usize) -> Result<(), Stop> {
-        let none = IntSet::list(self.alloc, &[]).map_err(|_| AllocError)?;
-        self.give(variable, Value::Set(none))
     }
 
     /// Gives a variable a value, unless a point fails with it, and tells whether it did.
@@ -73,9 +64,7 @@ impl<'k, 'm, 'a> Work<'k, 'm, 'a> {
     /// Whether a point fails under the values so far.
     pub(crate) fn fails(&mut self, point: usize) -> Result<bool, Stop> {
         self.spend(self.known.cost_of(point))?;
-        match self.proposal.state(self.alloc, point)? {
-            State::Fails => Ok(true),
-            State::Holds | State::NoValue | State::Unknown | State::TooLarge => Ok(false),
-        }
+        let state = self.proposal.state(self.alloc, point)?;
+        Ok(matches!(state, State::Fails))
     }
 }

@@ -7,12 +7,9 @@
 //! Its worked cases are in `tests/cases` (`completed.txt`).
 #![tactic(auto)]
 
-mod agenda;
 mod changes;
 mod conflict;
-mod ends;
 mod found;
-mod grounds;
 mod guess;
 mod linear;
 mod lone;
@@ -20,9 +17,9 @@ mod proposal;
 mod refuting;
 mod searching;
 mod shaving;
+mod standing;
 mod stop;
 mod subsets;
-mod tables;
 mod work;
 
 pub use found::Found;

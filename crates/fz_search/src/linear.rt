@@ -2,13 +2,24 @@
 
 use crate::stop::Stop;
 use crate::work::Work;
-use fz_bounds::{Claim, Ends, Product, Relation, Row, Value};
+use fz_bounds::{Ends, Outlook, Product, Range, Relation, Row, Sums, Value};
 
 /// The number in 64 bits, or the nearest.
 fn nearest(number: i128) -> i64 {
-    match i64::try_from(number) {
-        Ok(number) => number,
-        Err(_) => if number < 0 { i64::MIN } else { i64::MAX },
+    i64::try_from(number).unwrap_or(if number < 0 { i64::MIN } else { i64::MAX })
+}
+
+/// What the bounds of a sum say of a relation.
+fn outlook_of(relation: Relation, sums: Sums) -> Outlook {
+    let sum = Range {
+        low: Some(sums.least),
+        high: Some(sums.most),
+    };
+    match relation {
+        Relation::AtMost(number) => sum.at_most(Range::of(number)),
+        Relation::AtLeast(number) => Range::of(number).at_most(sum),
+        Relation::Equal(number) => sum.equal(Range::of(number)),
+        Relation::Unequal(number) => sum.equal(Range::of(number)).negated(),
     }
 }
 
@@ -21,102 +32,75 @@ fn steps_in(slack: i128, coefficient: i64) -> i128 {
 /// The bounds that remain to a variable that may move at most so far from its low end, or from its
 /// high one.
 fn left_of(ends: Ends, steps: i128, from_low: bool) -> Ends {
+    let mut left = ends;
     if from_low {
-        Ends {
-            low: ends.low,
-            high: nearest(i128::from(ends.low).saturating_add(steps)),
-        }
+        left.high = nearest(i128::from(ends.low).saturating_add(steps));
     } else {
-        Ends {
-            low: nearest(i128::from(ends.high).saturating_sub(steps)),
-            high: ends.high,
-        }
+        left.low = nearest(i128::from(ends.high).saturating_sub(steps));
     }
+    left
 }
 
 /// The number whose product is the rest, where there is one.
 fn exact(rest: i128, coefficient: i64) -> Option<i64> {
     let size = i128::from(coefficient);
     let number = i64::try_from(rest.checked_div(size)?).ok()?;
-    if i128::from(number).saturating_mul(size) == rest {
-        Some(number)
-    } else {
-        None
-    }
+    (i128::from(number).saturating_mul(size) == rest).then_some(number)
 }
 
-impl<'k, 'm, 'a> Work<'k, 'm, 'a> {
+impl<'m, 'a> Work<'m, 'a> {
     /// Visits a linear row.
     pub(crate) fn visit_row(&mut self, point: usize, row: Row) -> Result<(), Stop> {
-        match row.claim {
-            Claim::Holds => self.impose(point, row.relation),
-            Claim::Fails => self.impose(point, row.relation.negated()),
-            Claim::Exactly(truth) => match self.truth(truth) {
-                Some(true) => self.impose(point, row.relation),
-                Some(false) => self.impose(point, row.relation.negated()),
-                None => match row.relation.decided(self.sums_of(point)) {
-                    Some(holds) => self.give(truth, Value::Bool(holds)),
-                    None => Ok(()),
-                },
-            },
-            Claim::Where(truth) => match self.truth(truth) {
-                Some(true) => self.impose(point, row.relation),
-                Some(false) => Ok(()),
-                None => match row.relation.decided(self.sums_of(point)) {
-                    Some(false) => self.give(truth, Value::Bool(false)),
-                    Some(true) => Ok(()),
-                    None => Ok(()),
-                },
+        let Some(truth) = row.truth else {
+            return self.impose(point, row.relation);
+        };
+        match self.truth(truth) {
+            Some(true) => self.impose(point, row.relation),
+            Some(false) if row.is_half => Ok(()),
+            Some(false) => self.impose(point, row.relation.negated()),
+            None => match outlook_of(row.relation, self.standing(point).sums) {
+                Outlook::Always if !row.is_half => self.give(truth, Value::Bool(true)),
+                Outlook::Never => self.give(truth, Value::Bool(false)),
+                Outlook::Always | Outlook::Open => Ok(()),
             },
         }
     }
 
     /// The Boolean of a variable, where it has one.
     fn truth(&self, variable: usize) -> Option<bool> {
-        if self.proposal.has(variable) {
-            Some(self.proposal.values().truth(variable))
-        } else {
-            None
-        }
+        let values = self.proposal.values();
+        values.has(variable).then_some(values.truth(variable))
     }
 
     /// Takes from the variables of a point the numbers with which a relation can't hold.
     fn impose(&mut self, point: usize, relation: Relation) -> Result<(), Stop> {
         match relation {
-            Relation::AtMost(number) => self.lower(point, number),
-            Relation::AtLeast(number) => self.raise(point, number),
+            Relation::AtMost(number) => self.hold_all(point, number, true),
+            Relation::AtLeast(number) => self.hold_all(point, number, false),
             Relation::Equal(number) => {
-                self.lower(point, number)?;
-                self.raise(point, number)
+                self.hold_all(point, number, true)?;
+                self.hold_all(point, number, false)
             }
             Relation::Unequal(number) => self.part(point, number),
         }
     }
 
     /// Keeps each product of a point so near its least value that the sum can be at most this
-    /// number.
-    fn lower(&mut self, point: usize, number: i128) -> Result<(), Stop> {
-        let slack = number.saturating_sub(self.sums_of(point).least);
-        self.hold_all(point, slack, true)
-    }
-
-    /// Keeps each product of a point so near its greatest value that the sum can be at least this
-    /// number.
-    fn raise(&mut self, point: usize, number: i128) -> Result<(), Stop> {
-        let slack = self.sums_of(point).most.saturating_sub(number);
-        self.hold_all(point, slack, false)
-    }
-
-    /// Keeps each product of a point within a slack of its least value, or of its greatest. Where
-    /// all but one are known to move no further, only that one is looked at.
-    fn hold_all(&mut self, point: usize, slack: i128, to_least: bool) -> Result<(), Stop> {
+    /// number, or so near its greatest that it can be at least that. Where all but one are known
+    /// to move no further, only that one is looked at.
+    fn hold_all(&mut self, point: usize, number: i128, to_least: bool) -> Result<(), Stop> {
+        let standing = self.standing(point);
+        let slack = if to_least {
+            number.saturating_sub(standing.sums.least)
+        } else {
+            standing.sums.most.saturating_sub(number)
+        };
         if slack < 0 {
             return Err(Stop::Contradiction);
         }
         let products = self.known.products_of(point);
-        let reach = self.reach_of(point);
-        if reach.others <= slack {
-            return match products.get(reach.top) {
+        if standing.others <= slack {
+            return match products.get(standing.top) {
                 Some(product) => self.hold(product, slack, to_least),
                 None => Ok(()),
             };
@@ -127,6 +111,25 @@ impl<'k, 'm, 'a> Work<'k, 'm, 'a> {
         }
         self.measure(point);
         Ok(())
+    }
+
+    /// Measures how far the products of a point can move.
+    fn measure(&mut self, point: usize) {
+        let (mut top, mut furthest, mut others) = (0usize, 0i128, 0i128);
+        for (place, product) in self.known.products_of(point).iter().enumerate() {
+            let here = self.ends_of(product.variable).reach(product.coefficient);
+            if here > furthest {
+                top = place;
+                others = furthest;
+                furthest = here;
+            } else {
+                others = others.max(here);
+            }
+        }
+        if let Some(standing) = self.standings.get_mut(point) {
+            standing.top = top;
+            standing.others = others;
+        }
     }
 
     fn hold(&mut self, product: &Product, slack: i128, to_least: bool) -> Result<(), Stop> {
@@ -153,12 +156,8 @@ impl<'k, 'm, 'a> Work<'k, 'm, 'a> {
         let mut free = None;
         for product in self.known.products_of(point) {
             let ends = self.ends_of(product.variable);
-            if product.coefficient == 0 {
-                continue;
-            }
-            if ends.low == ends.high {
-                let fixed = i128::from(product.coefficient).saturating_mul(i128::from(ends.low));
-                rest = rest.saturating_sub(fixed);
+            if product.coefficient == 0 || ends.low == ends.high {
+                rest = rest.saturating_sub(ends.times(product.coefficient).0);
             } else if free.is_some() {
                 return Ok(());
             } else {
@@ -170,11 +169,8 @@ impl<'k, 'm, 'a> Work<'k, 'm, 'a> {
                 Some(number) => self.cut(product.variable, number),
                 None => Ok(()),
             },
-            None => if rest == 0 {
-                Err(Stop::Contradiction)
-            } else {
-                Ok(())
-            },
+            None if rest == 0 => Err(Stop::Contradiction),
+            None => Ok(()),
         }
     }
 

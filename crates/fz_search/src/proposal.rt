@@ -30,14 +30,6 @@ fn give(model: &Model<'_>, partial: &mut Partial, number: usize, value: Value) -
     true
 }
 
-/// No values, with room for one of each variable.
-fn nothing(alloc: Global, model: &Model<'_>) -> Result<Partial, AllocError>
-    ensures { IfOk result (IsPartial model.now) }
-{
-    let partial = Partial::new(alloc, model)?;
-    Ok(partial)
-}
-
 /// Takes the value of a variable away, where it has one.
 fn take_away(model: &Model<'_>, partial: &mut Partial, number: usize)
     requires fits { IsPartial model.now partial.old }
@@ -54,7 +46,7 @@ pub(crate) fn copied(
 ) -> Result<Partial, AllocError>
     ensures kinds { IfOk result (IsPartial model.now) }
 {
-    let mut partial = nothing(alloc, model)?;
+    let mut partial = Partial::new(alloc, model)?;
     for number in 0..model.variables().len() {
         if let Some(value) = values.get(number) {
             give(model, &mut partial, number, value.copy(alloc)?);

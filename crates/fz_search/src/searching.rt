@@ -1,13 +1,11 @@
 //! The search for values.
 
 ghost use Rattle.std.specs.Prelude.{IfOk, IfSome};
-ghost use Rattle.fz_bounds.specs.of_model.Meaning.{IsPartial};
 ghost use Rattle.fz_search.specs.Found.{IsFoundFor};
 ghost use Rattle.fz_search.specs.Refuted.{HoldAll};
 
-use crate::conflict::Conflict;
-use crate::found::Found;
-use crate::grounds::NO_POINT;
+use crate::conflict::{Conflict, NO_POINT};
+use crate::found::{Found, Task};
 use crate::proposal::copied;
 use crate::refuting::learned;
 use crate::stop::Stop;
@@ -21,29 +19,21 @@ use std::alloc::{AllocError, Global};
 /// At most so many numbers are lost on one way.
 const MOST_LOST: usize = 100;
 
-/// A variable that is to get a small value, or a great one.
+/// The variable of the objective, and the end of its bounds that is the worst value.
 #[derive(Clone, Copy)]
-enum Objective {
-    Least(usize),
-    Greatest(usize),
+struct Objective {
+    variable: usize,
+    worst: End,
 }
 
-/// The variable that is minimized or maximized.
+/// The objective, where it is a variable.
 fn objective_of(goal: &Goal) -> Option<Objective> {
-    match goal {
-        Goal::Satisfy => None,
-        Goal::Minimize(Term::Var(number)) => Some(Objective::Least(*number)),
-        Goal::Maximize(Term::Var(number)) => Some(Objective::Greatest(*number)),
-        Goal::Minimize(Term::Fixed(_)) | Goal::Maximize(Term::Fixed(_)) => None,
-    }
-}
-
-impl Objective {
-    fn variable(self) -> usize {
-        match self {
-            Objective::Least(number) | Objective::Greatest(number) => number,
-        }
-    }
+    let (variable, worst) = match goal {
+        Goal::Minimize(Term::Var(number)) => (*number, End::High),
+        Goal::Maximize(Term::Var(number)) => (*number, End::Low),
+        _ => return None,
+    };
+    Some(Objective { variable, worst })
 }
 
 /// One way through the variables.
@@ -57,38 +47,23 @@ struct Way {
     before: Option<i64>,
 }
 
-/// From which end of its bounds a variable gets its value. An objective gets the worst value that
-/// it can have, which leaves later blocks the most room.
-fn end_for(objective: Option<Objective>, variable: usize, from: End) -> End {
-    match objective {
-        Some(Objective::Least(number)) if number == variable => End::High,
-        Some(Objective::Greatest(number)) if number == variable => End::Low,
-        _ => from,
-    }
-}
-
-impl<'k, 'm, 'a> Work<'k, 'm, 'a> {
+impl<'m, 'a> Work<'m, 'a> {
     /// Asks for an objective that is better than the one before.
     fn improve(&mut self, objective: Option<Objective>, before: Option<i64>) -> Result<(), Stop> {
-        let Some(before) = before else {
+        let (Some(objective), Some(before)) = (objective, before) else {
             return Ok(());
         };
         self.point = NO_POINT;
-        match objective {
-            Some(Objective::Least(number)) => {
-                self.tighten(number, i64::MIN, before.saturating_sub(1))
-            }
-            Some(Objective::Greatest(number)) => {
-                self.tighten(number, before.saturating_add(1), i64::MAX)
-            }
-            None => Ok(()),
+        match objective.worst {
+            End::High => self.tighten(objective.variable, i64::MIN, before.saturating_sub(1)),
+            End::Low => self.tighten(objective.variable, before.saturating_add(1), i64::MAX),
         }
     }
 
     /// Visits points until the agenda is empty.
     fn settle(&mut self) -> Result<(), Stop> {
         for _ in 0..self.budget.steps {
-            let Some(point) = self.agenda.take_first() else {
+            let Some(point) = self.take_first() else {
                 return Ok(());
             };
             self.point = point;
@@ -101,7 +76,8 @@ impl<'k, 'm, 'a> Work<'k, 'm, 'a> {
         Err(Stop::NothingFound)
     }
 
-    /// Gives a variable a value, where it has none.
+    /// Gives a variable a value, where it has none. An objective gets the worst value that it can
+    /// have, which leaves later blocks the most room.
     fn fill(
         &mut self,
         variable: usize,
@@ -111,8 +87,12 @@ impl<'k, 'm, 'a> Work<'k, 'm, 'a> {
         if self.proposal.has(variable) {
             return Ok(());
         }
+        let from = match objective {
+            Some(objective) if objective.variable == variable => objective.worst,
+            Some(_) | None => from,
+        };
         self.point = NO_POINT;
-        self.guess(variable, end_for(objective, variable, from))?;
+        self.guess(variable, from)?;
         self.settle()
     }
 
@@ -174,44 +154,45 @@ impl<'k, 'm, 'a> Work<'k, 'm, 'a> {
     }
 }
 
-/// What is searched: values for the variables that have none.
-#[derive(Clone, Copy)]
-struct Task<'t, 'a> {
-    alloc: Global,
-    known: &'t Search,
-    model: &'t Model<'a>,
-    filling: &'t Partial,
+/// What a search that ended so gives: what was found, or the contradiction that it met, where that
+/// rests on at most one guess. The search is borrowed, so that it is dropped on one way out alone.
+fn outcome(
+    task: &Task<'_, '_>,
+    work: &Work<'_, '_>,
+    end: Result<(), Stop>,
+) -> Result<Result<Found, Conflict>, AllocError>
+    ensures found { IfOk result
+        (λ r. IfOk r (IsFoundFor task.now.model.now task.now.filling.now)) }
+{
+    match end {
+        Ok(()) => {
+            let values = copied(task.alloc, task.model, work.proposal.values())?;
+            Ok(Ok(Found::Values(values)))
+        }
+        Err(Stop::NothingFound) => Ok(Ok(Found::Nothing)),
+        Err(Stop::Memory) => Err(AllocError),
+        Err(Stop::Contradiction) => match work.conflict()? {
+            Some(conflict) => Ok(Err(conflict)),
+            None => Ok(Ok(Found::Nothing)),
+        },
+    }
 }
 
-/// Searches once from these bounds, in one order. It gives what was found, and with it the
-/// contradiction that it met, if any: that may narrow the bounds for another search.
+/// Searches once from these bounds, in one order. A contradiction that it meets may narrow the
+/// bounds for another search.
 fn gone(
     task: &Task<'_, '_>,
     way: Way,
     bounds: &Bounds,
     budget: &mut Budget,
-) -> Result<(Found, Option<Conflict>), AllocError>
-    requires fits { IsPartial task.now.model.now task.now.filling.now }
-    ensures found { IfOk result (λ r. IsFoundFor task.now.model.now task.now.filling.now r.0) }
+) -> Result<Result<Found, Conflict>, AllocError>
+    ensures found { IfOk result
+        (λ r. IfOk r (IsFoundFor task.now.model.now task.now.filling.now)) }
 {
-    let Task {
-        alloc,
-        known,
-        model,
-        filling,
-    } = *task;
-    let mut work = Work::new(alloc, known, model, filling, bounds, *budget)?;
+    let mut work = Work::new(task, bounds, *budget)?;
     let end = work.complete(way);
     *budget = work.budget;
-    match end {
-        Ok(()) => Ok((
-            Found::Values(copied(alloc, model, work.proposal.values())?),
-            None,
-        )),
-        Err(Stop::NothingFound) => Ok((Found::Nothing, None)),
-        Err(Stop::Memory) => Err(AllocError),
-        Err(Stop::Contradiction) => Ok((Found::Nothing, work.conflict()?)),
-    }
+    outcome(task, &work, end)
 }
 
 /// Searches once in this order, and gives what was found. It gives none where the contradiction
@@ -223,23 +204,13 @@ fn attempt(
     taken: &mut Vec<Narrowing>,
     budget: &mut Budget,
 ) -> Result<Option<Found>, AllocError>
-    requires fits { IsPartial task.now.model.now task.now.filling.now }
     requires inside { HoldAll task.now.model.now task.now.filling.now bounds.old }
     ensures found { IfOk result (λ o. IfSome o (IsFoundFor task.now.model.now task.now.filling.now)) }
     ensures inside { IfOk result (λ _. HoldAll task.now.model.now task.now.filling.now bounds.new) }
 {
-    let (found, conflict) = gone(task, way, bounds, budget)?;
-    match conflict {
-        Some(conflict) => {
-            let Task {
-                alloc,
-                known,
-                model,
-                filling,
-            } = *task;
-            learned(alloc, known, model, filling, bounds, taken, &conflict)
-        }
-        None => Ok(Some(found)),
+    match gone(task, way, bounds, budget)? {
+        Ok(found) => Ok(Some(found)),
+        Err(conflict) => learned(task, bounds, taken, &conflict),
     }
 }
 
@@ -251,7 +222,6 @@ fn go(
     bounds: &mut Bounds,
     taken: &mut Vec<Narrowing>,
 ) -> Result<Found, AllocError>
-    requires fits { IsPartial task.now.model.now task.now.filling.now }
     requires inside { HoldAll task.now.model.now task.now.filling.now bounds.old }
     ensures found { IfOk result (IsFoundFor task.now.model.now task.now.filling.now) }
     ensures inside { IfOk result (λ _. HoldAll task.now.model.now task.now.filling.now bounds.new) }
@@ -267,7 +237,6 @@ fn go(
 
 /// Goes one way after another, until something is found.
 fn go_each(task: &Task<'_, '_>, ways: &[Way], bounds: &mut Bounds) -> Result<Found, AllocError>
-    requires fits { IsPartial task.now.model.now task.now.filling.now }
     requires inside { HoldAll task.now.model.now task.now.filling.now bounds.old }
     ensures found { IfOk result (IsFoundFor task.now.model.now task.now.filling.now) }
 {
@@ -283,11 +252,8 @@ fn go_each(task: &Task<'_, '_>, ways: &[Way], bounds: &mut Bounds) -> Result<Fou
 
 /// The variable of the objective, where it has no value.
 fn open_objective(model: &Model<'_>, filling: &Partial) -> Option<usize> {
-    let variable = objective_of(model.goal())?.variable();
-    match filling.get(variable) {
-        Some(_) => None,
-        None => Some(variable),
-    }
+    let variable = objective_of(model.goal())?.variable;
+    (!filling.has(variable)).then_some(variable)
 }
 
 /// Looks for values of the variables that have none. Bounds are narrowed, and each variable that is
@@ -307,7 +273,6 @@ pub fn search(
     before: Option<i64>,
     known: &mut Option<Search>,
 ) -> Result<Found, AllocError>
-    requires fits { IsPartial model.now filling.now }
     ensures found { IfOk result (IsFoundFor model.now filling.now) }
 {
     let known = known_of(alloc, model, known)?;

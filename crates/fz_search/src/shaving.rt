@@ -7,7 +7,7 @@ use fz_bounds::{End, Kind, Tightened};
 /// At most so many stretches of numbers are tried at one end.
 const MOST_STRETCHES: usize = 130;
 
-impl<'k, 'm, 'a> Work<'k, 'm, 'a> {
+impl<'m, 'a> Work<'m, 'a> {
     /// Shaves each variable of a point that has no value.
     pub(crate) fn shave_all(&mut self, point: usize) -> Result<(), Stop> {
         for product in self.known.products_of(point) {

@@ -1,27 +1,30 @@
 //! The subsets of a domain with few numbers.
 
+use crate::work::Work;
 use fz_bounds::{Domain, IntSet, Value};
 use std::alloc::{AllocError, Global};
 
 /// All subsets of at most this many numbers are tried.
 const MOST_MEMBERS: usize = 9;
 
-/// The numbers of a domain, where there are few.
-pub(crate) fn few_members(alloc: Global, domain: &Domain) -> Result<Option<Vec<i64>>, AllocError> {
-    let mut members = Vec::new(alloc);
-    match domain {
-        Domain::All => return Ok(None),
-        Domain::Within(low, high) => add_few(&mut members, *low, *high)?,
-        Domain::Among(numbers) => {
-            for range in numbers.ranges(alloc)? {
-                add_few(&mut members, range.lo, range.hi)?;
+impl<'m, 'a> Work<'m, 'a> {
+    /// The numbers of a variable's domain, where there are few.
+    pub(crate) fn few_members(&self, variable: usize) -> Result<Option<Vec<i64>>, AllocError> {
+        let mut members = Vec::new(self.alloc);
+        match self.domain_of(variable) {
+            Some(Domain::All) | None => return Ok(None),
+            Some(Domain::Within(low, high)) => add_few(&mut members, *low, *high)?,
+            Some(Domain::Among(numbers)) => {
+                for range in numbers.ranges(self.alloc)? {
+                    add_few(&mut members, range.lo, range.hi)?;
+                }
             }
         }
+        if members.len() > MOST_MEMBERS {
+            return Ok(None);
+        }
+        Ok(Some(members))
     }
-    if members.len() > MOST_MEMBERS {
-        return Ok(None);
-    }
-    Ok(Some(members))
 }
 
 /// Adds the numbers from one to another, until there are more than few.

@@ -1,12 +1,13 @@
 //! A search under way: the values and bounds so far, and the points that are to be visited.
 
-use crate::agenda::Agenda;
-use crate::grounds::Deduction;
+use crate::conflict::Deduction;
+use crate::found::Task;
 use crate::proposal::Proposal;
+use crate::standing::{NOTHING, Standing, ends_in, standing_of};
 use crate::stop::Stop;
-use crate::tables::{Reach, all_open, all_sums, ends_in, no_reaches};
-use fz_bounds::{Bounds, Domain, Ends, Kind, Model, Partial, Search, Sums, Visit};
+use fz_bounds::{Bounds, Domain, Ends, Kind, Model, Search, Visit};
 use std::alloc::{AllocError, Global};
+use std::collections::VecDeque;
 
 /// At most this many visits are made for each point of the model. A value that is tried counts as
 /// one.
@@ -46,48 +47,44 @@ fn left_of(number: usize, taken: usize) -> Result<usize, Stop> {
 
 /// A search under way.
 #[derive(Drop)]
-pub(crate) struct Work<'k, 'm, 'a> {
+pub(crate) struct Work<'m, 'a> {
     pub(crate) alloc: Global,
-    pub(crate) known: &'k Search,
+    pub(crate) known: &'m Search,
     pub(crate) proposal: Proposal<'m, 'a>,
     pub(crate) bounds: Bounds,
-    /// how many variables of each point have no value
-    pub(crate) open: Vec<usize>,
-    /// the bounds of the sum of each point
-    pub(crate) sums: Vec<Sums>,
-    /// and how far the products of each point can move
-    reaches: Vec<Reach>,
-    pub(crate) agenda: Agenda,
+    /// what is known of each point
+    pub(crate) standings: Vec<Standing>,
+    /// the points that are to be visited, in the order in which they came
+    agenda: VecDeque<usize>,
     /// the point that is visited
     pub(crate) point: usize,
     /// which bounds have become narrower so far
-    pub(crate) steps: Vec<Deduction>,
+    pub(crate) deductions: Vec<Deduction>,
     pub(crate) budget: Budget,
 }
 
-impl<'k, 'm, 'a> Work<'k, 'm, 'a> {
+impl<'m, 'a> Work<'m, 'a> {
     pub(crate) fn new(
-        alloc: Global,
-        known: &'k Search,
-        model: &'m Model<'a>,
-        filling: &Partial,
+        task: &Task<'m, 'a>,
         bounds: &Bounds,
         budget: Budget,
-    ) -> Result<Work<'k, 'm, 'a>, AllocError> {
-        let proposal = Proposal::new(alloc, model, filling)?;
-        let points = model.points();
+    ) -> Result<Work<'m, 'a>, AllocError> {
+        let alloc = task.alloc;
+        let mut standings = Vec::new(alloc);
+        for point in 0..task.model.points() {
+            let products = task.known.products_of(point);
+            standings.push(standing_of(products, task.filling, bounds))?;
+        }
         Ok(Work {
             alloc,
-            known,
-            open: all_open(alloc, known, points, proposal.values())?,
-            sums: all_sums(alloc, known, points, bounds)?,
-            reaches: no_reaches(alloc, points)?,
-            bounds: bounds.copy(alloc, model)?,
-            agenda: Agenda::new(alloc, points)?,
+            known: task.known,
+            proposal: Proposal::new(alloc, task.model, task.filling)?,
+            bounds: bounds.copy(alloc, task.model)?,
+            standings,
+            agenda: VecDeque::new(alloc),
             point: 0,
-            steps: Vec::new(alloc),
+            deductions: Vec::new(alloc),
             budget,
-            proposal,
         })
     }
 
@@ -119,46 +116,14 @@ impl<'k, 'm, 'a> Work<'k, 'm, 'a> {
         ends_in(&self.bounds, variable)
     }
 
-    /// The bounds of the sum of a point.
-    pub(crate) fn sums_of(&self, point: usize) -> Sums {
-        match self.sums.get(point) {
-            Some(sums) => *sums,
-            None => Sums { least: 0, most: 0 },
-        }
-    }
-
-    /// How far the products of a point can move.
-    pub(crate) fn reach_of(&self, point: usize) -> Reach {
-        match self.reaches.get(point) {
-            Some(reach) => *reach,
-            None => Reach { top: 0, others: 0 },
-        }
-    }
-
-    /// Measures how far the products of a point can move.
-    pub(crate) fn measure(&mut self, point: usize) {
-        let mut reach = Reach { top: 0, others: 0 };
-        let mut furthest = 0i128;
-        for (place, product) in self.known.products_of(point).iter().enumerate() {
-            let here = self.ends_of(product.variable).reach(product.coefficient);
-            if here > furthest {
-                reach = Reach {
-                    top: place,
-                    others: furthest,
-                };
-                furthest = here;
-            } else {
-                reach.others = reach.others.max(here);
-            }
-        }
-        if let Some(there) = self.reaches.get_mut(point) {
-            *there = reach;
-        }
+    /// What is known of a point so far.
+    pub(crate) fn standing(&self, point: usize) -> Standing {
+        self.standings.get(point).copied().unwrap_or(NOTHING)
     }
 
     /// How many variables of a point have no value.
     pub(crate) fn open_in(&self, point: usize) -> usize {
-        self.open.get(point).copied().unwrap_or(0)
+        self.standing(point).open
     }
 
     /// The first variable of a point that has no value.
@@ -171,20 +136,33 @@ impl<'k, 'm, 'a> Work<'k, 'm, 'a> {
         None
     }
 
-    /// Puts a point on the agenda, where a visit may change something. Long points are gone over
-    /// only where one of their variables gets a value.
+    /// Puts a point on the agenda, where it isn't there and a visit may change something. Long
+    /// points are gone over only where one of their variables gets a value.
     pub(crate) fn wake(&mut self, point: usize, valued: bool) -> Result<(), Stop> {
-        let open = self.open_in(point);
         let tells = match self.known.visit_of(point) {
             Visit::Linear(_) => true,
-            Visit::Plain => open <= 1 || self.known.cost_of(point) <= LONG,
+            Visit::Plain => self.open_in(point) <= 1 || self.known.cost_of(point) <= LONG,
         };
-        if tells || valued {
-            self.agenda.add(point)?;
+        if let Some(standing) = self.standings.get_mut(point)
+            && (tells || valued)
+            && !standing.waits
+        {
+            standing.waits = true;
+            self.agenda.push_back(point)?;
         }
         Ok(())
     }
 
+    /// Takes the first point of the agenda.
+    pub(crate) fn take_first(&mut self) -> Option<usize> {
+        let point = self.agenda.pop_front()?;
+        if let Some(standing) = self.standings.get_mut(point) {
+            standing.waits = false;
+        }
+        Some(point)
+    }
+
+    /// Does so with the points that a variable is in.
     pub(crate) fn wake_all(&mut self, variable: usize) -> Result<(), Stop> {
         let places = self.known.places_of(variable);
         let valued = self.proposal.has(variable);

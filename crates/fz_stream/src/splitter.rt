@@ -1,4 +1,5 @@
 ghost use Rattle.std.specs.Prelude.{◌≡◌, ◌≢◌, ℕ, ◌+◌, ◌≤◌, ◌<◌, List, [], ◌∷◌, ◌++◌, ◌↔◌, length, take, Ok, Err, Some, None, IfOk, IfSome, OnOk, OnErr, IfErr, IsTrue, IsSome, option_map};
+ghost use Rattle.fz_syntax.specs.Places.{standard_limits};
 ghost use Rattle.fz_stream.specs.Broken.{BreaksAfter, CannotGoOn, CannotEnd};
 ghost use Rattle.fz_stream.specs.Faults.{IsStreamFault, IsCuttingFault, IsFaultWithin};
 ghost use Rattle.fz_stream.specs.Parts.{lines_of, Frame as PlainFrame, Covers, frame_of};
@@ -63,10 +64,18 @@ impl Splitter {
     ghost use Rattle.fz_stream.specs.declared.splitter.Stage.TheVariants.{Running, Finished, Failed as FailedStage};
     ghost use Rattle.fz_stream.specs.Lending.{plain_frame, part_of, FrameIsShort, FrameEndsWithin, HasPlacesOfItems, PartEndsWithin};
 
+    /// A splitter that has taken nothing, at the standard limits.
+    pub fn new(alloc: Global) -> Splitter
+        ensures fits { Fits result [] [] }
+        ensures limits { result.limits ≡ standard_limits }
+    {
+        Splitter::within(alloc, Limits::STANDARD)
+    }
+
     /// A splitter that has taken nothing. The limits are those of what it holds, and of the items
     /// of a block.
     #[tactic(auto, using(crate::proofs::TakeLemmas::fits_nothing))]
-    pub fn new(alloc: Global, limits: Limits) -> Splitter
+    pub fn within(alloc: Global, limits: Limits) -> Splitter
         ensures fits { Fits result [] [] }
         ensures limits { result.limits ≡ limits }
     {

@@ -3,19 +3,17 @@
 use crate::as_json::refusal_line;
 use crate::explain::explanation;
 use crate::names::check_with_names;
-use crate::read_text;
 use crate::refuse::{Detail, refuse_fault};
-use crate::teller::Teller;
+use crate::teller::{JsonTeller, Teller};
 use fz_explain::{Explainer, Message, NameTable, Text};
 use fz_report::{
-    Answer, CheckError, CheckOptions, Claims, Ending, Explaining, Form, InPlace, MOST_READS,
-    NOTHING, Recent, Recorder, Unlearned, check_events, claims_of, completion_of, find_input,
-    limits_of, refuse, refuse_file, status, unread, unread_line, unread_text,
+    Answer, CheckError, CheckOptions, Claims, Explaining, Form, MOST_READS, NOTHING, Recent,
+    Recorder, Taker, Unread, check_events, claims_of, completion_of, find_input, most_bytes,
+    open_file, options_of, read_whole, refuse, refuse_file, status, unread_line,
 };
-use std::alloc::{AllocError, Global};
+use std::alloc::Global;
 use std::cell::RefCell;
 use std::io::{Read, Write};
-use std::{fs, io};
 
 /// The name of the stream in messages, where it is on standard input.
 const STANDARD_INPUT: &str = "(standard input)";
@@ -30,8 +28,7 @@ pub struct Task<'a> {
     pub options: CheckOptions,
 }
 
-/// Checks the file of a stream, or standard input, against the file of a model. Both are opened
-/// before anything is read.
+/// Checks the file of a stream, or standard input, against the file of a model.
 pub fn check_files<'a>(
     rt: &HostRuntime,
     model: &'a str,
@@ -46,61 +43,55 @@ pub fn check_files<'a>(
         names,
         options,
     };
+    match check_opened(rt, &task, stream, known) {
+        Ok(status) => status,
+        Err(unread) => refuse_reading(rt, &task, &unread),
+    }
+}
+
+/// Opens the files of the model and of the stream, before anything is read, and checks them.
+fn check_opened<'a>(
+    rt: &HostRuntime,
+    task: &Task<'a>,
+    stream: Option<&'a str>,
+    known: &'a [&'a str],
+) -> Result<u8, Unread<'a>> {
     if stream.is_none()
         && let Err(failure) = find_input(rt)
     {
-        return refuse_reading(rt, &task, CheckError::Read, task.stream, Some(&failure));
+        return Err(Unread::new(CheckError::Read, task.stream, Some(failure)));
     }
-    let file = match fs::open(rt, model) {
-        Ok(file) => file,
-        Err(failure) => {
-            return refuse_reading(rt, &task, CheckError::Read, model, Some(&failure));
-        }
-    };
-    if stream.is_none() {
-        return check_readers(rt, &task, known, file, rt.stdin());
-    }
-    match fs::open(rt, task.stream) {
-        Ok(stream) => check_readers(rt, &task, known, file, stream),
-        Err(failure) => refuse_reading(rt, &task, CheckError::Read, task.stream, Some(&failure)),
+    let model = open_file(rt, task.model)?;
+    match stream {
+        Some(name) => check_readers(rt, task, known, model, open_file(rt, name)?),
+        None => check_readers(rt, task, known, model, rt.stdin()),
     }
 }
 
 /// Checks the stream that one reader gives against the model that the other gives. Before each read
 /// of the stream, the lines for what was read so far are written.
-fn check_readers<M: Read + Drop, S: Read + Drop>(
+fn check_readers<'a, M: Read + Drop, S: Read + Drop>(
     rt: &HostRuntime,
-    task: &Task<'_>,
-    known: &[&str],
+    task: &Task<'a>,
+    known: &'a [&'a str],
     model: M,
     stream: S,
-) -> u8 {
-    let mut model = Recorder::new(model, None);
-    match read_text(rt.alloc(), &mut model, limits_of(task.options.size)) {
-        Ok(bytes) => match claims_of(rt, task.options, &bytes, known) {
-            Ok(claims) => check_with_names(rt, task, claims, &bytes, stream),
-            Err(failure) => {
-                let Unlearned {
-                    error,
-                    name,
-                    failure,
-                } = failure;
-                refuse_reading(rt, task, error, name, failure.as_ref())
-            }
-        },
-        Err(error) => refuse_reading(rt, task, unread(error), task.model, model.failure()),
-    }
+) -> Result<u8, Unread<'a>> {
+    let most = most_bytes(task.options.size);
+    let bytes = read_whole(rt.alloc(), model, task.model, most)?;
+    let claims = claims_of(rt, task.options, &bytes, known)?;
+    check_with_names(rt, task, claims, &bytes, stream)
 }
 
 /// Checks the stream against the text of the model, with the table of its names.
-pub fn check_stream<S: Read + Drop>(
+pub fn check_stream<'a, S: Read + Drop>(
     rt: &HostRuntime,
-    task: &Task<'_>,
+    task: &Task<'a>,
     claims: Claims<'_>,
     model: &[u8],
     names: NameTable<'_>,
     stream: S,
-) -> u8 {
+) -> Result<u8, Unread<'a>> {
     let options = task.options;
     let recent = RefCell::new(Recent::new(rt.alloc()));
     let detail = Detail::of(rt, options.explains != Explaining::Nothing);
@@ -108,7 +99,6 @@ pub fn check_stream<S: Read + Drop>(
         (Detail::Nothing, Form::Text) => None,
         _ => Some(&recent),
     };
-    let waiting = RefCell::new(Vec::new(rt.alloc()));
     let mut stream = Recorder::new(stream, stored);
     let text = Text {
         name: task.model,
@@ -116,22 +106,14 @@ pub fn check_stream<S: Read + Drop>(
         passed: NOTHING,
     };
     let explainer = Explainer::new(text, names, completion_of(options.completes));
-    let mut teller = Teller::new(rt, options, explainer, task.stream, &recent, &waiting);
+    let mut teller = Teller::new(rt, options, explainer, task.stream, &recent);
     let outcome = match options.form {
-        Form::Text => {
-            check_to(
-                rt,
-                task,
-                claims,
-                model,
-                &mut stream,
-                &mut rt.stdout(),
-                &mut teller,
-            )
-        }
+        Form::Text => check_to(rt, task, claims, model, &mut stream, &mut teller),
         Form::Json => {
-            let mut out = InPlace::new(rt.stdout(), &waiting);
-            check_to(rt, task, claims, model, &mut stream, &mut out, &mut teller)
+            let mut taker = JsonTeller {
+                teller: &mut teller,
+            };
+            check_to(rt, task, claims, model, &mut stream, &mut taker)
         }
     };
     teller.clear();
@@ -139,72 +121,46 @@ pub fn check_stream<S: Read + Drop>(
         Ok(answer) => {
             teller.tell();
             teller.tell_unconstrained();
-            status(&Ok(answer))
+            Ok(status(&Ok(answer)))
         }
         Err(CheckError::Read) => {
-            refuse_reading(rt, task, CheckError::Read, task.stream, stream.failure())
+            let failure = stream.into_failure();
+            Err(Unread::new(CheckError::Read, task.stream, failure))
         }
-        Err(error) => refuse_check(rt, task, &text, stored, &error, detail),
+        Err(error) => Ok(refuse_check(rt, task, &text, stored, &error, detail)),
     }
 }
 
-/// Checks a stream, and writes the report.
-fn check_to<S: Read, W: Write>(
+/// Checks a stream, and writes the report to standard output.
+fn check_to<S: Read, T: Taker>(
     rt: &HostRuntime,
     task: &Task<'_>,
     claims: Claims<'_>,
     model: &[u8],
     stream: &mut S,
-    out: &mut W,
-    teller: &mut Teller<'_, '_>,
+    taker: &mut T,
 ) -> Result<Answer, CheckError> {
-    let completion = completion_of(task.options.completes);
-    let ending = ending_of(task.options.cuts);
+    let options = options_of(task.options, claims);
+    let mut out = rt.stdout();
     check_events(
         rt.alloc(),
         model,
         stream,
-        out,
-        teller,
+        &mut out,
+        taker,
         MOST_READS,
-        completion,
-        ending,
-        claims,
-        limits_of(task.options.size),
+        options,
     )
 }
 
-fn ending_of(cuts: bool) -> Ending {
-    if cuts { Ending::Cut } else { Ending::Whole }
-}
-
 /// Refuses the check since a file can't be read.
-pub fn refuse_reading(
-    rt: &HostRuntime,
-    task: &Task<'_>,
-    error: CheckError,
-    name: &str,
-    failure: Option<&io::Error>,
-) -> u8 {
+fn refuse_reading(rt: &HostRuntime, task: &Task<'_>, unread: &Unread<'_>) -> u8 {
     if let Form::Json = task.options.form
-        && let Ok(line) = reading_line(rt.alloc(), &error, name, failure)
+        && let Ok(line) = unread_line(rt.alloc(), unread)
     {
         let _ = rt.stdout().write_all(&line);
     }
-    refuse_file(rt, &error, name, failure)
-}
-
-/// The line of JSON of such a refusal.
-fn reading_line(
-    alloc: Global,
-    error: &CheckError,
-    name: &str,
-    failure: Option<&io::Error>,
-) -> Result<Vec<u8>, AllocError> {
-    match error {
-        CheckError::Read => { unread_line(alloc, error, name, &unread_text(alloc, name, failure)?) }
-        _ => refusal_line(alloc, error, None),
-    }
+    refuse_file(rt, unread)
 }
 
 /// Refuses the check. Where its fault is, is told with `--explain`, to a terminal, and in JSON.

@@ -14,23 +14,14 @@ mod teller;
 
 use check::check_files;
 use fz_report::{
-    CheckError, HELP, Limits, ReadError, Refused, Request, VERSION, read_up_to, read_words, refuse,
-    refuse_usage, refuse_wrong,
+    CheckError, HELP, Refused, Request, VERSION, read_words, refuse, refuse_usage, refuse_wrong,
 };
 use show::show_file;
-use std::alloc::Global;
-use std::io::Read;
 use std::process::ExitCode;
 use std::{env, io};
 
 /// The status where a model or the version was shown.
 const SHOWN: u8 = 0;
-
-/// The bytes of a model, or one more than the limits allow where there are more.
-fn read_text<R: Read>(alloc: Global, reader: &mut R, limits: Limits) -> Result<Vec<u8>, ReadError> {
-    let most = u32::try_from(limits.bytes()).unwrap_or(u32::MAX);
-    read_up_to(alloc, reader, most)
-}
 
 fn main(rt: HostRuntime) -> ExitCode {
     ExitCode::from(run(&rt))

@@ -1,11 +1,10 @@
 //! The table of names of a model, in a file.
 
 use crate::as_json::names_line;
-use crate::check::{Task, check_stream, refuse_reading};
+use crate::check::{Task, check_stream};
 use fz_explain::{Message, NameTable, TableError, Text, message_at};
-use fz_report::{CheckError, Claims, Form, NOTHING, Recorder, Span, read_up_to, refuse, unread};
+use fz_report::{CheckError, Claims, Form, NOTHING, Span, Unread, read_file, refuse};
 use std::alloc::{AllocError, Global};
-use std::fs;
 use std::io::{Read, Write};
 
 /// The most bytes of a table of names.
@@ -19,61 +18,38 @@ const COLUMNS: &str = "a line of a table of names has three columns, with a tab 
 
 /// Checks the stream against the text of the model, with the table of its names, where a file of it
 /// is given. That file is opened here.
-pub fn check_with_names<S: Read + Drop>(
+pub fn check_with_names<'a, S: Read + Drop>(
     rt: &HostRuntime,
-    task: &Task<'_>,
+    task: &Task<'a>,
     claims: Claims<'_>,
     model: &[u8],
     stream: S,
-) -> u8 {
+) -> Result<u8, Unread<'a>> {
     let Some(name) = task.names else {
-        return check_stream(
-            rt,
-            task,
-            claims,
-            model,
-            NameTable::empty(rt.alloc()),
-            stream,
-        );
+        let names = NameTable::empty(rt.alloc());
+        return check_stream(rt, task, claims, model, names, stream);
     };
-    let file = match fs::open(rt, name) {
-        Ok(file) => file,
-        Err(failure) => {
-            return refuse_reading(rt, task, CheckError::Read, name, Some(&failure));
-        }
-    };
-    let mut file = Recorder::new(file, None);
-    match read_up_to(rt.alloc(), &mut file, MOST_BYTES) {
-        Ok(bytes) if bytes.len() > MOST_BYTES as usize => refuse_table(rt, task, None, None),
-        Ok(bytes) => check_with_table(rt, task, claims, model, name, &bytes, stream),
-        Err(error) => refuse_reading(rt, task, unread(error), name, file.failure()),
+    let bytes = read_file(rt, name, MOST_BYTES)?;
+    if bytes.len() > MOST_BYTES as usize {
+        return Ok(refuse_table(rt, task, None, None));
+    }
+    match NameTable::read(rt.alloc(), &bytes) {
+        Ok(names) => check_stream(rt, task, claims, model, names, stream),
+        Err(TableError::Memory) => Err(Unread::new(CheckError::Memory, name, None)),
+        Err(TableError::Columns(place)) => Ok(refuse_line(rt, task, name, &bytes, place)),
     }
 }
 
-/// The same with the text of the table.
-fn check_with_table<S: Read + Drop>(
-    rt: &HostRuntime,
-    task: &Task<'_>,
-    claims: Claims<'_>,
-    model: &[u8],
-    name: &str,
-    bytes: &[u8],
-    stream: S,
-) -> u8 {
-    match NameTable::read(rt.alloc(), bytes) {
-        Ok(names) => check_stream(rt, task, claims, model, names, stream),
-        Err(TableError::Memory) => refuse_reading(rt, task, CheckError::Memory, name, None),
-        Err(TableError::Columns(place)) => {
-            let text = Text {
-                name,
-                bytes,
-                passed: NOTHING,
-            };
-            match message_of(rt.alloc(), &text, place) {
-                Ok(message) => refuse_table(rt, task, Some(place), message.as_ref()),
-                Err(_) => refuse(rt, &CheckError::Memory),
-            }
-        }
+/// Refuses the check for a line of the table, with a message on it.
+fn refuse_line(rt: &HostRuntime, task: &Task<'_>, name: &str, bytes: &[u8], place: Span) -> u8 {
+    let text = Text {
+        name,
+        bytes,
+        passed: NOTHING,
+    };
+    match message_of(rt.alloc(), &text, place) {
+        Ok(message) => refuse_table(rt, task, Some(place), message.as_ref()),
+        Err(_) => refuse(rt, &CheckError::Memory),
     }
 }
 

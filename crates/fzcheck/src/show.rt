@@ -1,32 +1,27 @@
 //! The command `show`.
 
+use crate::SHOWN;
 use crate::explain::explanation;
 use crate::refuse::{Detail, refuse_fault};
-use crate::{SHOWN, read_text};
 use fz_explain::Text;
 use fz_report::{
-    CheckError, NOTHING, Printing, Recorder, Size, limits_of, refuse, refuse_file, show,
-    show_printing_all, unread,
+    CheckError, NOTHING, Printing, Size, limits_of, most_bytes, read_file, refuse, refuse_file,
+    show_printing_all, show_with,
 };
+use std::io;
 use std::io::Write;
-use std::{fs, io};
 
 /// Prints the canonical text of the model in a file.
 pub fn show_file(rt: &HostRuntime, name: &str, printing: Printing, size: Size) -> u8 {
-    let file = match fs::open(rt, name) {
-        Ok(file) => file,
-        Err(failure) => return refuse_file(rt, &CheckError::Read, name, Some(&failure)),
-    };
-    let mut reader = Recorder::new(file, None);
-    match read_text(rt.alloc(), &mut reader, limits_of(size)) {
+    match read_file(rt, name, most_bytes(size)) {
         Ok(model) => show_bytes(rt, name, &model, printing, size),
-        Err(error) => refuse_file(rt, &unread(error), name, reader.failure()),
+        Err(unread) => refuse_file(rt, &unread),
     }
 }
 
 fn show_bytes(rt: &HostRuntime, name: &str, model: &[u8], printing: Printing, size: Size) -> u8 {
     let shown = match printing {
-        Printing::AsWritten => show(rt.alloc(), model, limits_of(size)),
+        Printing::AsWritten => show_with(rt.alloc(), model, limits_of(size)),
         Printing::All => show_printing_all(rt.alloc(), model, limits_of(size)),
     };
     match shown {

@@ -1,23 +1,22 @@
 //! Who takes the events of a check: the report is written as text or as JSON, and on the way is
 //! shown how far the check is, and why blocks aren't satisfied.
 
-ghost use Rattle.fz_report.specs.of_check.Report.{event_line};
+ghost use Rattle.std.specs.Prelude.{⊤};
+ghost use Rattle.fz_report.specs.of_check.Report.{by, event_line};
 
 use crate::as_json::{answer_line, explanation_line};
 use fz_explain::{Case, Explainer, Message, Remarks, Text, Unbound};
 use fz_report::{
-    Answer, CheckOptions, Counts, Event, Explaining, Form, Judged, Passed, Progress, Recent,
-    Recorder, Taker, TextTaker, Verdict, Waiting, add_line, block_line, claim_line, cut_line,
-    read_up_to, refuted_line,
+    Answer, CheckOptions, Counts, Event, Explaining, Form, Judged, Passed, Progress, Recent, Taker,
+    TextTaker, Verdict, block_line, claim_line, cut_line, read_file, refuted_line,
 };
 use std::alloc::AllocError;
 use std::cell::RefCell;
-use std::fs;
 
 /// The most bytes of a MiniZinc model of which a line is quoted.
 const MOST_QUOTED: u32 = 16_777_216;
 
-/// Takes the events of a check.
+/// Takes the events of a check whose report is text. Explanations go to standard error.
 #[derive(Drop)]
 pub struct Teller<'r, 'n> {
     rt: &'r HostRuntime,
@@ -26,8 +25,6 @@ pub struct Teller<'r, 'n> {
     /// The name of the stream.
     stream: &'r str,
     recent: &'r RefCell<Recent>,
-    /// The lines of JSON that wait to be written.
-    waiting: &'r Waiting,
     progress: Progress<'r>,
     counts: Counts,
     /// The number and the explanation of the block that the answer so far names.
@@ -44,7 +41,6 @@ impl<'r, 'n> Teller<'r, 'n> {
         explainer: Explainer<'r, 'n>,
         stream: &'r str,
         recent: &'r RefCell<Recent>,
-        waiting: &'r Waiting,
     ) -> Teller<'r, 'n> {
         Teller {
             rt,
@@ -52,7 +48,6 @@ impl<'r, 'n> Teller<'r, 'n> {
             explainer,
             stream,
             recent,
-            waiting,
             progress: Progress::new(rt),
             counts: Counts::new(),
             told: None,
@@ -67,9 +62,12 @@ impl<'r, 'n> Teller<'r, 'n> {
 
     /// Tells why the block isn't satisfied that the answer names, where that wasn't told before.
     pub fn tell(&mut self) {
-        if let Some((number, message)) = self.told.take() {
-            // Without memory for an explanation there is none.
-            let _ = self.tell_message(number, &message);
+        // Without memory for an explanation there is none.
+        if let Some((_, message)) = self.told.take()
+            && let Ok(text) = message.text(self.rt.alloc())
+        {
+            self.progress.clear();
+            let _ = eprint!(self.rt; "{text}");
         }
     }
 
@@ -94,16 +92,17 @@ impl<'r, 'n> Teller<'r, 'n> {
         }
     }
 
-    fn tell_message(&mut self, number: usize, message: &Message) -> Result<(), AllocError> {
-        let alloc = self.rt.alloc();
-        match self.options.form {
-            Form::Text => {
-                let text = message.text(alloc)?;
-                self.progress.clear();
-                let _ = eprint!(self.rt; "{text}");
-                Ok(())
+    /// Hears of an event, before it is written.
+    fn hear(&mut self, event: &Event<'_, '_>) {
+        match event {
+            Event::Block(judged) => {
+                if judged.number == 1 {
+                    self.find_unconstrained(judged);
+                }
+                self.note(judged);
             }
-            Form::Json => add_line(self.waiting, &explanation_line(alloc, number, message)?),
+            Event::Answer(Answer::ClaimRejected(_)) => self.forget(),
+            Event::Answer(_) | Event::Claim(_) | Event::Refuted(_) | Event::Cut(_) => {}
         }
     }
 
@@ -131,13 +130,17 @@ impl<'r, 'n> Teller<'r, 'n> {
         }
     }
 
-    /// Makes the explanation of a block, and tells it where each block's is told. It isn't inlined:
-    /// a function sets room for all that it makes to 0, and a message is large.
+    /// Makes the explanation of a block; none where it is satisfied, or memory runs out. It isn't
+    /// inlined: a function sets room for all that it makes to 0, and a message is large.
     #[inline(never)]
     fn explain(&mut self, judged: &Judged<'_, '_>) {
-        self.told = self.explanation(judged);
-        if let Explaining::All = self.options.explains {
-            self.tell();
+        self.told = None;
+        let alloc = self.rt.alloc();
+        if let Ok(case) = case_of(self.stream, self.recent, judged)
+            && let Ok(Some(mut message)) = self.explainer.explanation(alloc, judged.model, &case)
+        {
+            quote(self.rt, &mut message.remarks);
+            self.told = Some((judged.number, message));
         }
     }
 
@@ -147,32 +150,39 @@ impl<'r, 'n> Teller<'r, 'n> {
         self.told = None;
     }
 
-    /// Why a block isn't satisfied; none where it is, or memory runs out.
-    fn explanation(&mut self, judged: &Judged<'_, '_>) -> Option<(usize, Message)> {
-        let case = case_of(self.stream, self.recent, judged).ok()?;
+    /// The lines of JSON of an event: with that of its explanation for a block, where each block's is
+    /// told, and before the answer for the block that it names.
+    fn lines(&mut self, event: &Event<'_, '_>) -> Result<Vec<u8>, AllocError> {
         let alloc = self.rt.alloc();
-        let mut message = self
-            .explainer
-            .explanation(alloc, judged.model, &case)
-            .ok()??;
-        quote(self.rt, &mut message.remarks);
-        Some((judged.number, message))
+        match event {
+            Event::Block(judged) => {
+                let mut lines = self.block_line(judged)?;
+                if let Explaining::All = self.options.explains {
+                    self.add_explanation(&mut lines);
+                }
+                Ok(lines)
+            }
+            Event::Claim(kind) => claim_line(alloc, *kind, self.counts.blocks()),
+            Event::Refuted(refutation) => refuted_line(alloc, refutation),
+            Event::Cut(span) => cut_line(alloc, *span),
+            Event::Answer(answer) => {
+                let mut lines = Vec::new(alloc);
+                self.add_explanation(&mut lines);
+                let printed = self.unconstrained.as_ref();
+                lines.extend_from_slice(&answer_line(alloc, *answer, self.counts, printed)?)?;
+                Ok(lines)
+            }
+        }
     }
 
-    /// Adds the line of JSON of an event, and of what is told before the answer.
-    fn add(&mut self, event: &Event<'_, '_>) -> Result<(), AllocError> {
-        let alloc = self.rt.alloc();
-        let line = match event {
-            Event::Block(judged) => self.block_line(judged)?,
-            Event::Claim(kind) => claim_line(alloc, *kind, self.counts.blocks())?,
-            Event::Refuted(refutation) => refuted_line(alloc, refutation)?,
-            Event::Cut(span) => cut_line(alloc, *span)?,
-            Event::Answer(answer) => {
-                self.tell();
-                answer_line(alloc, *answer, self.counts, self.unconstrained.as_ref())?
-            }
-        };
-        add_line(self.waiting, &line)
+    /// Adds the line of JSON of the explanation that waits.
+    fn add_explanation(&mut self, lines: &mut Vec<u8>) {
+        // Without memory for an explanation there is none.
+        if let Some((number, message)) = self.told.take()
+            && let Ok(line) = explanation_line(self.rt.alloc(), number, &message)
+        {
+            let _ = lines.extend_from_slice(&line);
+        }
     }
 
     fn block_line(&mut self, judged: &Judged<'_, '_>) -> Result<Vec<u8>, AllocError> {
@@ -219,11 +229,8 @@ fn quote(rt: &HostRuntime, remarks: &mut Remarks) {
     let Some(source) = &remarks.source else {
         return;
     };
-    let Ok(file) = fs::open(rt, &source.file) else {
-        return;
-    };
-    let mut file = Recorder::new(file, None);
-    if let Ok(text) = read_up_to(rt.alloc(), &mut file, MOST_QUOTED)
+    let text = read_file(rt, &source.file, MOST_QUOTED).ok();
+    if let Some(text) = text
         && text.len() <= MOST_QUOTED as usize
     {
         // Without memory for it there is no quote.
@@ -232,24 +239,29 @@ fn quote(rt: &HostRuntime, remarks: &mut Remarks) {
 }
 
 impl Taker for Teller<'_, '_> {
-    ghost text = { event_line };
+    ghost text = { by event_line };
 
     fn take(&mut self, event: &Event<'_, '_>, line: &mut Vec<u8>) -> Result<(), AllocError> {
         TextTaker.take(event, line)?;
-        if let Event::Answer(Answer::ClaimRejected(_)) = event {
-            self.forget();
-        }
-        if let Event::Block(judged) = event
-            && judged.number == 1
-        {
-            self.find_unconstrained(judged);
-        }
-        if let Form::Json = self.options.form {
-            self.add(event)?;
-        }
-        if let Event::Block(judged) = event {
-            self.note(judged);
+        self.hear(event);
+        if let Explaining::All = self.options.explains {
+            self.tell();
         }
         Ok(())
+    }
+}
+
+/// Takes the events of a check whose report is JSON, explanations included.
+#[derive(Drop)]
+pub struct JsonTeller<'t, 'r, 'n> {
+    pub teller: &'t mut Teller<'r, 'n>,
+}
+
+impl Taker for JsonTeller<'_, '_, '_> {
+    ghost text = { λ _ _. ⊤ };
+
+    fn take(&mut self, event: &Event<'_, '_>, line: &mut Vec<u8>) -> Result<(), AllocError> {
+        self.teller.hear(event);
+        line.extend_from_slice(&self.teller.lines(event)?)
     }
 }

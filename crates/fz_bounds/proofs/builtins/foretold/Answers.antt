@@ -257,13 +257,13 @@ pub returns-in-ArrayIntMaximum : goal.returns-in-ArrayIntMaximum
 unfolding row_at
 returns-in-ArrayIntMaximum c = at_row c.args.at.now c.args.builtin builtin.ArrayIntMaximum c.and-in-ArrayIntMaximum.result c.in-ArrayIntMaximum.is (λ K h.
     let xs = given c.args.at.now in
-    c.and-in-ArrayIntMaximum.ensures (is_among (int_at K xs 0) (ints_at K xs 1)) (list_all (λ x. int_le x (int_at K xs 0)) (ints_at K xs 1)) (c.is_among.ensures K (record { low = h.low.1.0; high = h.high.1.0 }) (int_at K xs 0) (c.number-in-ArrayIntMaximum.ensures K (record { low = h.low.0; high = h.high.0 }))) (c.all_at_most.ensures K (record { low = h.low.0; high = h.high.0 }) (record { low = h.low.1.0; high = h.high.1.0 })))
+    c.and-in-ArrayIntMaximum.ensures (is_among (int_at K xs 0) (ints_at K xs 1)) (list_all (λ x. int_le x (int_at K xs 0)) (ints_at K xs 1)) (c.is_among.ensures K (record { low = h.low.1.0; high = h.high.1.0 }) (int_at K xs 0) (c.number-in-ArrayIntMaximum.ensures K (record { low = h.low.0; high = h.high.0 }))) (c.all_are.ensures K (record { low = h.low.0; high = h.high.0 }) (record { low = h.low.1.0; high = h.high.1.0 })))
 
 pub returns-in-ArrayIntMinimum : goal.returns-in-ArrayIntMinimum
 unfolding row_at
 returns-in-ArrayIntMinimum c = at_row c.args.at.now c.args.builtin builtin.ArrayIntMinimum c.and-in-ArrayIntMinimum.result c.in-ArrayIntMinimum.is (λ K h.
     let xs = given c.args.at.now in
-    c.and-in-ArrayIntMinimum.ensures (is_among (int_at K xs 0) (ints_at K xs 1)) (list_all (λ x. int_le (int_at K xs 0) x) (ints_at K xs 1)) (c.is_among-in-ArrayIntMinimum.ensures K (record { low = h.low.1.0; high = h.high.1.0 }) (int_at K xs 0) (c.number-in-ArrayIntMinimum.ensures K (record { low = h.low.0; high = h.high.0 }))) (c.all_at_least.ensures K (record { low = h.low.0; high = h.high.0 }) (record { low = h.low.1.0; high = h.high.1.0 })))
+    c.and-in-ArrayIntMinimum.ensures (is_among (int_at K xs 0) (ints_at K xs 1)) (list_all (λ x. int_le (int_at K xs 0) x) (ints_at K xs 1)) (c.is_among-in-ArrayIntMinimum.ensures K (record { low = h.low.1.0; high = h.high.1.0 }) (int_at K xs 0) (c.number-in-ArrayIntMinimum.ensures K (record { low = h.low.0; high = h.high.0 }))) (c.all_are-in-ArrayIntMinimum.ensures K (record { low = h.low.0; high = h.high.0 }) (record { low = h.low.1.0; high = h.high.1.0 })))
 
 pub returns-in-FznAllDifferentInt : goal.returns-in-FznAllDifferentInt
 unfolding row_at

@@ -1,5 +1,5 @@
-use Rattle.fz_check.proofs.PassingLemmas.{JudgedSoFar}
+use Rattle.fz_check.proofs.CheckingLemmas.{JudgedSoFar}
 use Rattle.fz_check.proofs.checking.judge_blocks.Given as goal
 
-abbrev pub invariant-loop-place : goal.invariant-loop-place
-invariant-loop-place l = JudgedSoFar l.model l.blocks l.claims l.place l.jury l.entries.items l.rest
+abbrev pub invariant-loop-block : goal.invariant-loop-block
+invariant-loop-block l = JudgedSoFar l.model l.blocks l.block-index l.jury l.verdicts.items

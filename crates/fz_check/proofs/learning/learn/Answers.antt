@@ -4,7 +4,7 @@ use Rattle.fz_check.proofs.LearningLemmas.{knows_next, listening_first, listenin
 use Rattle.fz_check.proofs.learning.learn.Goals as goal
 
 pub loop-parts-init : goal.loop-parts-init
-loop-parts-init g c = listening_first c.new-parts.result _ c.args.model.now c.args.completion c.new-judge.result c.args.reads c.args.known.now c.new-parts.ensures.nothing c.new-parts.ensures.pieces c.new-judge.ensures
+loop-parts-init g c = listening_first c.new-parts.result _ c.args.model.now c.args.options.completion c.completing-judge.result c.args.reads c.args.known.now c.new-parts.ensures.nothing c.new-parts.ensures.pieces c.completing-judge.ensures
 
 pub loop-parts-smaller-in-Ok : goal.loop-parts-smaller-in-Ok
 loop-parts-smaller-in-Ok g c =

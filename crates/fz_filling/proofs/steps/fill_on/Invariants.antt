@@ -1,13 +1,18 @@
+use Rattle.std.proofs.Common.{◌≤◌, length}
+use Rattle.fz_index.specs.of_model.Meaning.{IsPartial, Partial, points}
 use Rattle.fz_index.specs.of_model.Partial.{unset_count}
-use Rattle.fz_filling.specs.Stepping.{IsUnderWay}
-use Rattle.fz_filling.proofs.Stepping.{Reaches}
+use Rattle.fz_filling.specs.Filling.{Chain}
+use Rattle.fz_filling.specs.Givers.{AddsSteps}
+use Rattle.fz_filling.specs.declared.completion.Completion.TheVariants.{Off}
 use Rattle.fz_filling.proofs.steps.fill_on.Given as goal
 
-abbrev pub invariant-loop-watch : goal.invariant-loop-watch
-invariant-loop-watch l = record {
-  reaches : Reaches l.model l.fn.partial l.partial l.from;
-  under_way : IsUnderWay l.model l.partial l.watch l.from;
+abbrev pub invariant-loop-step : goal.invariant-loop-step
+invariant-loop-step l = record {
+  reaches : (F : Partial) → Chain l.model l.partial l.from F → Chain l.model l.fn.partial 0 F;
+  steps : AddsSteps Off l.model l.fn.partial l.partial l.fn.steps l.steps;
+  fits : IsPartial l.model l.partial;
+  in_range : l.from ≤ length (points l.model);
 }
 
-abbrev pub decreases-loop-watch : goal.decreases-loop-watch
-decreases-loop-watch l = unset_count l.partial
+abbrev pub decreases-loop-step : goal.decreases-loop-step
+decreases-loop-step l = unset_count l.partial

@@ -1,0 +1,12 @@
+use Rattle.std.proofs.Common.{◌≡◌, ◌<◌, ℕ, ℤ, Some, false, slice_get}
+use Rattle.fz_index.specs.of_model.Meaning.{Partial}
+use Rattle.fz_index.specs.of_model.Relations.{◌=ℤ◌}
+use Rattle.fz_index.specs.of_model.of_builtins.of_kernel.Given.{ints_at}
+use Rattle.fz_bounds.specs.Decided.{LiesIn}
+use Rattle.fz_bounds.specs.Within.{NumbersLie, given}
+use Rattle.fz_bounds.proofs.bounded.BoundedConstraint.is_among.Given as goal
+
+abbrev pub invariant-loop-place : goal.invariant-loop-place
+invariant-loop-place l = (K : Partial) → NumbersLie l.self l.array K → (v : ℤ) → LiesIn l.wanted v
+    → (i : ℕ) → i < l.place → (n : ℤ) → slice_get (ints_at K (given l.self) l.array) i ≡ Some n
+    → (n =ℤ v) ≡ false

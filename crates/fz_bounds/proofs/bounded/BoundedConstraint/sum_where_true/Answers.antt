@@ -1,0 +1,38 @@
+use Rattle.std.proofs.Common.{◌≡◌, ◌<◌, ◌+◌, ◌*ℤ◌, ◌∙◌, [], ap, drop, length, FitsSigned, of_z, subst, sym, to_z, w64, arith, rules}
+use Rattle.std.proofs.lemmas.Int.{to_z-of_z}
+use Rattle.fz_index.specs.of_model.Relations.{as_number, total, where_true}
+use Rattle.fz_index.specs.of_model.of_builtins.of_kernel.Given.{bools_at, ints_at, slots_at}
+use Rattle.fz_index.proofs.of_model.of_builtins.of_kernel.Added.{none_true_left}
+use Rattle.fz_index.proofs.of_model.of_builtins.of_kernel.Left.{one_ends}
+use Rattle.fz_bounds.specs.Decided.{LiesIn}
+use Rattle.fz_bounds.specs.Within.{given}
+use Rattle.fz_bounds.proofs.Added.{all_so_far, next_counted, none_so_far, one_more}
+use Rattle.fz_bounds.proofs.Lists.{truth_there, is_there, numbers_counted, truths_counted}
+use Rattle.fz_bounds.proofs.bounded.BoundedConstraint.sum_where_true.Goals as goal
+
+pub loop-place-init : goal.loop-place-init
+loop-place-init c = λ K f g. none_so_far (total (where_true (ints_at K (given c.args.self.now) 0) (bools_at K (given c.args.self.now) 1))) c.of-sum.result c.of-sum.ensures
+
+pub loop-place-preserved : goal.loop-place-preserved
+loop-place-preserved c = λ K f g.
+    let xs = given c.args.self.now in
+    let i = c.loop-place.place in
+    let first : i < length (slots_at xs 0) = omega arith in
+    let second : i < length (slots_at xs 1) = omega arith in
+    let (a, at_a) = is_there K xs 0 i first in
+    let (b, at_b) = truth_there K xs 1 i second in
+    let fits : FitsSigned w64 c.in-Some.coefficient = search rules in
+    let k = to_z w64 (of_z w64 c.in-Some.coefficient) in
+    let same : k ≡ a = to_z-of_z w64 c.in-Some.coefficient fits ∙ sym (c.in-Some.ensures K f a at_a) in
+    one_more (total (where_true (ints_at K xs 0) (bools_at K xs 1))) (total (where_true (drop i (ints_at K xs 0)) (drop i (bools_at K xs 1)))) (total (where_true (drop (i + 1) (ints_at K xs 0)) (drop (i + 1) (bools_at K xs 1)))) (a *ℤ as_number b) c.loop-place.sum c.times.result c.plus-sum.result
+    (c.loop-place.invariant K f g) (next_counted (ints_at K xs 0) (bools_at K xs 1) i a b at_a at_b)
+    (subst (λ z. LiesIn c.times.result (z *ℤ as_number b)) same (c.times.ensures (as_number b) (c.number.ensures b (c.truth_at.ensures K g b at_b)))) c.plus-sum.ensures
+
+pub returns : goal.returns
+returns c = λ K f g.
+    let xs = given c.args.self.now in
+    let i = c.loop-place.place in
+    let counted_a = numbers_counted K xs 0 c.count.result c.count.ensures in
+    let counted_b = truths_counted K xs 1 c.count-2.result c.count-2.ensures in
+    let ended : where_true (drop i (ints_at K xs 0)) (drop i (bools_at K xs 1)) ≡ [] = none_true_left (ints_at K xs 0) (bools_at K xs 1) i (one_ends (length (ints_at K xs 0)) (length (bools_at K xs 1)) c.min-place-end.result i (omega arith) (omega arith)) in
+    all_so_far (total (where_true (ints_at K xs 0) (bools_at K xs 1))) (total (where_true (drop i (ints_at K xs 0)) (drop i (bools_at K xs 1)))) c.loop-place.sum (c.loop-place.invariant K f g) (ap total ended)

@@ -1,0 +1,124 @@
+-- What is known between two blocks of a stream that was read whole.
+use Rattle.std.proofs.Common.{◌≡◌, ℕ, ℤ, suc, zero, ◌+◌, ◌≤◌, ◌<◌, List, [], ◌∷◌, ◌++◌, length, map, take, drop, get_or, Option, None, refl, sym, ap, ◌∙◌, subst, arith}
+use Rattle.std.specs.List.{AllByRecursion}
+use Rattle.std.proofs.lemmas.List.{take_more, take_all, drop_more, take-append-drop, map-append, length-take}
+use Rattle.fz_judge.specs.of_model.Meaning.{Model}
+use Rattle.fz_judge.specs.of_stream.declared.block.Block as the_block
+use Rattle.fz_judge.specs.of_stream.declared.reading.Claim.{Claim}
+use Rattle.fz_judge.specs.of_stream.Found.{EndsWithin, HasPlaces, IsReadAs, block_of}
+use Rattle.fz_judge.specs.of_stream.Parts.{blocks_in}
+use Rattle.fz_judge.specs.of_filling.BlockFaults.{AllFit}
+use Rattle.fz_judge.specs.of_filling.declared.completion.Completion.{Completion}
+use Rattle.fz_judge.specs.of_filling.declared.completion.Completion.TheVariants.{Off}
+use Rattle.fz_judge.specs.of_filling.Verdict.{Answer}
+use Rattle.fz_judge.specs.of_syntax.View.{bare_items}
+use Rattle.fz_judge.specs.of_filling.Judged.{IsBlockRefusal}
+use Rattle.fz_judge.specs.of_filling.View.{verdict_view}
+use Rattle.fz_judge.specs.of_filling.declared.verdict.Verdict as the_verdict
+use Rattle.fz_check.specs.declared.account.Account.{Account}
+use Rattle.fz_check.specs.declared.claims.Claims.TheVariants.{NotJudged}
+use Rattle.fz_check.specs.declared.error.CheckError.{CheckError}
+use Rattle.fz_check.specs.declared.error.CheckError.TheVariants as errors
+use Rattle.fz_check.specs.declared.jury.Jury.{Jury}
+use Rattle.fz_check.specs.Claims.{AreOutcomes, IsReportWith, Outcome, account, behind_block, no_account, standard_options, verdicts_of}
+use Rattle.fz_check.specs.Claims.Entry.{BlockEntry}
+use Rattle.fz_check.specs.Report.{in_order}
+use Rattle.fz_check.specs.Telling.{HasJudged, IsJudgingRefusal, IsUnjudged, JudgesOneMore, last_outcome}
+use Rattle.fz_check.proofs.ClaimLemmas.{account_append, all_outcomes, answer_of_account, answer_unjudged, have_each, told_unjudged}
+use Rattle.fz_check.proofs.JuryLemmas.{first_state, judged_more, judged_none}
+
+-- a block with an outcome fits the model
+all_fit : (c : Completion) (m : Model) (filled found : Option ℤ) (bs : List the_block.Block)
+    (os : List Outcome) → AreOutcomes c m filled found (map block_of bs) os
+    → AllByRecursion (λ (b : the_block.Block). AllFit m (bare_items b.items.items)) bs
+all_fit c m filled found [] os h = tt
+all_fit c m filled found (b ∷ bs) [] h = absurd h
+all_fit c m filled found (b ∷ bs) (o ∷ os) h =
+    (h.0.is_filled.fits, all_fit c m o.filled o.found bs os h.1)
+
+-- So many blocks were judged, with these verdicts, and no claim was heard of.
+pub record JudgedSoFar (m : Model) (blocks : List the_block.Block) (i : ℕ) (j : Jury) (verdicts : List the_verdict.Verdict) : Type 0 where
+  pub outcomes : List Outcome
+  pub judged : HasJudged Off m j.judge (map block_of (take i blocks)) outcomes
+  pub account_is : j.account ≡ account m.aim NotJudged no_account (map BlockEntry outcomes)
+  pub counted : j.account.blocks ≡ i
+  pub verdicts_are : map verdict_view verdicts ≡ verdicts_of outcomes
+
+pub judged_first : (m : Model) (blocks : List the_block.Block) (j : Jury) (verdicts : List the_verdict.Verdict)
+    → j.judge ≡ first_state Off m → j.account ≡ no_account → verdicts ≡ []
+    → JudgedSoFar m blocks 0 j verdicts
+judged_first m blocks j verdicts judge account none = record {
+  outcomes = [];
+  judged = judged_none Off m j.judge judge;
+  account_is = account;
+  counted = ap (λ (a : Account). a.blocks) account;
+  verdicts_are = ap (map verdict_view) none;
+}
+
+module _ (m : Model) (blocks : List the_block.Block) (i : ℕ) (j : Jury) (verdicts : List the_verdict.Verdict) (h : JudgedSoFar m blocks i j verdicts) where
+  module _ (b : the_block.Block) (lt : i < length blocks) (at : b ≡ get_or blocks i b) where
+    front : take (i + 1) blocks ≡ take i blocks ++ b ∷ []
+    front = take_more blocks i b lt ∙ ap (λ w. take i blocks ++ w ∷ []) (sym at)
+
+    back : drop i blocks ≡ b ∷ drop (i + 1) blocks
+    back = drop_more blocks i b lt ∙ ap (λ w. w ∷ drop (i + 1) blocks) (sym at)
+
+    pub judged_next : (j' : Jury) (v : the_verdict.Verdict) (more : List the_verdict.Verdict)
+        → JudgesOneMore j j' (block_of b) (verdict_view v) → more ≡ verdicts ++ v ∷ []
+        → JudgedSoFar m blocks (i + 1) j' more
+    judged_next j' v more one pushed =
+        let out = last_outcome j'.judge (verdict_view v) in
+        let aim = ap (λ (n : Model). n.aim) h.judged.same_model in
+        let account_next : j'.account ≡ behind_block m.aim (account m.aim NotJudged no_account (map BlockEntry h.outcomes)) out.verdict out.filled out.found =
+        one.account_is ∙ (λ k. behind_block (aim k) (h.account_is k) out.verdict out.filled out.found) in
+        let blocks_next = ap (map block_of) front ∙ map-append block_of (take i blocks) (b ∷ []) in
+        record {
+          outcomes = h.outcomes ++ out ∷ [];
+          judged = subst (λ bs. HasJudged Off m j'.judge bs (h.outcomes ++ out ∷ [])) (sym blocks_next)
+              (judged_more Off m j j' (map block_of (take i blocks)) h.outcomes (block_of b) (verdict_view v) one h.judged);
+          account_is = account_next ∙ sym (ap (account m.aim NotJudged no_account) (map-append BlockEntry h.outcomes (out ∷ []))
+              ∙ account_append m.aim NotJudged no_account (map BlockEntry h.outcomes) (BlockEntry out ∷ []));
+          counted = ap (λ (a : Account). a.blocks) one.account_is ∙ ap (λ n. n + 1) h.counted;
+          verdicts_are = ap (map verdict_view) pushed ∙ map-append verdict_view verdicts (v ∷ []) ∙ ap (λ l. l ++ verdict_view v ∷ []) h.verdicts_are
+              ∙ sym (map-append (λ (o : Outcome). o.verdict) h.outcomes (out ∷ []));
+        }
+
+    -- the block is refused
+    pub refuses_next : (most : ℕ) (e : CheckError) → IsUnjudged most j b e → HasPlaces b
+        → EndsWithin most b → IsJudgingRefusal m blocks e
+    refuses_next most (errors.Block n e) u places within = record {
+      before = take i blocks;
+      block = b;
+      after = drop (i + 1) blocks;
+      blocks_are = sym (take-append-drop i blocks) ∙ ap (λ l. take i blocks ++ l) back;
+      numbered = omega (arith, u.0, h.counted, length-take i blocks, lt);
+      none_before = all_fit Off m None None (take i blocks) h.outcomes (all_outcomes Off m (map block_of (take i blocks)) h.outcomes j.judge.before j.judge.found h.judged.goes_on);
+      tells = subst (λ n. IsBlockRefusal n b e) h.judged.same_model (u.2 places within);
+      not_memory = u.1;
+    }
+    refuses_next most errors.Memory u places within = tt
+    refuses_next most _ u places within = absurd u
+
+  -- all blocks were judged
+  pub judged_all : (answer : Answer) → length blocks ≤ i → answer ≡ answer_of_account j.account
+      → (claims : List Claim) → (bytes : List ℕ) → IsReadAs bytes (map block_of blocks) claims
+      → IsReportWith standard_options m bytes (in_order 0 (map verdict_view verdicts) claims) answer
+  judged_all answer end is claims bytes read =
+      let all : map block_of (take i blocks) ≡ blocks_in read.parts = ap (map block_of) (take_all i blocks end) ∙ read.blocks_are in
+      let judged : HasJudged Off m j.judge (blocks_in read.parts) h.outcomes = subst (λ bs. HasJudged Off m j.judge bs h.outcomes) all h.judged in
+      let have = all_outcomes Off m (blocks_in read.parts) h.outcomes j.judge.before j.judge.found judged.goes_on in
+      record {
+        parts = read.parts;
+        text_of_stream = read.text;
+        outcomes = h.outcomes;
+        have_outcomes = have;
+        answer_is = is ∙ ap answer_of_account h.account_is ∙ answer_unjudged m h.outcomes read.parts;
+        events_are = (λ k. in_order 0 (h.verdicts_are k) (read.claims_are k)) ∙ sym (told_unjudged m.aim no_account h.outcomes read.parts refl (have_each Off m None None (blocks_in read.parts) h.outcomes have));
+      }
+
+-- what holds of each block holds of the one at a place
+pub at_index : (P : the_block.Block → Type 0) (bs : List the_block.Block) (i : ℕ)
+    (b : the_block.Block) → AllByRecursion P bs → i < length bs → b ≡ get_or bs i b → P b
+at_index P [] i b h lt at = absurd (omega (arith, lt))
+at_index P (x ∷ bs) zero b h lt at = subst P (sym at) h.0
+at_index P (x ∷ bs) (suc i) b h lt at = at_index P bs i b h.1 (omega (arith, lt)) at

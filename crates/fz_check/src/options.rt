@@ -1,0 +1,35 @@
+//! How a stream is checked.
+
+use crate::claims::Claims;
+use fz_judge::{Completion, Limits};
+
+/// What becomes of a stream that ends inside a block, such as that of a solver that was killed.
+#[derive(Clone, Copy, PartialEq, Eq)]
+pub enum Ending {
+    /// It is refused.
+    Whole,
+    /// The block is cut off, and what comes before it is judged.
+    Cut,
+}
+
+/// How a stream is checked.
+#[derive(Clone, Copy)]
+pub struct Options<'k> {
+    /// Whether values are searched for that the solver left out.
+    pub completion: Completion,
+    pub ending: Ending,
+    pub claims: Claims<'k>,
+    /// The limits of the model's text, and of the text of a block with the line after it.
+    pub limits: Limits,
+}
+
+impl Options<'static> {
+    /// No value is searched for, nothing is cut off, no claim is judged, and the limits are the
+    /// standard ones.
+    pub const STANDARD: Options<'static> = Options {
+        completion: Completion::Off,
+        ending: Ending::Whole,
+        claims: Claims::NotJudged,
+        limits: Limits::STANDARD,
+    };
+}

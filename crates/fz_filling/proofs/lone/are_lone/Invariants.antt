@@ -1,5 +1,0 @@
-use Rattle.fz_filling.proofs.Noting.{AreNoted}
-use Rattle.fz_filling.proofs.lone.are_lone.Given as goal
-
-abbrev pub invariant-loop-point : goal.invariant-loop-point
-invariant-loop-point l = AreNoted l.model l.givers.items l.point
