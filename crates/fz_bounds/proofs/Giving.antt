@@ -25,6 +25,11 @@ given_back [] n v w e = refl
 given_back (o ∷ K) zero v w e = ap (λ p. p ∷ K) (sym e)
 given_back (o ∷ K) (suc n) v w e = ap (λ L. o ∷ L) (given_back K n v w e)
 
+pub given_same : (K : Partial) (n : ℕ) (w : Value) → value_at K n ≡ Some w → give K n w ≡ K
+given_same [] n w e = refl
+given_same (o ∷ K) zero w e = ap (λ p. p ∷ K) (sym e)
+given_same (o ∷ K) (suc n) w e = ap (λ L. o ∷ L) (given_same K n w e)
+
 pub given_there : (K : Partial) (n : ℕ) (v w : Value) → value_at K n ≡ Some w
     → value_at (give K n v) n ≡ Some v
 given_there [] n v w e = cc

@@ -13,7 +13,7 @@ use Rattle.fz_index.specs.of_model.declared.Domain.{Domain}
 use Rattle.fz_index.specs.of_model.Relations.{kind_of, same_kind}
 use Rattle.fz_index.proofs.of_model.Steps.{some_of}
 use Rattle.fz_index.proofs.of_model.Values.{no}
-use Rattle.fz_bounds.proofs.Giving.{given_back}
+use Rattle.fz_bounds.proofs.Giving.{given_back, given_same}
 use Rattle.fz_bounds.specs.Bounds.{IsInside, LiesBetween, LiesIn, NumberNeverHolds, Ranges, is_at_most, narrowed, number_as}
 use Rattle.fz_bounds.specs.Ends.{AreEndsAt, Excludes, IsTold}
 use Rattle.fz_bounds.specs.declared.ends.KindEnds.{KindEnds}
@@ -84,6 +84,16 @@ module _ (B : Ranges) (n : ℕ) (e : KindEnds) (at : AreEndsAt B n e) where
       ∙ (λ i. record {
         lowest = given_back B.lowest n v (number_as k l) low_is i;
         highest = given_back B.highest n w (number_as k h) high_is i;
+      })
+
+  -- they are still there
+  pub same_again : (C : Ranges) → C ≡ B
+      → narrowed C n (number_as e.kind e.low) (number_as e.kind e.high) ≡ B
+  same_again C c =
+      ap (λ R. narrowed R n (number_as e.kind e.low) (number_as e.kind e.high)) c
+      ∙ (λ i. record {
+        lowest = given_same B.lowest n (number_as e.kind e.low) at.low_is i;
+        highest = given_same B.highest n (number_as e.kind e.high) at.high_is i;
       })
 
   -- an end that nothing has

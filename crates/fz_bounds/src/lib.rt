@@ -31,9 +31,9 @@ mod tightening;
 pub use bounds::Bounds;
 pub use ends::KindEnds;
 pub use fz_index::{
-    Claim, Domain, End, Ends, Goal, IntSet, Kind, Left, Model, Narrower, Narrowing, Overview,
-    Partial, PointParts, Product, Refutation, Relation, Row, Scalars, Search, Slot, State, Sums,
-    Term, Value, Visit, forced_any, kind_of, known_of, same_kind, state,
+    Builtin, Claim, Domain, End, Ends, Form, Goal, IntSet, Kind, Left, Model, Narrower, Narrowing,
+    Overview, Partial, Place, PointParts, Product, Refutation, Relation, Row, Scalars, Search, Slot,
+    State, Sums, Term, Value, Visit, forced_any, kind_of, known_of, same_kind, state,
 };
 pub use refuting::cannot_hold;
 pub use tightening::Tightened;

@@ -6,6 +6,7 @@ ghost use Rattle.fz_index.specs.of_model.Meaning.{Assignment, Point, points, who
 ghost use Rattle.fz_index.specs.of_model.States.{HoldsIfKnown};
 ghost use Rattle.fz_bounds.specs.Bounds.{IsInside, NumberNeverHolds, narrowed, number_as};
 ghost use Rattle.fz_bounds.specs.Ends.{AreEndsAt, Excludes};
+ghost use Rattle.fz_bounds.specs.declared.ends.KindEnds.{KindEnds};
 ghost use Rattle.fz_bounds.specs.declared.tightening.Tightened.TheVariants.{Empty, Unshown};
 
 use crate::bounds::Bounds;
@@ -62,6 +63,10 @@ impl Bounds {
         ensures empty { IfOk result (λ t. t ≡ Empty
             → NumberNeverHolds model.now point self.old) }
         ensures unshown { IfOk result (λ t. t ≡ Unshown → self.new ≡ self.old) }
+        // With the bounds that the variable had, all are the old ones.
+        ensures undone { IfOk result (λ _. (e : KindEnds) → AreEndsAt self.old variable e
+            → narrowed self.new variable (number_as e.kind e.low) (number_as e.kind e.high)
+            ≡ self.old) }
         ensures unchanged { OnErr result (self.new ≡ self.old) }
     {
         let Some(ends) = self.ends(variable) else {

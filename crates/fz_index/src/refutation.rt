@@ -27,10 +27,11 @@ pub struct Narrowing {
 
 /// Why no solution has some values: the number of a point that can't hold within the bounds that
 /// are left, these bounds, of the first variables in it that have no value, and the steps to them,
-/// in their order.
+/// in their order. Where bounds were split, it is the last of several leaves that is told.
 #[derive(Drop)]
 pub struct Refutation {
     pub point: usize,
     pub left: Vec<Left>,
     pub steps: Vec<Narrowing>,
+    pub leaves: usize,
 }

@@ -3,11 +3,13 @@
 use std::alloc::{AllocError, Global};
 use std::collections::VecDeque;
 
-/// The points that are to be visited, in the order in which they came.
+/// The points that are to be visited, in the order in which they came; those whose visit takes
+/// longer are behind all others.
 #[derive(Drop)]
 pub(crate) struct Agenda {
     waits: Vec<bool>,
-    queue: VecDeque<usize>,
+    quick: VecDeque<usize>,
+    long: VecDeque<usize>,
 }
 
 impl Agenda {
@@ -16,28 +18,46 @@ impl Agenda {
         waits.resize(points, false)?;
         Ok(Agenda {
             waits,
-            queue: VecDeque::new(alloc),
+            quick: VecDeque::new(alloc),
+            long: VecDeque::new(alloc),
         })
     }
 
     /// Appends a point, unless it is there already.
-    pub(crate) fn add(&mut self, point: usize) -> Result<(), AllocError> {
+    pub(crate) fn add(&mut self, point: usize, is_quick: bool) -> Result<(), AllocError> {
         let Some(waits) = self.waits.get_mut(point) else {
             return Ok(());
         };
-        if !*waits {
-            *waits = true;
-            self.queue.push_back(point)?;
+        if *waits {
+            return Ok(());
+        }
+        *waits = true;
+        if is_quick {
+            self.quick.push_back(point)?;
+        } else {
+            self.long.push_back(point)?;
         }
         Ok(())
     }
 
     /// Takes the first point.
     pub(crate) fn take_first(&mut self) -> Option<usize> {
-        let point = self.queue.pop_front()?;
+        let point = match self.quick.pop_front() {
+            Some(point) => point,
+            None => self.long.pop_front()?,
+        };
         if let Some(waits) = self.waits.get_mut(point) {
             *waits = false;
         }
         Some(point)
+    }
+
+    /// Takes all.
+    pub(crate) fn clear(&mut self) {
+        for _ in 0..self.waits.len() {
+            if self.take_first().is_none() {
+                return;
+            }
+        }
     }
 }

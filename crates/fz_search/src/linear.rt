@@ -1,8 +1,8 @@
-//! What linear rows leave to variables: bounds, and values of Booleans.
+//! What linear rows leave to variables.
 
-use crate::stop::Stop;
 use crate::work::Work;
-use fz_bounds::{Claim, Ends, Product, Relation, Row, Value};
+use fz_bounds::{Claim, Ends, Left, Product, Relation, Row};
+use std::alloc::AllocError;
 
 /// The number in 64 bits, or the nearest.
 fn nearest(number: i128) -> i64 {
@@ -46,90 +46,104 @@ fn exact(rest: i128, coefficient: i64) -> Option<i64> {
 }
 
 impl<'k, 'm, 'a> Work<'k, 'm, 'a> {
-    /// Visits a linear row.
-    pub(crate) fn visit_row(&mut self, point: usize, row: Row) -> Result<(), Stop> {
+    /// Proposes what a linear row leaves to its variables, and tells whether it seems to fail.
+    pub(crate) fn visit_row(&mut self, point: usize, row: Row) -> Result<bool, AllocError> {
         match row.claim {
             Claim::Holds => self.impose(point, row.relation),
             Claim::Fails => self.impose(point, row.relation.negated()),
             Claim::Exactly(truth) => match self.truth(truth) {
                 Some(true) => self.impose(point, row.relation),
                 Some(false) => self.impose(point, row.relation.negated()),
-                None => match row.relation.decided(self.sums_of(point)) {
-                    Some(holds) => self.give(truth, Value::Bool(holds)),
-                    None => Ok(()),
+                None => match row.relation.decided(self.measure_of(point).sums) {
+                    Some(holds) => self.propose(truth, Ends::at(i64::from(holds))),
+                    None => Ok(false),
                 },
             },
             Claim::Where(truth) => match self.truth(truth) {
                 Some(true) => self.impose(point, row.relation),
-                Some(false) => Ok(()),
-                None => match row.relation.decided(self.sums_of(point)) {
-                    Some(false) => self.give(truth, Value::Bool(false)),
-                    Some(true) => Ok(()),
-                    None => Ok(()),
+                Some(false) => Ok(false),
+                None => match row.relation.decided(self.measure_of(point).sums) {
+                    Some(false) => self.propose(truth, Ends::at(0)),
+                    Some(true) => Ok(false),
+                    None => Ok(false),
                 },
             },
         }
     }
 
+    /// Proposes bounds of a variable.
+    fn propose(&mut self, variable: usize, ends: Ends) -> Result<bool, AllocError> {
+        let Ends { low, high } = ends;
+        self.proposed.push(Left {
+            variable,
+            low,
+            high,
+        })?;
+        Ok(false)
+    }
+
     /// The Boolean of a variable, where it has one.
     fn truth(&self, variable: usize) -> Option<bool> {
-        if self.proposal.has(variable) {
-            Some(self.proposal.values().truth(variable))
+        let ends = self.ends_of(variable);
+        if ends.low == ends.high {
+            Some(ends.low != 0)
         } else {
             None
         }
     }
 
-    /// Takes from the variables of a point the numbers with which a relation can't hold.
-    fn impose(&mut self, point: usize, relation: Relation) -> Result<(), Stop> {
+    /// Proposes to take from the variables of a point the numbers with which a relation can't hold.
+    fn impose(&mut self, point: usize, relation: Relation) -> Result<bool, AllocError> {
         match relation {
             Relation::AtMost(number) => self.lower(point, number),
             Relation::AtLeast(number) => self.raise(point, number),
-            Relation::Equal(number) => {
-                self.lower(point, number)?;
-                self.raise(point, number)
-            }
+            Relation::Equal(number) => Ok(self.lower(point, number)? || self.raise(point, number)?),
             Relation::Unequal(number) => self.part(point, number),
         }
     }
 
     /// Keeps each product of a point so near its least value that the sum can be at most this
     /// number.
-    fn lower(&mut self, point: usize, number: i128) -> Result<(), Stop> {
-        let slack = number.saturating_sub(self.sums_of(point).least);
+    fn lower(&mut self, point: usize, number: i128) -> Result<bool, AllocError> {
+        let slack = number.saturating_sub(self.measure_of(point).sums.least);
         self.hold_all(point, slack, true)
     }
 
     /// Keeps each product of a point so near its greatest value that the sum can be at least this
     /// number.
-    fn raise(&mut self, point: usize, number: i128) -> Result<(), Stop> {
-        let slack = self.sums_of(point).most.saturating_sub(number);
+    fn raise(&mut self, point: usize, number: i128) -> Result<bool, AllocError> {
+        let slack = self.measure_of(point).sums.most.saturating_sub(number);
         self.hold_all(point, slack, false)
     }
 
     /// Keeps each product of a point within a slack of its least value, or of its greatest. Where
     /// all but one are known to move no further, only that one is looked at.
-    fn hold_all(&mut self, point: usize, slack: i128, to_least: bool) -> Result<(), Stop> {
+    fn hold_all(
+        &mut self,
+        point: usize,
+        slack: i128,
+        to_least: bool,
+    ) -> Result<bool, AllocError> {
         if slack < 0 {
-            return Err(Stop::Contradiction);
+            return Ok(true);
         }
         let products = self.known.products_of(point);
-        let reach = self.reach_of(point);
+        let reach = self.measure_of(point).reach;
         if reach.others <= slack {
-            return match products.get(reach.top) {
-                Some(product) => self.hold(product, slack, to_least),
-                None => Ok(()),
-            };
+            if let Some(product) = products.get(reach.top) {
+                self.hold(product, slack, to_least)?;
+            }
+            return Ok(false);
         }
-        self.spend(products.len())?;
+        self.spend(products.len());
         for product in products {
             self.hold(product, slack, to_least)?;
         }
         self.measure(point);
-        Ok(())
+        Ok(false)
     }
 
-    fn hold(&mut self, product: &Product, slack: i128, to_least: bool) -> Result<(), Stop> {
+    fn hold(&mut self, product: &Product, slack: i128, to_least: bool) -> Result<(), AllocError> {
         if product.coefficient == 0 {
             return Ok(());
         }
@@ -139,16 +153,17 @@ impl<'k, 'm, 'a> Work<'k, 'm, 'a> {
             return Ok(());
         }
         let left = left_of(ends, steps, (product.coefficient > 0) == to_least);
-        self.tighten(product.variable, left.low, left.high)
+        self.propose(product.variable, left)?;
+        Ok(())
     }
 
     /// The sum must not be this number: takes from the only variable without a value the number
     /// that would make it so.
-    fn part(&mut self, point: usize, number: i128) -> Result<(), Stop> {
+    fn part(&mut self, point: usize, number: i128) -> Result<bool, AllocError> {
         if self.open_in(point) > 1 {
-            return Ok(());
+            return Ok(false);
         }
-        self.spend(self.known.cost_of(point))?;
+        self.spend(self.known.cost_of(point));
         let mut rest = number;
         let mut free = None;
         for product in self.known.products_of(point) {
@@ -159,8 +174,6 @@ impl<'k, 'm, 'a> Work<'k, 'm, 'a> {
             if ends.low == ends.high {
                 let fixed = i128::from(product.coefficient).saturating_mul(i128::from(ends.low));
                 rest = rest.saturating_sub(fixed);
-            } else if free.is_some() {
-                return Ok(());
             } else {
                 free = Some(*product);
             }
@@ -168,25 +181,22 @@ impl<'k, 'm, 'a> Work<'k, 'm, 'a> {
         match free {
             Some(product) => match exact(rest, product.coefficient) {
                 Some(number) => self.cut(product.variable, number),
-                None => Ok(()),
+                None => Ok(false),
             },
-            None => if rest == 0 {
-                Err(Stop::Contradiction)
-            } else {
-                Ok(())
-            },
+            None => Ok(rest == 0),
         }
     }
 
-    /// Takes a number from the bounds of a variable, where it is one of their ends.
-    fn cut(&mut self, variable: usize, number: i64) -> Result<(), Stop> {
-        let ends = self.ends_of(variable);
+    /// Proposes to take a number from the bounds of a variable, where it is one of their ends.
+    fn cut(&mut self, variable: usize, number: i64) -> Result<bool, AllocError> {
+        let mut ends = self.ends_of(variable);
         if number == ends.low {
-            self.tighten(variable, number.saturating_add(1), ends.high)
+            ends.low = number.saturating_add(1);
         } else if number == ends.high {
-            self.tighten(variable, ends.low, number.saturating_sub(1))
+            ends.high = number.saturating_sub(1);
         } else {
-            Ok(())
+            return Ok(false);
         }
+        self.propose(variable, ends)
     }
 }

@@ -1,32 +1,30 @@
 //! The search for values.
 
-ghost use Rattle.std.specs.Prelude.{IfOk, IfSome};
+ghost use Rattle.std.specs.Prelude.{◌≡◌, IfOk};
 ghost use Rattle.fz_bounds.specs.of_model.Meaning.{IsPartial};
 ghost use Rattle.fz_search.specs.Found.{IsFoundFor};
-ghost use Rattle.fz_search.specs.Refuted.{HoldAll};
 
-use crate::conflict::Conflict;
 use crate::found::Found;
-use crate::grounds::NO_POINT;
+use crate::leaf::Leaf;
+use crate::order::{Objective, Split, Way};
 use crate::proposal::copied;
-use crate::refuting::learned;
 use crate::stop::Stop;
-use crate::work::{Budget, Work};
+use crate::tree::{Step, Tree};
+use crate::visiting::{close, settle};
+use crate::work::Work;
 use fz_bounds::{
-    Bounds, Domain, End, Ends, Goal, Kind, Model, Narrowing, Partial, PointParts, Scalars, Search,
-    Slot, Term, Visit, known_of,
+    Domain, Goal, Kind, Left, Model, Narrower, Partial, Refutation, Search, Term, known_of,
 };
 use std::alloc::{AllocError, Global};
 
-/// At most so many numbers are lost on one way.
-const MOST_LOST: usize = 100;
+/// So many steps are taken at most where variables are split in their order, and where they aren't;
+/// and so many more for each point and each scalar in it.
+const STEPS_IN_ORDER: usize = 1_000_000;
+const STEPS: usize = 50_000_000;
+const STEPS_EACH: usize = 100;
 
-/// A variable that is to get a small value, or a great one.
-#[derive(Clone, Copy)]
-enum Objective {
-    Least(usize),
-    Greatest(usize),
-}
+/// At most so many variables are told of a point.
+const MOST_LEFT: usize = 12;
 
 /// The variable that is minimized or maximized.
 fn objective_of(goal: &Goal) -> Option<Objective> {
@@ -38,142 +36,6 @@ fn objective_of(goal: &Goal) -> Option<Objective> {
     }
 }
 
-impl Objective {
-    fn variable(self) -> usize {
-        match self {
-            Objective::Least(number) | Objective::Greatest(number) => number,
-        }
-    }
-}
-
-/// One way through the variables.
-#[derive(Clone, Copy)]
-struct Way {
-    /// the variable that gets its value before all others
-    first: Option<usize>,
-    /// the end of its bounds from which each variable gets its value
-    from: End,
-    /// the objective of the block before, where a better one is asked for
-    before: Option<i64>,
-}
-
-/// From which end of its bounds a variable gets its value. An objective gets the worst value that
-/// it can have, which leaves later blocks the most room.
-fn end_for(objective: Option<Objective>, variable: usize, from: End) -> End {
-    match objective {
-        Some(Objective::Least(number)) if number == variable => End::High,
-        Some(Objective::Greatest(number)) if number == variable => End::Low,
-        _ => from,
-    }
-}
-
-impl<'k, 'm, 'a> Work<'k, 'm, 'a> {
-    /// Asks for an objective that is better than the one before.
-    fn improve(&mut self, objective: Option<Objective>, before: Option<i64>) -> Result<(), Stop> {
-        let Some(before) = before else {
-            return Ok(());
-        };
-        self.point = NO_POINT;
-        match objective {
-            Some(Objective::Least(number)) => {
-                self.tighten(number, i64::MIN, before.saturating_sub(1))
-            }
-            Some(Objective::Greatest(number)) => {
-                self.tighten(number, before.saturating_add(1), i64::MAX)
-            }
-            None => Ok(()),
-        }
-    }
-
-    /// Visits points until the agenda is empty.
-    fn settle(&mut self) -> Result<(), Stop> {
-        for _ in 0..self.budget.steps {
-            let Some(point) = self.agenda.take_first() else {
-                return Ok(());
-            };
-            self.point = point;
-            self.visit(1)?;
-            match self.known.visit_of(point) {
-                Visit::Linear(row) => self.visit_row(point, row)?,
-                Visit::Plain => self.visit_plain(point)?,
-            }
-        }
-        Err(Stop::NothingFound)
-    }
-
-    /// Gives a variable a value, where it has none.
-    fn fill(
-        &mut self,
-        variable: usize,
-        objective: Option<Objective>,
-        from: End,
-    ) -> Result<(), Stop> {
-        if self.proposal.has(variable) {
-            return Ok(());
-        }
-        self.point = NO_POINT;
-        self.guess(variable, end_for(objective, variable, from))?;
-        self.settle()
-    }
-
-    /// Puts all points on the agenda, gives variables the only numbers that are left to them, and
-    /// keeps the elements of arrays in the arrays' domains.
-    fn begin(&mut self) -> Result<(), Stop> {
-        let model = self.proposal.model();
-        for variable in 0..model.variables().len() {
-            let Ends { low, high } = self.ends_of(variable);
-            if low == high {
-                self.point = self.known.domain_of(variable);
-                self.tighten(variable, low, high)?;
-            }
-        }
-        for point in 0..model.points() {
-            if self.open_in(point) > 0 {
-                self.wake(point, true)?;
-            }
-            if let PointParts::Elements(_, domain, elements) = model.point_parts(point) {
-                self.point = point;
-                self.keep_inside(domain, elements)?;
-            }
-        }
-        Ok(())
-    }
-
-    fn keep_inside(&mut self, domain: &Domain, elements: Scalars<'_>) -> Result<(), Stop> {
-        for slot in elements.slots {
-            let Slot::Variable(number) = slot else {
-                continue;
-            };
-            let variable = *number as usize;
-            if matches!(self.kind_of(variable), Kind::Set) {
-                continue;
-            }
-            match domain {
-                Domain::All => {}
-                Domain::Within(low, high) => self.tighten(variable, *low, *high)?,
-                Domain::Among(_) => self.shave(variable)?,
-            }
-        }
-        Ok(())
-    }
-
-    /// Gives each variable a value.
-    fn complete(&mut self, way: Way) -> Result<(), Stop> {
-        let objective = objective_of(self.proposal.model().goal());
-        self.begin()?;
-        self.settle()?;
-        self.improve(objective, way.before)?;
-        self.settle()?;
-        if let Some(variable) = way.first {
-            self.fill(variable, objective, way.from)?;
-        }
-        for variable in 0..self.proposal.model().variables().len() {
-            self.fill(variable, objective, way.from)?;
-        }
-        Ok(())
-    }
-}
-
 /// What is searched: values for the variables that have none.
 #[derive(Clone, Copy)]
 struct Task<'t, 'a> {
@@ -181,125 +43,205 @@ struct Task<'t, 'a> {
     known: &'t Search,
     model: &'t Model<'a>,
     filling: &'t Partial,
+    objective: Option<Objective>,
+    /// the objective of the block before, where a better one is asked for
+    before: Option<i64>,
 }
 
-/// Searches once from these bounds, in one order. It gives what was found, and with it the
-/// contradiction that it met, if any: that may narrow the bounds for another search.
-fn gone(
-    task: &Task<'_, '_>,
+/// Splits a variable's bounds.
+fn branch(
+    tree: &mut Tree<'_, '_, '_>,
+    work: &mut Work<'_, '_, '_>,
+    split: Split,
+) -> Result<(), Stop>
+    ensures same { tree.new ≡ tree.old }
+{
+    let Split {
+        variable,
+        at,
+        upper_first,
+    } = split;
+    tree.split(variable, at, upper_first)?;
+    work.branches = work.branches.saturating_add(1);
+    work.took(tree, variable, Narrower::Trial(at))?;
+    Ok(())
+}
+
+/// Works at the present node, and tells whether its proposal has values with which all points hold.
+/// Else the node is split, or it ends.
+fn work_at(
+    tree: &mut Tree<'_, '_, '_>,
+    work: &mut Work<'_, '_, '_>,
     way: Way,
-    bounds: &Bounds,
-    budget: &mut Budget,
-) -> Result<(Found, Option<Conflict>), AllocError>
+) -> Result<bool, Stop>
+    ensures same { tree.new ≡ tree.old }
+{
+    settle(tree, work)?;
+    if let Some(split) = work.choose(way) {
+        branch(tree, work, split)?;
+        return Ok(false);
+    }
+    match work.leaf()? {
+        Leaf::Holds => return Ok(true),
+        Leaf::Fails(point) => close(tree, work, point)?,
+        Leaf::Unknown => {}
+    }
+    tree.give_up();
+    Err(Stop::Closed)
+}
+
+/// Goes back to the last open branch, and tells whether there is one.
+fn go_back(
+    tree: &mut Tree<'_, '_, '_>,
+    work: &mut Work<'_, '_, '_>,
+) -> Result<bool, Stop>
+    ensures same { tree.new ≡ tree.old }
+{
+    work.leave();
+    for _ in 0..usize::MAX {
+        match tree.step_back()? {
+            Some(Step::Replaced(was)) => if work.branches > 0 {
+                work.put_back(was);
+            },
+            Some(Step::Branch(open)) => {
+                work.branches = work.branches.saturating_sub(1);
+                work.took(tree, open.variable, Narrower::Trial(open.low))?;
+                return Ok(true);
+            }
+            None => return Ok(false),
+        }
+    }
+    Ok(false)
+}
+
+/// Goes through the tree, and tells whether values are found. Where they aren't, nothing of it is
+/// open.
+fn go_through(
+    tree: &mut Tree<'_, '_, '_>,
+    work: &mut Work<'_, '_, '_>,
+    way: Way,
+) -> Result<bool, Stop>
+    ensures same { tree.new ≡ tree.old }
+{
+    work.begin()?;
+    for _ in 0..usize::MAX {
+        match work_at(tree, work, way) {
+            Ok(true) => return Ok(true),
+            Ok(false) => {}
+            Err(Stop::Closed) => if !go_back(tree, work)? {
+                return Ok(false);
+            },
+            Err(stop) => return Err(stop),
+        }
+    }
+    Err(Stop::Spent)
+}
+
+/// Supposes of variables without bounds that they lie within 64 bits.
+fn suppose_all(tree: &mut Tree<'_, '_, '_>, model: &Model<'_>)
+    ensures same { tree.new ≡ tree.old }
+{
+    for (number, variable) in model.variables().iter().enumerate() {
+        if matches!(variable.kind, Kind::Int) && tree.ends(number).is_none() {
+            tree.suppose(number, Kind::Int, i64::MIN, i64::MAX);
+        }
+    }
+}
+
+/// Whether an integer has neither a value nor bounds.
+fn lacks_bounds(model: &Model<'_>, filling: &Partial) -> bool {
+    for (number, variable) in model.variables().iter().enumerate() {
+        let is_unbounded = matches!((variable.kind, &variable.domain), (Kind::Int, Domain::All));
+        if is_unbounded && !filling.has(number) {
+            return true;
+        }
+    }
+    false
+}
+
+/// The bounds of the first variables of a point that have no value.
+fn left_at(
+    work: &Work<'_, '_, '_>,
+    filling: &Partial,
+    point: usize,
+) -> Result<Vec<Left>, AllocError> {
+    let mut left = Vec::new(work.alloc);
+    for product in work.known.products_of(point) {
+        let variable = product.variable;
+        if filling.has(variable) || left.len() >= MOST_LEFT {
+            continue;
+        }
+        let ends = work.ends_of(variable);
+        left.push(Left {
+            variable,
+            low: ends.low,
+            high: ends.high,
+        })?;
+    }
+    Ok(left)
+}
+
+/// The refutation that a point ends.
+fn told(
+    work: &mut Work<'_, '_, '_>,
+    filling: &Partial,
+    point: usize,
+) -> Result<Refutation, AllocError>
+    ensures { IfOk result (λ r. r.point ≡ point) }
+{
+    let left = left_at(work, filling, point)?;
+    let mut steps = Vec::new(work.alloc);
+    std::mem::swap(&mut steps, &mut work.taken);
+    let leaves = work.leaves;
+    Ok(Refutation {
+        point,
+        left,
+        steps,
+        leaves,
+    })
+}
+
+/// Searches in one order.
+fn go(task: &Task<'_, '_>, way: Way) -> Result<Found, AllocError>
     requires fits { IsPartial task.now.model.now task.now.filling.now }
-    ensures found { IfOk result (λ r. IsFoundFor task.now.model.now task.now.filling.now r.0) }
+    ensures found { IfOk result (IsFoundFor task.now.model.now task.now.filling.now) }
 {
     let Task {
         alloc,
         known,
         model,
         filling,
+        objective,
+        before,
     } = *task;
-    let mut work = Work::new(alloc, known, model, filling, bounds, *budget)?;
-    let end = work.complete(way);
-    *budget = work.budget;
-    match end {
-        Ok(()) => Ok((
-            Found::Values(copied(alloc, model, work.proposal.values())?),
-            None,
-        )),
-        Err(Stop::NothingFound) => Ok((Found::Nothing, None)),
+    let mut tree = Tree::new(alloc, model, filling)?;
+    if way.supposes {
+        suppose_all(&mut tree, model);
+    }
+    let steps = if way.in_order { STEPS_IN_ORDER } else { STEPS };
+    let budget = known.size().saturating_mul(STEPS_EACH).saturating_add(steps);
+    let mut work = Work::new(alloc, known, model, filling, &tree, budget)?;
+    work.ask(objective, before);
+    match go_through(&mut tree, &mut work, way) {
+        Ok(true) => Ok(Found::Values(copied(alloc, model, work.proposal.values())?)),
+        Ok(false) => match tree.refuted() {
+            Some(point) => Ok(Found::Refuted(told(&mut work, filling, point)?)),
+            None => Ok(Found::Nothing),
+        },
         Err(Stop::Memory) => Err(AllocError),
-        Err(Stop::Contradiction) => Ok((Found::Nothing, work.conflict()?)),
+        Err(_) => Ok(Found::Nothing),
     }
 }
 
-/// Searches once in this order, and gives what was found. It gives none where the contradiction
-/// that was met took a number from the bounds: then the same search can come further.
-fn attempt(
-    task: &Task<'_, '_>,
-    way: Way,
-    bounds: &mut Bounds,
-    taken: &mut Vec<Narrowing>,
-    budget: &mut Budget,
-) -> Result<Option<Found>, AllocError>
-    requires fits { IsPartial task.now.model.now task.now.filling.now }
-    requires inside { HoldAll task.now.model.now task.now.filling.now bounds.old }
-    ensures found { IfOk result (λ o. IfSome o (IsFoundFor task.now.model.now task.now.filling.now)) }
-    ensures inside { IfOk result (λ _. HoldAll task.now.model.now task.now.filling.now bounds.new) }
-{
-    let (found, conflict) = gone(task, way, bounds, budget)?;
-    match conflict {
-        Some(conflict) => {
-            let Task {
-                alloc,
-                known,
-                model,
-                filling,
-            } = *task;
-            learned(alloc, known, model, filling, bounds, taken, &conflict)
-        }
-        None => Ok(Some(found)),
-    }
-}
-
-/// Repeats the search in this order as long as each one takes a number from the bounds. What takes
-/// them is noted.
-fn go(
-    task: &Task<'_, '_>,
-    way: Way,
-    bounds: &mut Bounds,
-    taken: &mut Vec<Narrowing>,
-) -> Result<Found, AllocError>
-    requires fits { IsPartial task.now.model.now task.now.filling.now }
-    requires inside { HoldAll task.now.model.now task.now.filling.now bounds.old }
-    ensures found { IfOk result (IsFoundFor task.now.model.now task.now.filling.now) }
-    ensures inside { IfOk result (λ _. HoldAll task.now.model.now task.now.filling.now bounds.new) }
-{
-    let mut budget = Budget::new(task.known, task.model);
-    for _ in 0..MOST_LOST {
-        if let Some(found) = attempt(task, way, bounds, taken, &mut budget)? {
-            return Ok(found);
-        }
-    }
-    Ok(Found::Nothing)
-}
-
-/// Goes one way after another, until something is found.
-fn go_each(task: &Task<'_, '_>, ways: &[Way], bounds: &mut Bounds) -> Result<Found, AllocError>
-    requires fits { IsPartial task.now.model.now task.now.filling.now }
-    requires inside { HoldAll task.now.model.now task.now.filling.now bounds.old }
-    ensures found { IfOk result (IsFoundFor task.now.model.now task.now.filling.now) }
-{
-    let mut taken = Vec::new(task.alloc);
-    for way in ways {
-        let found = go(task, *way, bounds, &mut taken)?;
-        if !matches!(found, Found::Nothing) {
-            return Ok(found);
-        }
-    }
-    Ok(Found::Nothing)
-}
-
-/// The variable of the objective, where it has no value.
-fn open_objective(model: &Model<'_>, filling: &Partial) -> Option<usize> {
-    let variable = objective_of(model.goal())?.variable();
-    match filling.get(variable) {
-        Some(_) => None,
-        None => Some(variable),
-    }
-}
-
-/// Looks for values of the variables that have none. Bounds are narrowed, and each variable that is
-/// left gets a number at an end of its own. Where that comes to a contradiction which rests on no
-/// such guess, or on one, its steps are proved, one after another: then no solution has the
-/// filling's values, or the variable loses the number, and the search begins anew. No other guess
-/// is taken back. An objective that the block leaves open gets its worst value first, since the
-/// next block is compared with what is found; where nothing is found so, the variables get their
-/// values in their order, from the low ends and then from the high ones. The last time no better
-/// objective than that of the block before is asked for, since that may be all that is in the way
-/// of a refutation. Of what it finds no more is promised than that the values are of their
-/// variables' kinds, since the caller judges them. It refuses only where memory runs out.
+/// Looks for values of the variables that have none. Bounds are narrowed, each step proved, and
+/// where nothing more is left to narrow, the bounds of a variable are split: a part that a point
+/// holds nowhere in is left, and the other one taken. Where no part is left, no solution has the
+/// filling's values. An objective that the block leaves open gets the worst value that it can have,
+/// since the next block is compared with what is found, and one that is better than that of the
+/// block before, where there is one. The variables are split in their order first; where that comes
+/// to no end, the one with the fewest numbers. Of what it finds no more is promised than that the
+/// values are of their variables' kinds, since the caller judges them. It refuses only where memory
+/// runs out.
 pub fn search(
     alloc: Global,
     model: &Model<'_>,
@@ -316,21 +258,22 @@ pub fn search(
         known,
         model,
         filling,
-    };
-    let mut bounds = Bounds::new(alloc, model, filling)?;
-    let first = open_objective(model, filling);
-    let plain = Way {
-        first: None,
-        from: End::Low,
+        objective: objective_of(model.goal()),
         before,
     };
-    let last = Way {
-        first: None,
-        from: End::High,
-        before: None,
-    };
-    if first.is_some() {
-        return go_each(&task, &[Way { first, ..plain }, plain, last], &mut bounds);
+    let supposes = lacks_bounds(model, filling);
+    for in_order in [true, false] {
+        let found = go(&task, Way { in_order, supposes })?;
+        if !matches!(found, Found::Nothing) {
+            return Ok(found);
+        }
     }
-    go_each(&task, &[plain, last], &mut bounds)
+    if supposes {
+        let way = Way {
+            in_order: false,
+            supposes: false,
+        };
+        return go(&task, way);
+    }
+    Ok(Found::Nothing)
 }

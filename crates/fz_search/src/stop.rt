@@ -1,14 +1,14 @@
-//! Why a search ends without values.
+//! Why the work at a node ends.
 
 use std::alloc::{AllocError, AllocFailed};
 
-/// Why a search ends without values.
+/// Why the work at a node ends.
 #[derive(Clone, Copy)]
 pub(crate) enum Stop {
-    /// a contradiction was met at the point that is visited
-    Contradiction,
-    /// the budget is spent, or no value was found that suits
-    NothingFound,
+    /// the node is closed, or given up
+    Closed,
+    /// the budget is spent
+    Spent,
     Memory,
 }
 

@@ -1,7 +1,7 @@
-//! What is known of variables and points as a search begins.
+//! What is known of points as a search begins.
 
-use crate::ends::ALL;
-use fz_bounds::{Bounds, Ends, Partial, Search, Sums};
+use crate::proposal::Proposal;
+use fz_bounds::{Ends, Search, Sums};
 use std::alloc::{AllocError, Global};
 
 /// How far the products of a sum can move: the index of the one that moves furthest, and how far
@@ -12,64 +12,43 @@ pub(crate) struct Reach {
     pub(crate) others: i128,
 }
 
-/// The bounds of a variable.
-pub(crate) fn ends_in(bounds: &Bounds, variable: usize) -> Ends {
-    match bounds.ends(variable) {
-        Some(ends) => Ends {
-            low: ends.low,
-            high: ends.high,
-        },
-        None => ALL,
-    }
+/// A point: how many of its variables have no value, the bounds of its sum, and how far its
+/// products can move.
+#[derive(Clone, Copy)]
+pub(crate) struct Measure {
+    pub(crate) open: usize,
+    pub(crate) sums: Sums,
+    pub(crate) reach: Reach,
 }
 
-/// How many variables of each point have no value.
-pub(crate) fn all_open(
+/// The measures of no point.
+pub(crate) const NOTHING: Measure = Measure {
+    open: 0,
+    sums: Sums { least: 0, most: 0 },
+    reach: Reach { top: 0, others: 0 },
+};
+
+/// The measures of each point. How far products move is measured only when it is needed.
+pub(crate) fn measures_of(
     alloc: Global,
     known: &Search,
     points: usize,
-    values: &Partial,
-) -> Result<Vec<usize>, AllocError> {
-    let mut open = Vec::new(alloc);
+    proposal: &Proposal<'_, '_>,
+    ends: &[Ends],
+) -> Result<Vec<Measure>, AllocError> {
+    let mut measures = Vec::new(alloc);
     for point in 0..points {
-        let mut count = 0usize;
+        let mut measure = NOTHING;
+        measure.reach.others = i128::MAX;
         for product in known.products_of(point) {
-            if !values.has(product.variable) {
-                count = count.saturating_add(1);
+            if !proposal.has(product.variable) {
+                measure.open = measure.open.saturating_add(1);
+            }
+            if let Some(ends) = ends.get(product.variable) {
+                measure.sums = measure.sums.with(product.coefficient, *ends);
             }
         }
-        open.push(count)?;
+        measures.push(measure)?;
     }
-    Ok(open)
-}
-
-/// The bounds of the sum of each point.
-pub(crate) fn all_sums(
-    alloc: Global,
-    known: &Search,
-    points: usize,
-    bounds: &Bounds,
-) -> Result<Vec<Sums>, AllocError> {
-    let mut all = Vec::new(alloc);
-    for point in 0..points {
-        let mut sums = Sums { least: 0, most: 0 };
-        for product in known.products_of(point) {
-            sums = sums.with(product.coefficient, ends_in(bounds, product.variable));
-        }
-        all.push(sums)?;
-    }
-    Ok(all)
-}
-
-/// How far products move is measured only when it is needed.
-pub(crate) fn no_reaches(alloc: Global, points: usize) -> Result<Vec<Reach>, AllocError> {
-    let mut reaches = Vec::new(alloc);
-    reaches.resize(
-        points,
-        Reach {
-            top: 0,
-            others: i128::MAX,
-        },
-    )?;
-    Ok(reaches)
+    Ok(measures)
 }
