@@ -34,9 +34,10 @@ abbrev pub LiesAt : Ranges → Term → KindEnds → Type 0
 LiesAt B t e = (A : Assignment) → IsInside B A → (a : ℤ)
     × (value (whole A) t ≡ Some (number_as e.kind a)) × (e.low ≤ℤ a) × (a ≤ℤ e.high)
 
--- the point of the number holds under no assignment inside the bounds that gives the variable one of
--- these numbers (private functions only)
-pub record Excludes (m : Model) (k : ℕ) (B : Ranges) (n : ℕ) (kind : Kind) (from to : ℤ) : Type 0 where
+-- the point of the number holds under no assignment inside the bounds that gives the variable one
+-- of these numbers (private functions only)
+pub record Excludes (m : Model) (k : ℕ) (B : Ranges) (n : ℕ) (kind : Kind) (from to : ℤ)
+    : Type 0 where
   pub never : (p : Point) → slice_get (points m) k ≡ Some p → (A : Assignment) → IsInside B A
       → (a : ℤ) → value_at (whole A) n ≡ Some (number_as kind a) → from ≤ℤ a → a ≤ℤ to
       → HoldsIfKnown (whole A) p → ⊥

@@ -131,8 +131,9 @@ impl<'s, 'a> BoundedConstraint<'s, 'a> {
     /// Whether the element of the second argument, at the index that is the first, is the third.
     pub(crate) fn int_element(&self) -> Outlook
         ensures { (K : Values) → NumberLies self.now 0 K → NumbersLie self.now 1 K
-            → NumberLies self.now 2 K → Decides result (is_element ◌=ℤ◌ (int_at K (given self.now) 0)
-            (ints_at K (given self.now) 1) (int_at K (given self.now) 2)) }
+            → NumberLies self.now 2 K → Decides result (is_element ◌=ℤ◌
+            (int_at K (given self.now) 0) (ints_at K (given self.now) 1)
+            (int_at K (given self.now) 2)) }
     {
         for place in 0..self.count(1) {
             let here = self.number(0).equal(Range::index(place));

@@ -113,8 +113,8 @@ impl<'s, 'a> BoundedConstraint<'s, 'a> {
         Outlook::Open
     }
 
-    /// Whether each element of the first argument is greater by at most one than the greatest before
-    /// it, or than 0.
+    /// Whether each element of the first argument is greater by at most one than the greatest
+    /// before it, or than 0.
     pub(crate) fn rise_by_one(&self) -> Outlook
         ensures { (K : Values) → NumbersLie self.now 0 K
             → Decides result (rises_by_one (pos 0) (ints_at K (given self.now) 0)) }

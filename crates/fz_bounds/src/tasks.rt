@@ -135,8 +135,8 @@ impl<'s, 'a> BoundedConstraint<'s, 'a> {
         false
     }
 
-    /// Whether all durations are 0 or more, and no two tasks have anything in common; empty ones may
-    /// be spared.
+    /// Whether all durations are 0 or more, and no two tasks have anything in common; empty ones
+    /// may be spared.
     pub(crate) fn is_disjunctive(&self, spare: bool) -> Outlook
         ensures { (K : Values) → NumbersLie self.now 0 K → NumbersLie self.now 1 K → Decides result
             (last_naturally (zip (ints_at K (given self.now) 0) (ints_at K (given self.now) 1))

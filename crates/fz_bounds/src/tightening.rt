@@ -124,9 +124,9 @@ impl Bounds {
         requires in_range { asked.now.point < length (points asked.now.model.now) }
         requires ends { AreEndsAt self.old asked.now.variable asked.now.ends }
         ensures same { self.new ≡ self.old }
-        ensures never { IfOk result (λ b. IsTrue b → Excludes asked.now.model.now asked.now.point self.old
-            asked.now.variable asked.now.ends.kind asked.now.ends.low (int_min asked.now.ends.high
-            (low -ℤ pos 1))) }
+        ensures never { IfOk result (λ b. IsTrue b → Excludes asked.now.model.now asked.now.point
+            self.old asked.now.variable asked.now.ends.kind asked.now.ends.low
+            (int_min asked.now.ends.high (low -ℤ pos 1))) }
     {
         if low <= asked.ends.low {
             return Ok(true);
@@ -144,9 +144,9 @@ impl Bounds {
         requires in_range { asked.now.point < length (points asked.now.model.now) }
         requires ends { AreEndsAt self.old asked.now.variable asked.now.ends }
         ensures same { self.new ≡ self.old }
-        ensures never { IfOk result (λ b. IsTrue b → Excludes asked.now.model.now asked.now.point self.old
-            asked.now.variable asked.now.ends.kind (int_max asked.now.ends.low (high +ℤ pos 1))
-            asked.now.ends.high) }
+        ensures never { IfOk result (λ b. IsTrue b → Excludes asked.now.model.now asked.now.point
+            self.old asked.now.variable asked.now.ends.kind
+            (int_max asked.now.ends.low (high +ℤ pos 1)) asked.now.ends.high) }
     {
         if asked.ends.high <= high {
             return Ok(true);
@@ -165,8 +165,8 @@ impl Bounds {
         requires in_range { asked.now.point < length (points asked.now.model.now) }
         requires ends { AreEndsAt self.old asked.now.variable asked.now.ends }
         ensures same { self.new ≡ self.old }
-        ensures never { IfOk result (λ b. IsTrue b → Excludes asked.now.model.now asked.now.point self.old
-            asked.now.variable asked.now.ends.kind from to) }
+        ensures never { IfOk result (λ b. IsTrue b → Excludes asked.now.model.now asked.now.point
+            self.old asked.now.variable asked.now.ends.kind from to) }
     {
         if self.fails_between(alloc, asked, from, to)? {
             return Ok(true);
@@ -193,8 +193,8 @@ impl Bounds {
         requires in_range { asked.now.point < length (points asked.now.model.now) }
         requires ends { AreEndsAt self.old asked.now.variable asked.now.ends }
         ensures same { self.new ≡ self.old }
-        ensures never { IfOk result (λ b. IsTrue b → Excludes asked.now.model.now asked.now.point self.old
-            asked.now.variable asked.now.ends.kind from to) }
+        ensures never { IfOk result (λ b. IsTrue b → Excludes asked.now.model.now asked.now.point
+            self.old asked.now.variable asked.now.ends.kind from to) }
     {
         let ends = asked.ends;
         self.narrow(asked.variable, ends.kind, from, to);

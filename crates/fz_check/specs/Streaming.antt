@@ -1,6 +1,6 @@
 -- What a check over a reader and a writer answers, and what it writes (this project's profile). The
--- bytes that a reader still has and those that a writer got are options: where there is None, as for
--- a file, nothing is said of them. `text` says what is written of an event.
+-- bytes that a reader still has and those that a writer got are options: where there is None, as
+-- for a file, nothing is said of them. `text` says what is written of an event.
 use Rattle.std.specs.Prelude.{◌≡◌, ◌≢◌, ℕ, suc, List, [], ◌∷◌, ◌++◌, ◌⊎◌, ⊤, length, Option}
 use Rattle.std.specs.Io.KnownBytes.{Appends, Consumes, IsAtEnd}
 use Rattle.fz_judge.specs.of_syntax.Places.{standard_limits}
@@ -157,6 +157,6 @@ abbrev pub IsEndedWithin : Limits → Claims → (Event → List ℕ) → Comple
     → Option (List ℕ) → Option (List ℕ) → Option (List ℕ) → Option (List ℕ) → CheckError → Type 0
 IsEndedWithin limits = IsEndedBy limits Whole
 
-abbrev pub IsEnded : Claims → (Event → List ℕ) → Completion → List ℕ → Option (List ℕ) → Option (List ℕ)
-    → Option (List ℕ) → Option (List ℕ) → CheckError → Type 0
+abbrev pub IsEnded : Claims → (Event → List ℕ) → Completion → List ℕ
+    → Option (List ℕ) → Option (List ℕ) → Option (List ℕ) → Option (List ℕ) → CheckError → Type 0
 IsEnded = IsEndedWithin standard_limits

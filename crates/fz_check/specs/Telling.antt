@@ -95,7 +95,7 @@ IsUnjudged most j block (errors.Block n e) = (n ≡ suc j.tally.blocks) × (e �
 IsUnjudged most j block errors.Memory = ⊤
 IsUnjudged most j block _ = ⊥
 
--- The outcomes of blocks that come behind these, where these leave such objectives, go on from them.
+-- The outcomes of blocks that come behind these, which leave such objectives, go on from them.
 abbrev pub OutcomesGoOn : Completion → Model → List SolutionBlock → List Outcome → Option ℤ
     → Option ℤ → Type 0
 OutcomesGoOn c m blocks outcomes filled found =
@@ -169,8 +169,8 @@ IsUnwritten errors.Write = ⊤
 IsUnwritten errors.Memory = ⊤
 IsUnwritten _ = ⊥
 
--- How a check stands that has told of these parts, whether it goes on or not: these bytes were read,
--- in at most so many reads, and once a front of the lines that wait is written, it is one of all.
+-- How a check stands that has told of these parts, whether it goes on or not: these bytes were
+-- read, in at most so many reads, and a front of the waiting lines, once written, is one of all.
 pub record Stands (limits : Limits) (ending : Ending) (claims : Claims)
     (text : Event → List ℕ) (c : Completion) (m : Model) (reads : ℕ)
     (left left' written written' : Option (List ℕ))
@@ -189,7 +189,8 @@ pub record Stands (limits : Limits) (ending : Ending) (claims : Claims)
 
 -- the check ends with this error, once all of the lines that wait are written
 abbrev pub StopsOnceWritten : Limits → Ending → Claims → (Event → List ℕ) → Completion → Model
-    → Option (List ℕ) → Option (List ℕ) → Option (List ℕ) → Option (List ℕ) → List ℕ → CheckError → Type 0
+    → Option (List ℕ) → Option (List ℕ) → Option (List ℕ) → Option (List ℕ) → List ℕ → CheckError
+    → Type 0
 StopsOnceWritten limits ending claims text c m left left' written written' lines e =
     (next : Option (List ℕ)) → Appends written' next lines
     → IsStopped limits ending claims text c m left left' written next e

@@ -22,8 +22,8 @@ pub struct Judged<'e, 'a> {
     /// whether that objective is one of values that were looked for: under the filling alone the
     /// block has none, or another
     pub found: bool,
-    /// why bounds refute the block, where its verdict is that they do: the point of the verdict, and
-    /// the bounds that other points left
+    /// why bounds refute the block, where its verdict is that they do: the point of the verdict,
+    /// and the bounds that other points left
     pub refuted: Option<&'e BoundsRefutation>,
     pub model: &'e Model<'a>,
 }

@@ -44,8 +44,8 @@ pub use report::{Entry, Report, report_text};
 pub use streaming::{MOST_READS, check_events, check_stream, check_stream_up_to};
 pub use tally::Answer;
 
-/// What the lines say that were written before a refusal is so, as it is of a report: of the verdicts
-/// and of the claims that are refuted.
+/// What the lines say that were written before a refusal is so, as it is of a report: of the
+/// verdicts and of the claims that are refuted.
 pub fn written_lines_are_borne_out()
     ensures { WrittenLinesAreBorneOut }
 {}

@@ -87,15 +87,15 @@ fn tell_parts<R: Read, W: Write, T: Taker>(
     }
 }
 
-/// Judges each block of the stream that a reader gives, and writes what the taker says of each event,
-/// with at most `reads` reads of 4,096 bytes. What is to be written for all that was read so far is
-/// written before the next read, and before any answer. One block at a time is in memory. The
-/// limits are those of the model's text, and of the text of a block with the line after it.
+/// Judges each block of the stream that a reader gives, and writes what the taker says of each
+/// event, with at most `reads` reads of 4,096 bytes. What is to be written for all that was read so
+/// far is written before the next read, and before any answer. One block at a time is in memory.
+/// The limits are those of the model's text, and of the text of a block with the line after it.
 ///
-/// Where completion is on, a block is judged by its second filling, and values are searched for that
-/// the solver left out. What is found is judged as the filling is: it makes no block violated. It can
-/// make an undecided block satisfied, and a satisfied one undecided, where its objective isn't better
-/// than one that was found for the block before.
+/// Where completion is on, a block is judged by its second filling, and values are searched for
+/// that the solver left out. What is found is judged as the filling is: it makes no block violated.
+/// It can make an undecided block satisfied, and a satisfied one undecided, where its objective
+/// isn't better than one that was found for the block before.
 ///
 /// Where cutting is on, a stream that ends inside a block is no fault: the block is cut off, which
 /// is told before the answer, and the bytes before it are judged. A claim's line without LF in that
@@ -212,8 +212,8 @@ pub fn check_stream<R: Read, W: Write>(
         → HoldsOfStream (R.remaining reader.old) (R.remaining reader.new)
         (λ given. HasSolutions model.now given count)) }
     ensures report { IfOk result (λ a. HoldsOfStream (R.remaining reader.old)
-        (R.remaining reader.new) (λ given. IsReportedTo Claims.NotJudged event_line Completion.Off model.now given
-        (W.contents writer.old) (W.contents writer.new) (answer_view a))) }
+        (R.remaining reader.new) (λ given. IsReportedTo Claims.NotJudged event_line Completion.Off
+        model.now given (W.contents writer.old) (W.contents writer.new) (answer_view a))) }
     ensures refused { IfErr result (IsEnded Claims.NotJudged event_line Completion.Off model.now
         (R.remaining reader.old) (R.remaining reader.new) (W.contents writer.old)
         (W.contents writer.new)) }

@@ -201,8 +201,8 @@ fn read_text<'a>(alloc: Global, source: &'a [u8], limits: Limits) -> Result<Mode
 ///
 /// # Errors
 ///
-/// `Text` with the error of `parse_within`, or else `Names` with that of `load`: a fault of the text comes
-/// before each of names, wherever it is.
+/// `Text` with the error of `parse_within`, or else `Names` with that of `load`: a fault of the
+/// text comes before each of names, wherever it is.
 pub fn load_text<'a>(
     alloc: Global,
     source: &'a [u8],

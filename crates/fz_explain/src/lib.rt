@@ -1,8 +1,8 @@
 //! What is behind a verdict on a block, or a refusal, for a person to act on. Data under contracts
 //! are the point that a verdict is about, the variables in that point, and where the value of each
-//! comes from. Messages in the form of a compiler's show these: an `Explainer` explains the verdicts
-//! on blocks, `message_at` shows a byte range of a file or a stream. No contract speaks of their
-//! words and layout, which `tests/explained` tests.
+//! comes from. Messages in the form of a compiler's show these: an `Explainer` explains the
+//! verdicts on blocks, `message_at` shows a byte range of a file or a stream. No contract speaks of
+//! their words and layout, which `tests/explained` tests.
 #![tactic(auto)]
 
 mod binding;

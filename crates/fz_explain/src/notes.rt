@@ -1,5 +1,5 @@
-//! The notes of a message on variables, with their values or bounds and where these come from, and on
-//! domains.
+//! The notes of a message on variables, with their values or bounds and where these come from, and
+//! on domains.
 
 use crate::bounds::{Bounds, bounds_text};
 use crate::excerpt::shown_text;

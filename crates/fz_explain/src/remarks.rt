@@ -1,5 +1,5 @@
-//! What the MiniZinc compiler wrote at a point on where it is from: the names of a constraint and of
-//! its expression, and the path to it in the model.
+//! What the MiniZinc compiler wrote at a point on where it is from: the names of a constraint and
+//! of its expression, and the path to it in the model.
 
 use crate::excerpt::{cut_text, shown_text};
 use crate::place::point_notes;

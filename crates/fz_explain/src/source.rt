@@ -42,8 +42,8 @@ pub(crate) fn source_of(filling: &Partial, steps: &[Giver], variable: usize) -> 
     }
 }
 
-/// Where the steps are those from the printed values to a filling, a value that is told as given was
-/// given from values that are printed or that steps before gave.
+/// Where the steps are those from the printed values to a filling, a value that is told as given
+/// was given from values that are printed or that steps before gave.
 pub fn sources_are_earlier()
     ensures { SourcesAreEarlier }
 {}

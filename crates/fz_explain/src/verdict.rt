@@ -133,8 +133,8 @@ fn note_first(
     }
 }
 
-/// Adds what the text of the model has at the point of a verdict: what the compiler wrote there, and
-/// the values that are fixed.
+/// Adds what the text of the model has at the point of a verdict: what the compiler wrote there,
+/// and the values that are fixed.
 fn note_text(
     alloc: Global,
     reading: &Reading<'_, '_, '_, '_, '_>,

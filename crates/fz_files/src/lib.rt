@@ -1,7 +1,7 @@
 //! What the program reads and writes: a file up to a limit of bytes (`read_up_to`), why it can't be
 //! read (`failure_text`), a reader that stores the last of what it gave (`Recorder`), a line that
-//! shows how far a check is (`Progress`), lines of JSON (`Object`), and a writer that writes them in
-//! the place of a text (`InPlace`).
+//! shows how far a check is (`Progress`), lines of JSON (`Object`), and a writer that writes them
+//! in the place of a text (`InPlace`).
 //!
 //! Tests are in `tests/program.sh` and `tests/explained`.
 #![tactic(auto)]

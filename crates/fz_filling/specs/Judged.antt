@@ -16,8 +16,8 @@ use Rattle.fz_filling.specs.declared.error.BlockError.{BlockError}
 use Rattle.fz_filling.specs.declared.error.BlockError.TheVariants as errors
 
 -- a judge: the model, whether values are looked for, and the objective of the block before, under
--- its filling and under the values with which it was satisfied; and the point whose bounds refute the
--- block before, where they do
+-- its filling and under the values with which it was satisfied; and the point whose bounds refute
+-- the block before, where they do
 pub record JudgeState : Type 0 where
   pub model : Model
   pub completion : Completion

@@ -142,7 +142,8 @@ pub record IsProposed (m : Model) (block : SolutionBlock) (K : Partial) : Type 0
   pub has_start : HasEach (start m block) K
 
 -- the filling of a block that fits the model
-pub record IsFilled (c : Completion) (m : Model) (block : SolutionBlock) (F : Partial) : Type 0 where
+pub record IsFilled (c : Completion) (m : Model) (block : SolutionBlock) (F : Partial)
+    : Type 0 where
   pub fits : AllFit m block.items
   pub filling : IsFilling c m block F
 

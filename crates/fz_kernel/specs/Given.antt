@@ -101,8 +101,8 @@ abbrev pub read_unknown : Partial → List Argument → Wide → Bool
 read_unknown K xs (Products i j) = false
 read_unknown K xs (Power i j) = int_lt (int_at K xs j) (pos 0)
 
--- the products of the numbers of two array arguments, added from the left, leave 128 bits; the power
--- of two scalars isn't known or leaves them
+-- the products of the numbers of two array arguments, added from the left, leave 128 bits; the
+-- power of two scalars isn't known or leaves them
 abbrev pub read_leaves : Partial → List Argument → Wide → Bool
 read_leaves K xs (Products i j) = leaves_128 (products (ints_at K xs i) (ints_at K xs j))
 read_leaves K xs (Power i j) = read_unknown K xs (Power i j)

@@ -1,7 +1,7 @@
 -- The element of an array that a name is, with its indices (this project's profile; MiniZinc
 -- Handbook, FlatZinc, "Annotations"). An array that is printed has the annotation
--- `output_array([S1,S2,..])`, with a range for each of its index sets. Its elements are in the order
--- of their indices, of which the last runs fastest.
+-- `output_array([S1,S2,..])`, with a range for each of its index sets. Its elements are in the
+-- order of their indices, of which the last runs fastest.
 use Rattle.std.specs.Prelude.{ℕ, ℤ, pos, ◌+ℤ◌, ◌/◌, ◌%◌, ◌==◌, Bool, false, cond, List, [], ◌∷◌, Option, Some, None, bytes_eq, codes, option_map}
 use Rattle.std.specs.List.{position_from}
 use Rattle.std.specs.Option.{option_and_then}

@@ -38,7 +38,8 @@ fn range_of(set: &NoteBasic<'_>) -> Option<(i64, i64)>
 
 /// The elements of a list.
 fn listed<'t, 'a>(arg: &'t NoteArg<'a>) -> Option<&'t [NoteBasic<'a>]>
-    ensures { option_map (λ s. basic_list (map bare_basic s.now)) result ≡ listed (bare_arg arg.now) }
+    ensures { option_map (λ s. basic_list (map bare_basic s.now)) result
+        ≡ listed (bare_arg arg.now) }
 {
     match arg {
         NoteArg::List(basics) => Some(basics),
@@ -133,8 +134,8 @@ fn place_in(value: &Option<Expr<'_>>, name: &[u8]) -> Option<usize>
     }
 }
 
-/// The indices of the element at a place, from 0, of the array that is declared, by the index sets of
-/// its annotation.
+/// The indices of the element at a place, from 0, of the array that is declared, by the index sets
+/// of its annotation.
 pub fn indices_of(
     alloc: Global,
     decl: &Decl<'_>,

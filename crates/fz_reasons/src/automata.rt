@@ -51,8 +51,8 @@ fn near_row(
     Ok(nearest(&list, &table))
 }
 
-/// The beginning where that is no state, the first symbol that leads to no state, or the state at the
-/// end where that isn't one of the last.
+/// The beginning where that is no state, the first symbol that leads to no state, or the state at
+/// the end where that isn't one of the last.
 #[tactic(auto, unfolding(crate::specs::Reasons::Says))]
 fn by_automaton(view: &ArgumentView<'_, '_>) -> Option<Reason>
     ensures { IfSome result (Says FznRegular (assigned view.now) (arguments_of view.now)) }

@@ -82,8 +82,8 @@ fn by_numbers(builtin: Builtin, view: &ArgumentView<'_, '_>) -> Option<Reason>
     by_tasks(builtin, view)
 }
 
-/// Whether the row of a builtin holds at the values that the argument view gives; it doesn't where a
-/// number of it can't be computed.
+/// Whether the row of a builtin holds at the values that the argument view gives; it doesn't where
+/// a number of it can't be computed.
 pub(crate) fn holds(
     alloc: Global,
     builtin: Builtin,

@@ -8,7 +8,7 @@ use Rattle.fz_kernel.specs.of_meaning.Relations.{◌=ℤ◌, Span, Box, marks, a
 abbrev pub number_at : List ℤ → ℕ → ℤ
 number_at xs i = get_or xs i (pos 0)
 
--- what is added up along a list: its elements, or 1 for each that is in the set and 0 for the others
+-- what is added up along a list: its elements, or 1 for each that is in the set and 0 for others
 abbrev pub terms : Option NumberSet → List ℤ → List ℤ
 terms None xs = xs
 terms (Some s) xs = marks s xs

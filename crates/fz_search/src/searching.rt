@@ -225,7 +225,8 @@ fn attempt(
 ) -> Result<Option<Found>, AllocError>
     requires fits { IsPartial task.now.model.now task.now.filling.now }
     requires inside { HoldAll task.now.model.now task.now.filling.now bounds.old }
-    ensures found { IfOk result (λ o. IfSome o (IsFoundFor task.now.model.now task.now.filling.now)) }
+    ensures found { IfOk result (λ o. IfSome o
+        (IsFoundFor task.now.model.now task.now.filling.now)) }
     ensures inside { IfOk result (λ _. HoldAll task.now.model.now task.now.filling.now bounds.new) }
 {
     let (found, conflict) = gone(task, way, bounds, budget)?;

@@ -1,4 +1,4 @@
-//! Shaving: numbers at the ends of a variable's bounds with which a point can't hold are taken away.
+//! Shaving: numbers at the ends of a variable's bounds by which a point can't hold are taken away.
 
 use crate::stop::Stop;
 use crate::work::Work;

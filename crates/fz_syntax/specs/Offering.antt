@@ -1,7 +1,8 @@
 -- The items of a model as they are offered, one after another, each kind in its turn. A reader need
--- believe only what is above `Part`. The rest says what is left to be offered: `PredicateItems::new`
--- promises that what is left then is all of the text, each call that with the item that it offers
--- what is left behind it was left before, and the last one that nothing is left.
+-- believe only what is above `Part`. The rest says what is left to be offered:
+-- `PredicateItems::new` promises that what is left then is all of the text, each call that with the
+-- item that it offers what is left behind it was left before, and the last one that nothing is
+-- left.
 use Rattle.std.specs.Prelude.{◌≡◌, ◌<◌, ◌≤◌, ℕ, List, [], ◌∷◌, ◌++◌, map, length, codes, Bool, None, Result, Ok, Err}
 use Rattle.std.specs.List.{flat_map}
 use Rattle.fz_tree.specs.of_lex.View.{IsLexicalFaultWithin, IsPlacedWithin}
