@@ -66,12 +66,7 @@ fn is_output(note: &Note<'_>) -> bool {
 }
 
 fn has_output(notes: &[Note<'_>]) -> bool {
-    for note in notes {
-        if is_output(note) {
-            return true;
-        }
-    }
-    false
+    notes.iter().any(|note| is_output(note))
 }
 
 /// Adds the variables among the elements of an array.

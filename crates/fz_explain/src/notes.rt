@@ -428,12 +428,7 @@ fn note_basic(
 }
 
 fn is_told(fixed: &[FixedNote], name: &str) -> bool {
-    for note in fixed {
-        if note.name.as_str() == name {
-            return true;
-        }
-    }
-    false
+    fixed.iter().any(|note| note.name.as_str() == name)
 }
 
 /// The value of a parameter, or a list of values: of more than twelve the first eight, how many

@@ -32,12 +32,10 @@ fn has_coefficients(parts: &ConstraintParts<'_, '_>, terms: Terms) -> bool {
         Terms::Weighted => elements_in(parts, 0),
         _ => return true,
     };
-    for slot in coefficients.slots {
-        if matches!(slot, Slot::Variable(_)) {
-            return false;
-        }
-    }
-    true
+    coefficients
+        .slots
+        .iter()
+        .all(|slot| !matches!(slot, Slot::Variable(_)))
 }
 
 /// The lists of the points so far, and what is needed to add one.
