@@ -84,14 +84,14 @@ fn check_readers<'a, M: Read + Drop, S: Read + Drop>(
 }
 
 /// Checks the stream against the text of the model, with the table of its names.
-pub fn check_stream<'a, S: Read + Drop>(
-    rt: &HostRuntime,
-    task: &Task<'a>,
+pub fn check_stream<'x, S: Read + Drop>(
+    rt: &'x HostRuntime,
+    task: &'x Task<'x>,
     claims: Claims<'_>,
-    model: &[u8],
+    model: &'x [u8],
     names: NameTable<'_>,
     stream: S,
-) -> Result<u8, Unread<'a>> {
+) -> u8 {
     let options = task.options;
     let recent = RefCell::new(Recent::new(rt.alloc()));
     let detail = Detail::of(rt, options.explains != Explaining::Nothing);
@@ -109,25 +109,20 @@ pub fn check_stream<'a, S: Read + Drop>(
     let mut teller = Teller::new(rt, options, explainer, task.stream, &recent);
     let outcome = match options.form {
         Form::Text => check_to(rt, task, claims, model, &mut stream, &mut teller),
-        Form::Json => {
-            let mut taker = JsonTeller {
-                teller: &mut teller,
-            };
-            check_to(rt, task, claims, model, &mut stream, &mut taker)
-        }
+        Form::Json => check_to_json(rt, task, claims, model, &mut stream, &mut teller),
     };
     teller.clear();
     match outcome {
         Ok(answer) => {
             teller.tell();
             teller.tell_unconstrained();
-            Ok(status(&Ok(answer)))
+            status(&Ok(answer))
         }
         Err(CheckError::Read) => {
-            let failure = stream.into_failure();
-            Err(Unread::new(CheckError::Read, task.stream, failure))
+            let unread = Unread::new(CheckError::Read, task.stream, stream.into_failure());
+            refuse_reading(rt, task, &unread)
         }
-        Err(error) => Ok(refuse_check(rt, task, &text, stored, &error, detail)),
+        Err(error) => refuse_check(rt, task, &text, stored, &error, detail),
     }
 }
 
@@ -151,6 +146,19 @@ fn check_to<S: Read, T: Taker>(
         MOST_READS,
         options,
     )
+}
+
+/// The same, where the report is JSON.
+fn check_to_json<S: Read>(
+    rt: &HostRuntime,
+    task: &Task<'_>,
+    claims: Claims<'_>,
+    model: &[u8],
+    stream: &mut S,
+    teller: &mut Teller<'_, '_>,
+) -> Result<Answer, CheckError> {
+    let mut taker = JsonTeller { teller };
+    check_to(rt, task, claims, model, stream, &mut taker)
 }
 
 /// Refuses the check since a file can't be read.

@@ -27,14 +27,14 @@ pub fn check_with_names<'a, S: Read + Drop>(
 ) -> Result<u8, Unread<'a>> {
     let Some(name) = task.names else {
         let names = NameTable::empty(rt.alloc());
-        return check_stream(rt, task, claims, model, names, stream);
+        return Ok(check_stream(rt, task, claims, model, names, stream));
     };
     let bytes = read_file(rt, name, MOST_BYTES)?;
     if bytes.len() > MOST_BYTES as usize {
         return Ok(refuse_table(rt, task, None, None));
     }
     match NameTable::read(rt.alloc(), &bytes) {
-        Ok(names) => check_stream(rt, task, claims, model, names, stream),
+        Ok(names) => Ok(check_stream(rt, task, claims, model, names, stream)),
         Err(TableError::Memory) => Err(Unread::new(CheckError::Memory, name, None)),
         Err(TableError::Columns(place)) => Ok(refuse_line(rt, task, name, &bytes, place)),
     }
