@@ -22,6 +22,7 @@ FIXED = {
     "value_precede_chain_int": "0", "sliding_sum": "012", "among_seq_int": "1234",
     "set_weights": "01", "at_least_int": "02", "at_most_int": "02", "exactly_int": "02",
     "link_set_to_booleans": "2", "int_set_channel": "13", "inverse_set": "23", "knapsack": "01",
+    "range": "1",
     "maximum_arg_int_offset": "1", "minimum_arg_int_offset": "1", "maximum_arg_bool_offset": "1",
 }
 # Where libraries may well differ from the table: an argument with a number below 0, with a number
@@ -41,7 +42,8 @@ DISPUTED = (
     ("link_set", OUTSIDE, "012"),
 )
 FRONTS = ("fzn_", "gecode_", "geas_", "fzcheck_")
-OFFSETS = ("circuit", "offset", "channel", "inverse_set", "link_set", "bin_packing_load")
+OFFSETS = ("circuit", "offset", "channel", "inverse_set", "link_set", "bin_packing_load",
+           "gecode_range")
 RANGES = [range(low, high + 1) for low, high in (
     (0, 1), (0, 2), (1, 3), (0, 4), (1, 4), (-2, 3), (-3, 0), (-1, 1))]
 SPARSE = [frozenset(it) for it in ((1, 3, 4), (0, 2, 5), (-3, 0, 2), (1, 5), (-4, -1))]

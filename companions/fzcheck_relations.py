@@ -192,6 +192,13 @@ def union_at(x: Set, y: List[Set]) -> Optional[Set]:
     return frozenset().union(*(y[i - 1] for i in x))
 
 
+def values_at(x: Numbers, o: int, s: Set) -> Optional[Set]:
+    """None where s has what is no index of x."""
+    if not s <= set(range(o, o + len(x))):
+        return None
+    return frozenset(x[i - o] for i in s)
+
+
 def partition(parts: List[Set], whole: Set) -> bool:
     return set().union(*parts) == whole and sum(map(len, parts)) == len(whole)
 
@@ -292,6 +299,7 @@ RESULTS: Dict[str, Tuple[str, int, Callable[..., Any]]] = {
         lambda x, o: o + x.index(max(x)) if x else None,
     ),
     "gecode_set_weights": ("[I] [I] S I", 3, weight),
+    "gecode_range": ("[I] I S S", 3, values_at),
 }
 WHOLE_ROWS: Dict[str, Callable[..., bool]] = {
     "fzn_table_int": has_rows,

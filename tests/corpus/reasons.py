@@ -245,6 +245,12 @@ def in_chosen(args, number, sets, third):
     return in_one([chosen, args[2]], number, sets, third)
 
 
+def in_range(args, number, elements, fourth):
+    x, first, indices, wanted = args
+    chosen = [x[i - first] for i in indices if first <= i < first + len(x)]
+    return (int(number) in chosen) == (elements == "one") != (int(number) in wanted) == (fourth == "in")
+
+
 def in_one(args, number, sets, whole):
     return any(int(number) in it for it in args[0]) == (sets == "one") != (int(number) in args[1]) == (whole == "in")
 
@@ -362,6 +368,9 @@ FORMS = {
         in_sets([at(a[1], a[0]), a[2]], v, *there) and there[0] != there[1]),
     f"({NUMBER}) is in (one|none) of the chosen sets and (in|not in) the third": lambda n, a, *p: in_chosen(a, *p),
     f"({NUMBER}) is in the first, and no index": lambda n, a, v: int(v) in a[0] and at(a[1], v) is None,
+    f"({NUMBER}) is (one|none) of the chosen elements and (in|not in) the fourth": lambda n, a, *p: in_range(a, *p),
+    f"({NUMBER}) is in the third, and no index": lambda n, a, v: (
+        int(v) in a[2] and not a[1] <= int(v) < a[1] + len(a[0])),
     f"({NUMBER}) is in (one|none) of the sets and (in|not in) the whole": lambda n, a, *p: in_one(a, *p),
     f"({NUMBER}) is (in|not in) the set, and its Boolean (is|isn't) true": lambda n, a, *p: flagged(a, *p),
 }

@@ -1,5 +1,5 @@
 % keeps: fzn_disjoint fzn_partition_set gecode_int_set_channel gecode_inverse_set
-% keeps: gecode_link_set_to_booleans gecode_precede_set
+% keeps: gecode_link_set_to_booleans gecode_precede_set gecode_range
 include "globals.mzn";
 
 var set of 1..4: s;
@@ -16,6 +16,7 @@ constraint card(s) = 2 /\ card(t) = 1;
 constraint partition_set(parts, 1..4);
 constraint int_set_channel(group, members);
 constraint link_set_to_booleans(s, chosen);
+constraint range(group, s, t);
 constraint inverse_set(likes, liked);
 constraint value_precede(1, 2, likes);
 

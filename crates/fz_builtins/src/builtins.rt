@@ -217,6 +217,7 @@ pub fn said_of<'s>(
         Builtin::GecodeLinkSetToBooleans => Ok(Whether(Truth(flags::link_set_to_booleans(view)))),
         Builtin::GecodeIntSetChannel => Ok(Whether(Truth(flags::int_set_channel(view)))),
         Builtin::GecodeInverseSet => Ok(Whether(Truth(flags::inverse_set(view)))),
+        Builtin::GecodeRange => flags::range(alloc, view),
         Builtin::FznDisjoint => Ok(Whether(Truth(flags::disjoint(view)))),
         Builtin::FznPartitionSet => Ok(Whether(Truth(flags::partition_set(alloc, view)?))),
     }

@@ -3,14 +3,14 @@
 ghost use Rattle.std.specs.Prelude.{◌≡◌, IfOk, Bool};
 ghost use Rattle.fz_globals.specs.of_meaning.Relations.{is_convex, is_flagged, are_disjoint, is_partition, are_channelled, are_inverse_sets};
 ghost use Rattle.fz_globals.specs.of_meaning.Builtins.{row_at};
-ghost use Rattle.fz_globals.specs.of_meaning.declared.builtin.Builtin.TheVariants.{GecodeArraySetElementUnion};
+ghost use Rattle.fz_globals.specs.of_meaning.declared.builtin.Builtin.TheVariants.{GecodeArraySetElementUnion, GecodeRange};
 ghost use Rattle.fz_globals.specs.of_kernel.Views.{arguments_of, assigned};
 ghost use Rattle.fz_builtins.specs.Readings.{int, ints, numbers, sets_of, truths};
 ghost use Rattle.fz_builtins.specs.Said.{IsSaid};
 
 use crate::said::Said;
 use fz_globals::channels::are_channelled;
-use fz_globals::chosen::{are_inverse_sets, union_of_chosen};
+use fz_globals::chosen::{are_inverse_sets, set_of_chosen, union_of_chosen};
 use fz_globals::convex::is_convex;
 use fz_globals::flags::is_flagged;
 use fz_globals::partition::{are_disjoint, is_partition};
@@ -85,4 +85,19 @@ pub(crate) fn set_element_union<'s>(
         return Ok(Said::Given(2, None));
     }
     Ok(Said::Set(2, union_of_chosen(alloc, indices, &parts)?))
+}
+
+/// The set of the elements whose indices are in the third argument; none where one is no index.
+pub(crate) fn range<'s>(alloc: Global, view: &ArgumentView<'s, '_>) -> Result<Said<'s>, SetError>
+    ensures { IfOk result (λ s. (first : Bool) → IsSaid (row_at GecodeRange) first
+        (assigned view.now) (arguments_of view.now) s) }
+{
+    let numbers = view.elements(0);
+    let offset = view.int(1);
+    let indices = view.set(2);
+    if !are_indices(indices, offset, numbers.len()) {
+        return Ok(Said::Given(3, None));
+    }
+    let chosen = set_of_chosen(alloc, &numbers, offset, indices)?;
+    Ok(Said::Set(3, chosen))
 }

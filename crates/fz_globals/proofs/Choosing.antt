@@ -1,5 +1,5 @@
--- The sets whose indices are in a set, one after another.
-use Rattle.std.proofs.Common.{◌≡◌, ℕ, ◌+◌, ◌≤◌, ℤ, pos, ◌+ℤ◌, Bool, true, false, ◌&&◌, ◌||◌, if◌then◌else◌, List, ◌∷◌, drop, length, Some, slice_get, refl, sym, ap, ◌∙◌}
+-- The elements whose indices are in a set, one after another.
+use Rattle.std.proofs.Common.{◌≡◌, ℕ, ◌+◌, ◌≤◌, ℤ, pos, ◌+ℤ◌, Bool, true, false, ◌&&◌, ◌||◌, if◌then◌else◌, List, [], ◌∷◌, ◌++◌, append-nil, append_assoc, drop, length, Some, slice_get, refl, sym, ap, ◌∙◌}
 use Rattle.std.specs.List.{list_all}
 use Rattle.std.specs.Ordering.{int_cmp}
 use Rattle.std.specs.Cmp.{int_cmp_total}
@@ -8,24 +8,51 @@ use Rattle.fz_kernel.specs.of_meaning.of_syntax.Sets.{NumberSet}
 use Rattle.fz_kernel.proofs.of_meaning.of_base.Numbers.{same_numbers}
 use Rattle.fz_kernel.specs.of_meaning.Relations.{chosen, indices_from, refer_back, union_of}
 use Rattle.fz_kernel.proofs.Left.{next, none_left}
-use Rattle.fz_globals.proofs.FirstBest.{one_on}
+use Rattle.fz_globals.proofs.FirstBest.{from_first, one_on}
 
--- the sets from the i-th position on that are chosen
-abbrev pub left : ℤ → List NumberSet → NumberSet → ℕ → List NumberSet
-left o ss s i = chosen (o +ℤ pos i) (drop i ss) s
+-- those from the i-th position on that are chosen
+abbrev pub left : {A : Type 0} → ℤ → List A → NumberSet → ℕ → List A
+left o xs s i = chosen (o +ℤ pos i) (drop i xs) s
 
-module _ (o : ℤ) (ss : List NumberSet) (s : NumberSet) (i : ℕ) (x : NumberSet) (at : slice_get ss i ≡ Some x) where
+module _ {A : Type 0} (o : ℤ) (xs : List A) (s : NumberSet) (i : ℕ) (x : A) (at : slice_get xs i ≡ Some x) where
   here : (b : Bool) → contains s (o +ℤ pos i) ≡ b
-      → left o ss s i ≡ (if b then x ∷ left o ss s (i + 1) else left o ss s (i + 1))
+      → left o xs s i ≡ (if b then x ∷ left o xs s (i + 1) else left o xs s (i + 1))
   here b is =
-      ap (λ l. chosen (o +ℤ pos i) l s) (next ss i x at)
-      ∙ (λ k. if is k then x ∷ chosen (one_on o i k) (drop (i + 1) ss) s else chosen (one_on o i k) (drop (i + 1) ss) s)
+      ap (λ l. chosen (o +ℤ pos i) l s) (next xs i x at)
+      ∙ (λ k. if is k then x ∷ chosen (one_on o i k) (drop (i + 1) xs) s else chosen (one_on o i k) (drop (i + 1) xs) s)
 
-  pub one_chosen : contains s (o +ℤ pos i) ≡ true → left o ss s i ≡ x ∷ left o ss s (i + 1)
+  pub one_chosen : contains s (o +ℤ pos i) ≡ true → left o xs s i ≡ x ∷ left o xs s (i + 1)
   one_chosen is = here true is
 
-  pub none_chosen : contains s (o +ℤ pos i) ≡ false → left o ss s i ≡ left o ss s (i + 1)
+  pub none_chosen : contains s (o +ℤ pos i) ≡ false → left o xs s i ≡ left o xs s (i + 1)
   none_chosen is = here false is
+
+-- ---- a list of them
+
+-- the list so far, with what is left, is that of all
+abbrev pub AreListed : {A : Type 0} → ℤ → List A → NumberSet → ℕ → List A → Type 0
+AreListed o xs s i ys = ys ++ left o xs s i ≡ chosen o xs s
+
+module _ {A : Type 0} (o : ℤ) (xs : List A) (s : NumberSet) where
+  pub none_listed : (ys : List A) → ys ≡ [] → AreListed o xs s 0 ys
+  none_listed ys is = ap (λ l. l ++ left o xs s 0) is ∙ ap (λ j. chosen j xs s) (from_first o)
+
+  module _ (i : ℕ) (ys : List A) (so_far : AreListed o xs s i ys) where
+    pub one_listed : (x : A) → slice_get xs i ≡ Some x → contains s (o +ℤ pos i) ≡ true
+        → (zs : List A) → zs ≡ ys ++ x ∷ [] → AreListed o xs s (i + 1) zs
+    one_listed x at is zs pushed =
+        ap (λ l. l ++ left o xs s (i + 1)) pushed ∙ append_assoc ys (x ∷ []) (left o xs s (i + 1))
+        ∙ ap (λ l. ys ++ l) (sym (one_chosen o xs s i x at is)) ∙ so_far
+
+    pub none_more_listed : (x : A) → slice_get xs i ≡ Some x → contains s (o +ℤ pos i) ≡ false
+        → (zs : List A) → zs ≡ ys → AreListed o xs s (i + 1) zs
+    none_more_listed x at is zs same =
+        ap (λ l. l ++ left o xs s (i + 1)) same
+        ∙ ap (λ l. ys ++ l) (sym (none_chosen o xs s i x at is)) ∙ so_far
+
+    pub all_listed : length xs ≤ i → ys ≡ chosen o xs s
+    all_listed end =
+        sym (ap (λ l. ys ++ chosen (o +ℤ pos i) l s) (none_left xs i end) ∙ append-nil ys) ∙ so_far
 
 -- ---- their union
 

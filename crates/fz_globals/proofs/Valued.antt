@@ -23,6 +23,9 @@ all_turned : (a : ℤ) (xs : List ℤ) → list_any (eq_by_cmp int_cmp a) xs ≡
 all_turned a [] = refl
 all_turned a (x ∷ xs) = ap (λ s. s || list_any (eq_by_cmp int_cmp a) xs) (turned a x) ∙ ap (λ s. (x =ℤ a) || s) (all_turned a xs)
 
+pub in_listed : (a : ℤ) (xs : List ℤ) → contains (from_list {R = int_cmp} xs) a ≡ is_among a xs
+in_listed a xs = contains-from_list int_cmp_total xs a ∙ all_turned a xs
+
 one_more : (b : Bool) (x : ℤ) (vs : List ℤ) (n : ℕ) → length vs ≡ n
     → length (cond b vs (x ∷ vs)) ≡ cond b n (n + 1)
 one_more true x vs n e = e
@@ -31,9 +34,8 @@ one_more false x vs n e = omega arith
 values_are : (xs : List ℤ) → length (values_of xs) ≡ len (from_list {R = int_cmp} xs)
 values_are [] = sym (len-empty int_cmp)
 values_are (x ∷ xs) =
-    let listed : contains (from_list {R = int_cmp} xs) x ≡ is_among x xs = contains-from_list int_cmp_total xs x ∙ all_turned x xs in
     one_more (is_among x xs) x (values_of xs) (len (from_list {R = int_cmp} xs)) (values_are xs)
-    ∙ ap (λ b. cond b (len (from_list {R = int_cmp} xs)) (len (from_list {R = int_cmp} xs) + 1)) (sym listed)
+    ∙ ap (λ b. cond b (len (from_list {R = int_cmp} xs)) (len (from_list {R = int_cmp} xs) + 1)) (sym (in_listed x xs))
     ∙ sym (len-insert int_cmp_total (from_list {R = int_cmp} xs) x)
 
 pub values-permutation : (xs ys : List ℤ) → IsPermutation xs ys

@@ -1,14 +1,14 @@
-// The sets of an array whose indices are in a set.
+// The elements of an array whose indices are in a set.
 ghost use Rattle.std.specs.Prelude.{◌≡◌, ◌&&◌, IfOk, length, pos};
 ghost use Rattle.std.specs.List.{list_all};
-ghost use Rattle.std.specs.FinSet.{contains, is_subset};
+ghost use Rattle.std.specs.FinSet.{contains, from_list, is_subset};
 ghost use Rattle.fz_kernel.specs.of_meaning.Relations.{are_inverse_sets, chosen, indices_from, refer_back, union_of};
-ghost use Rattle.fz_kernel.specs.Views.{sets};
+ghost use Rattle.fz_kernel.specs.Views.{ints, sets};
 
 use crate::flags::has;
 use crate::indices::{are_indices, index_at};
 use fz_kernel::{Elements, IntSet, SetError};
-use std::alloc::Global;
+use std::alloc::{AllocError, Global};
 
 /// The union of the sets whose indices, from 1 on, are in `indices`.
 pub fn union_of_chosen(
@@ -26,6 +26,39 @@ pub fn union_of_chosen(
         }
     }
     Ok(union)
+}
+
+/// The set of the numbers whose indices, from `first` on, are in `indices`.
+pub fn set_of_chosen(
+    alloc: Global,
+    numbers: &Elements,
+    first: i64,
+    indices: &IntSet,
+) -> Result<IntSet, SetError>
+    ensures exact { IfOk result (λ s. s ≡ from_list (chosen first (ints numbers.now)
+        indices.now)) }
+{
+    IntSet::list(alloc, &chosen_numbers(alloc, numbers, first, indices)?)
+}
+
+// The numbers whose indices, from `first` on, are in `indices`, in their order.
+#[tactic(auto, using(crate::proofs::Choosing::none_listed))]
+fn chosen_numbers(
+    alloc: Global,
+    numbers: &Elements,
+    first: i64,
+    indices: &IntSet,
+) -> Result<Vec<i64>, AllocError>
+    ensures { IfOk result (λ v. v.items ≡ chosen first (ints numbers.now) indices.now) }
+{
+    let mut listed = Vec::with_capacity(alloc, numbers.len())?;
+    for place in 0..numbers.len() {
+        let number = numbers.int(place);
+        if has(indices, index_at(first, place)) {
+            listed.push(number)?;
+        }
+    }
+    Ok(listed)
 }
 
 /// Whether each set of one array has only indices of sets of the other that have its own index, and

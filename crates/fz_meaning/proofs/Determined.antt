@@ -20,7 +20,7 @@ use Rattle.fz_meaning.proofs.Lists.{all_append}
 use Rattle.fz_meaning.proofs.WithTruth.{reified_result}
 use Rattle.fz_meaning.proofs.Values.{no, and_first, and_second, int_itself, same_int, same_bool, same_set_is}
 use Rattle.fz_meaning.specs.declared.builtin.Builtin.{Builtin}
-use Rattle.fz_meaning.specs.declared.builtin.Builtin.TheVariants.{GecodeMaximumArgIntOffset, GecodeMinimumArgIntOffset, GecodeMaximumArgBoolOffset, GecodeSetWeights, FznCountEq, FznAmong, FznNvalue, IntEq, IntLinEq, IntPlus, IntMinus, IntTimes, IntMin, IntMax, IntAbs, IntNegate, IntDiv, IntMod, IntPow, ArrayIntElement, ArrayIntMaximum, ArrayIntMinimum, BoolEq, BoolNot, BoolAnd, BoolOr, BoolXor, ArrayBoolAnd, ArrayBoolOr, ArrayBoolElement, Bool2Int, BoolLinEq, SetEq, SetUnion, SetIntersect, SetDiff, SetSymdiff, SetCard, ArraySetElement, GecodeArraySetElementUnion}
+use Rattle.fz_meaning.specs.declared.builtin.Builtin.TheVariants.{GecodeMaximumArgIntOffset, GecodeMinimumArgIntOffset, GecodeMaximumArgBoolOffset, GecodeSetWeights, GecodeRange, FznCountEq, FznAmong, FznNvalue, IntEq, IntLinEq, IntPlus, IntMinus, IntTimes, IntMin, IntMax, IntAbs, IntNegate, IntDiv, IntMod, IntPow, ArrayIntElement, ArrayIntMaximum, ArrayIntMinimum, BoolEq, BoolNot, BoolAnd, BoolOr, BoolXor, ArrayBoolAnd, ArrayBoolOr, ArrayBoolElement, Bool2Int, BoolLinEq, SetEq, SetUnion, SetIntersect, SetDiff, SetSymdiff, SetCard, ArraySetElement, GecodeArraySetElementUnion}
 use Rattle.fz_meaning.specs.declared.kind.Kind.TheVariants.{Int as IntKind}
 use Rattle.fz_base.specs.Sets.{NumberSet, symmetric_difference}
 
@@ -220,6 +220,7 @@ row_determines GecodeMaximumArgIntOffset = ((λ a b x y. index_both int_le int_l
 row_determines GecodeMinimumArgIntOffset = ((λ a b x y. index_both (λ z w. int_le w z) (λ z w d e. int_le_antisymmetric z w e d) a b x y), tt)
 row_determines GecodeMaximumArgBoolOffset = ((λ a b x y. index_both int_le int_le_antisymmetric (map as_number a) b x y), tt)
 row_determines GecodeSetWeights = ((λ a b c x y d e. int_both x y (weight a b c) (weighs a b c x d) (weighs a b c y e)), tt)
+row_determines GecodeRange = ((λ a b c x y d e. set_both x y (sets.from_list (chosen b a c)) (and_second (sets.is_subset c (indices_from b (length a))) _ d) (and_second (sets.is_subset c (indices_from b (length a))) _ e)), tt)
 row_determines _ = tt
 
 base_rows_determine : (bs : List Builtin) → AllByRecursion RowDetermines (map row_at bs)

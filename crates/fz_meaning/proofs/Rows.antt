@@ -2,6 +2,6 @@
 use Rattle.std.proofs.Common.{◌≡◌, length, flat_map, refl}
 use Rattle.fz_meaning.specs.Builtins.{rows, builtins, row_at}
 
-how_many : length (flat_map (λ r. r.names) rows) ≡ 447
+how_many : length (flat_map (λ r. r.names) rows) ≡ 450
 unfolding rows row_at builtins
 how_many = refl

@@ -13,7 +13,7 @@ use Rattle.fz_base.specs.declared.value.Value.{Value}
 use Rattle.fz_base.specs.declared.value.Value.TheVariants.{Int, Bool as Truth, Set}
 use Rattle.fz_meaning.specs.Relations.{◌=ℤ◌, ◌=ᴮ◌, ◌=ˢ◌, all_neighbours, all_pairs, all_some, are_apart, are_channelled, are_disjoint, are_inverse, as_places, boxes, count_in, count_of, counts_are, counts_lie, is_before, is_circuit, is_closed, is_convex, is_cumulative, is_disjunctive, is_flagged, is_index_of_best, is_knapsack, is_nonzero, is_partition, is_row_of, is_sorted_form, is_strictly_disjunctive, is_subcircuit, is_weight_of, is_word, lies_between, load_of, loads_are, marks, overlap_in_no_area, overlap_nowhere, precedes, rises_by_one, slides_between, values_of, total, products, where_true, is_element, is_among, is_odd, as_number, all_different, are_inverse_sets, chosen, indices_from, precedes_in_sets, union_of}
 use Rattle.fz_meaning.specs.declared.builtin.Builtin.{Builtin}
-use Rattle.fz_meaning.specs.declared.builtin.Builtin.TheVariants.{IntEq, IntNe, IntLe, IntLt, IntGe, IntGt, IntLinEq, IntLinNe, IntLinLe, IntPlus, IntMinus, IntTimes, IntMin, IntMax, IntAbs, IntNegate, IntDiv, IntMod, IntPow, ArrayIntElement, ArrayIntMaximum, ArrayIntMinimum, FznAllDifferentInt, BoolEq, BoolLe, BoolLt, BoolGe, BoolGt, BoolNot, BoolAnd, BoolOr, BoolXor, BoolAndImp, BoolOrImp, BoolXorImp, ArrayBoolAnd, ArrayBoolOr, ArrayBoolAndImp, ArrayBoolOrImp, ArrayBoolXor, ArrayBoolElement, BoolClause, Bool2Int, BoolLinEq, BoolLinLe, BoolLinNe, BoolLinLt, BoolLinGe, BoolLinGt, SetIn, SetEq, SetNe, SetSubset, SetSuperset, SetUnion, SetIntersect, SetDiff, SetSymdiff, SetCard, SetConvex, ArraySetElement, GecodeArraySetElementUnion, FznAlldifferentExcept0, FznAllEqualInt, FznCountEq, FznCountNeq, FznCountGeq, FznCountGt, FznCountLeq, FznCountLt, FznAmong, FznNvalue, FznAtLeastInt, FznAtMostInt, FznExactlyInt, FznGlobalCardinality, FznGlobalCardinalityClosed, FznGlobalCardinalityLowUp, FznGlobalCardinalityLowUpClosed, FznDistribute, FznCumulative, FznDisjunctive, FznDisjunctiveStrict, GecodeScheduleUnary, FznDiffn, FznDiffnNonstrict, GecodeNooverlap, GecodeCircuit, FzcheckSubcircuit, InverseOffsets, FznTableInt, FznTableBool, FznRegular, FznBinPacking, GecodeBinPackingLoad, FznLexLessInt, FznLexLesseqInt, FznLexLessBool, FznLexLesseqBool, FznIncreasingInt, FznIncreasingBool, FznDecreasingInt, FznDecreasingBool, FznStrictlyIncreasingInt, FznValuePrecedeInt, GecodePrecede, GecodePrecedeSet, FznValuePrecedeChainInt, FznSeqPrecedeChainInt, FznSort, FznMemberInt, FznMemberBool, GecodeMaximumArgIntOffset, GecodeMinimumArgIntOffset, GecodeMaximumArgBoolOffset, FznKnapsack, FznSlidingSum, GecodeAmongSeqInt, GecodeSetWeights, GecodeLinkSetToBooleans, GecodeIntSetChannel, GecodeInverseSet, FznDisjoint, FznPartitionSet}
+use Rattle.fz_meaning.specs.declared.builtin.Builtin.TheVariants.{IntEq, IntNe, IntLe, IntLt, IntGe, IntGt, IntLinEq, IntLinNe, IntLinLe, IntPlus, IntMinus, IntTimes, IntMin, IntMax, IntAbs, IntNegate, IntDiv, IntMod, IntPow, ArrayIntElement, ArrayIntMaximum, ArrayIntMinimum, FznAllDifferentInt, BoolEq, BoolLe, BoolLt, BoolGe, BoolGt, BoolNot, BoolAnd, BoolOr, BoolXor, BoolAndImp, BoolOrImp, BoolXorImp, ArrayBoolAnd, ArrayBoolOr, ArrayBoolAndImp, ArrayBoolOrImp, ArrayBoolXor, ArrayBoolElement, BoolClause, Bool2Int, BoolLinEq, BoolLinLe, BoolLinNe, BoolLinLt, BoolLinGe, BoolLinGt, SetIn, SetEq, SetNe, SetSubset, SetSuperset, SetUnion, SetIntersect, SetDiff, SetSymdiff, SetCard, SetConvex, ArraySetElement, GecodeArraySetElementUnion, FznAlldifferentExcept0, FznAllEqualInt, FznCountEq, FznCountNeq, FznCountGeq, FznCountGt, FznCountLeq, FznCountLt, FznAmong, FznNvalue, FznAtLeastInt, FznAtMostInt, FznExactlyInt, FznGlobalCardinality, FznGlobalCardinalityClosed, FznGlobalCardinalityLowUp, FznGlobalCardinalityLowUpClosed, FznDistribute, FznCumulative, FznDisjunctive, FznDisjunctiveStrict, GecodeScheduleUnary, FznDiffn, FznDiffnNonstrict, GecodeNooverlap, GecodeCircuit, FzcheckSubcircuit, InverseOffsets, FznTableInt, FznTableBool, FznRegular, FznBinPacking, GecodeBinPackingLoad, FznLexLessInt, FznLexLesseqInt, FznLexLessBool, FznLexLesseqBool, FznIncreasingInt, FznIncreasingBool, FznDecreasingInt, FznDecreasingBool, FznStrictlyIncreasingInt, FznValuePrecedeInt, GecodePrecede, GecodePrecedeSet, FznValuePrecedeChainInt, FznSeqPrecedeChainInt, FznSort, FznMemberInt, FznMemberBool, GecodeMaximumArgIntOffset, GecodeMinimumArgIntOffset, GecodeMaximumArgBoolOffset, FznKnapsack, FznSlidingSum, GecodeAmongSeqInt, GecodeSetWeights, GecodeLinkSetToBooleans, GecodeIntSetChannel, GecodeInverseSet, GecodeRange, FznDisjoint, FznPartitionSet}
 use Rattle.fz_meaning.specs.declared.known.Form.{Form}
 use Rattle.fz_meaning.specs.declared.known.Form.TheVariants.{Base, Reified, Implied}
 use Rattle.fz_meaning.specs.declared.kind.Kind.{Kind}
@@ -315,6 +315,8 @@ row_at GecodeLinkSetToBooleans = row "gecode_link_set_to_booleans" [] (S ∷ [B]
 row_at GecodeIntSetChannel = row "gecode_int_set_channel" [] ([I] ∷ I ∷ [S] ∷ I ∷ []) are_channelled
 row_at GecodeInverseSet =
     row "gecode_inverse_set" [] ([S] ∷ [S] ∷ I ∷ I ∷ []) λ a b c d. are_inverse_sets a c b d
+row_at GecodeRange = row "gecode_range" [] ([I] ∷ I ∷ S ∷ S ∷ []) λ a b c d.
+    sets.is_subset c (indices_from b (length a)) && (d =ˢ sets.from_list (chosen b a c))
 row_at FznDisjoint = row "fzn_disjoint" ("disjoint" ∷ []) (S ∷ S ∷ []) are_disjoint
 row_at FznPartitionSet = row "fzn_partition_set"
     ("gecode_array_set_partition" ∷ "array_set_partition" ∷ []) ([S] ∷ S ∷ []) is_partition
@@ -343,7 +345,7 @@ builtins =
     FznValuePrecedeChainInt ∷ FznSeqPrecedeChainInt ∷ FznSort ∷ FznMemberInt ∷ FznMemberBool ∷
     GecodeMaximumArgIntOffset ∷ GecodeMinimumArgIntOffset ∷ GecodeMaximumArgBoolOffset ∷
     FznKnapsack ∷ FznSlidingSum ∷ GecodeAmongSeqInt ∷ GecodeSetWeights ∷ GecodeLinkSetToBooleans ∷
-    GecodeIntSetChannel ∷ GecodeInverseSet ∷ FznDisjoint ∷ FznPartitionSet ∷ []
+    GecodeIntSetChannel ∷ GecodeInverseSet ∷ GecodeRange ∷ FznDisjoint ∷ FznPartitionSet ∷ []
 
 abbrev pub base_rows : List Row
 base_rows = map row_at builtins

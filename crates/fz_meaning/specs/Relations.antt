@@ -394,8 +394,8 @@ is_partition ss whole = all_pairs are_disjoint ss && (union_of ss =ˢ whole)
 abbrev pub indices_from : ℤ → ℕ → NumberSet
 indices_from o n = numbers_between o ((o +ℤ pos n) -ℤ pos 1)
 
--- the sets whose indices, from i on, are in the set
-abbrev pub chosen : ℤ → List NumberSet → NumberSet → List NumberSet
+-- the elements whose indices, from i on, are in the set
+abbrev pub chosen : {A : Type 0} → ℤ → List A → NumberSet → List A
 chosen i [] s = []
 chosen i (x ∷ xs) s =
     if sets.contains s i then x ∷ chosen (i +ℤ pos 1) xs s else chosen (i +ℤ pos 1) xs s

@@ -44,7 +44,7 @@ results =
     ("array_set_element", c) ∷ ("gecode_array_set_element_union", c) ∷ ("fzn_count_eq", c) ∷
     ("fzn_among", a) ∷ ("fzn_nvalue", a) ∷ ("gecode_maximum_arg_int_offset", c) ∷
     ("gecode_minimum_arg_int_offset", c) ∷ ("gecode_maximum_arg_bool_offset", c) ∷
-    ("gecode_set_weights", d) ∷ []
+    ("gecode_set_weights", d) ∷ ("gecode_range", d) ∷ []
 
 abbrev pub first_name : Row → List ℕ
 first_name r = get_or r.names 0 []

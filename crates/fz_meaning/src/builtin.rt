@@ -131,6 +131,7 @@ pub enum Builtin {
     GecodeLinkSetToBooleans,
     GecodeIntSetChannel,
     GecodeInverseSet,
+    GecodeRange,
     FznDisjoint,
     FznPartitionSet,
 }
@@ -229,6 +230,7 @@ impl Builtin {
                 (b"array_int_lt", Builtin::FznLexLessInt),
                 (b"array_int_lq", Builtin::FznLexLesseqInt),
                 (b"fzn_knapsack", Builtin::FznKnapsack),
+                (b"gecode_range", Builtin::GecodeRange),
                 (b"fzn_disjoint", Builtin::FznDisjoint),
             ],
             13 => &[

@@ -124,7 +124,7 @@ const FORMS: bool = true;
 
 const ALONE: bool = false;
 
-static ROWS: [BaseRow; 124] = [
+static ROWS: [BaseRow; 125] = [
     BaseRow(&[INT, INT, BOOL], A_OR_B, FREE, FORMS), // int_eq
     BaseRow(&[INT, INT, BOOL], NONE, FREE, FORMS), // int_ne
     BaseRow(&[INT, INT, BOOL], NONE, FREE, FORMS), // int_le
@@ -253,6 +253,7 @@ static ROWS: [BaseRow; 124] = [
     BaseRow(&[SET, BOOLS, INT, BOOL], NONE, FREE, FORMS), // gecode_link_set_to_booleans
     BaseRow(&[INTS, INT, SETS, INT, BOOL], NONE, FREE, FORMS), // gecode_int_set_channel
     BaseRow(&[SETS, SETS, INT, INT, BOOL], NONE, FREE, FORMS), // gecode_inverse_set
+    BaseRow(&[INTS, INT, SET, SET, BOOL], D, FREE, FORMS), // gecode_range
     BaseRow(&[SET, SET, BOOL], NONE, FREE, FORMS), // fzn_disjoint
     BaseRow(&[SETS, SET, BOOL], NONE, FREE, FORMS), // fzn_partition_set
 ];

@@ -1,19 +1,21 @@
--- Sets of which one has an element that doesn't lead back, and sets whose union isn't the set.
+-- Sets of which one has an element that doesn't lead back, and chosen elements that aren't the set.
 use Rattle.std.proofs.Common.{◌≡◌, ℕ, suc, zero, ◌<◌, ℤ, pos, ◌+ℤ◌, ◌-ℤ◌, Bool, true, false, not, ◌&&◌, ◌||◌, if◌then◌else◌, List, [], ◌∷◌, length, inl, inr, Some, slice_get, refl, sym, ap, ◌∙◌, true≢false, arith}
 use Rattle.std.specs.List.{list_all, list_any}
 use Rattle.std.specs.Option.{option_map_or}
 use Rattle.std.specs.Ordering.{int_cmp}
 use Rattle.std.specs.Cmp.{int_cmp_total}
-use Rattle.std.specs.FinSet.{contains, is_subset, contains-empty, contains-union}
+use Rattle.std.specs.FinSet.{contains, from_list, is_subset, contains-empty, contains-union}
 use Rattle.std.proofs.lemmas.Int.{ints}
 use Rattle.std.proofs.lemmas.Option.{none-some, same_Some}
 use Rattle.fz_builtins.specs.of_meaning.of_syntax.Ranges.{is_between}
 use Rattle.fz_builtins.specs.of_meaning.of_syntax.Sets.{NumberSet}
 use Rattle.fz_builtins.proofs.of_meaning.of_base.Numbers.{contains-numbers_between}
 use Rattle.fz_builtins.proofs.of_meaning.of_base.Covers.{and-false}
-use Rattle.fz_builtins.specs.of_meaning.Relations.{◌=ᴮ◌, ◌=ˢ◌, chosen, element_at, has_only, indices_from, lies_between, precedes_in_sets, refer_back, union_of}
+use Rattle.fz_builtins.specs.of_meaning.Relations.{◌=ᴮ◌, ◌=ˢ◌, chosen, element_at, has_only, indices_from, is_among, lies_between, precedes_in_sets, refer_back, union_of}
 use Rattle.fz_builtins.proofs.of_meaning.Values.{and_first, and_second}
+use Rattle.fz_builtins.proofs.of_globals.Valued.{in_listed}
 use Rattle.fz_reasons.specs.Elements.{IsEarlySet, IsNotBack, Early, OneWay}
+use Rattle.fz_reasons.specs.Reasons.{is_no_index}
 use Rattle.fz_reasons.proofs.Indexed.{index_or_none, last}
 use Rattle.fz_reasons.proofs.Lists.{indexed_fails, passing}
 use Rattle.fz_reasons.proofs.Misplaced.{not_same, not_within, turned}
@@ -89,30 +91,36 @@ in_union [] q = contains-empty int_cmp q
 in_union (s ∷ ss) q =
     contains-union int_cmp_total s (union_of ss) q ∙ ap (λ t. contains s q || t) (in_union ss q)
 
-module _ (a : NumberSet) (ts : List NumberSet) (c : NumberSet) (q : ℤ) where
-  abbrev all : NumberSet
-  all = union_of (chosen (pos 1) ts a)
+-- ---- chosen elements
 
-  other_union : (list_any (λ s. contains s q) (chosen (pos 1) ts a) =ᴮ contains c q) ≡ false
-      → (c =ˢ all) ≡ false
-  other_union e = not_same c all q (turned (contains all q) (contains c q) (ap (λ b. b =ᴮ contains c q) (in_union (chosen (pos 1) ts a) q) ∙ e))
-
-  no_index : (contains a q && not (lies_between (pos 1) (pos (length ts)) q)) ≡ true
-      → is_subset a (indices_from (pos 1) (length ts)) ≡ false
+-- a number in one of two sets alone, or in that of the indices and none
+module _ (a : NumberSet) (o : ℤ) (n : ℕ) (c all : NumberSet) (q : ℤ) where
+  no_index : is_no_index o n a q ≡ true → is_subset a (indices_from o n) ≡ false
   no_index e =
-      not_within a (indices_from (pos 1) (length ts)) q (and_first (contains a q) (not (lies_between (pos 1) (pos (length ts)) q)) e)
-      (contains-numbers_between (pos 1) (last (pos 1) (length ts)) q ∙ outside (length ts) (and_second (contains a q) (not (lies_between (pos 1) (pos (length ts)) q)) e))
+      not_within a (indices_from o n) q (and_first (contains a q) (not (lies_between o (last o n) q)) e)
+      (contains-numbers_between o (last o n) q ∙ outside (and_second (contains a q) (not (lies_between o (last o n) q)) e))
     where
-      outside : (n : ℕ) → not (lies_between (pos 1) (pos n) q) ≡ true
-          → is_between (pos 1) (last (pos 1) n) q ≡ false
-      outside n e = grind (arith, ints)
+      outside : not (lies_between o (last o n) q) ≡ true → is_between o (last o n) q ≡ false
+      outside e = grind (arith, ints)
 
-  pub no_chosen_union : (not (list_any (λ s. contains s q) (chosen (pos 1) ts a) =ᴮ contains c q) || (contains a q && not (lies_between (pos 1) (pos (length ts)) q))) ≡ true
-      → (is_subset a (indices_from (pos 1) (length ts)) && (c =ˢ all)) ≡ false
-  no_chosen_union e = by (list_any (λ s. contains s q) (chosen (pos 1) ts a) =ᴮ contains c q) refl e
+  others_chosen : (there : Bool) → contains all q ≡ there
+      → (not (there =ᴮ contains c q) || is_no_index o n a q) ≡ true
+      → (is_subset a (indices_from o n) && (c =ˢ all)) ≡ false
+  others_chosen there is e = by (there =ᴮ contains c q) refl e
     where
-      by : (b : Bool) → (list_any (λ s. contains s q) (chosen (pos 1) ts a) =ᴮ contains c q) ≡ b
-          → (not b || (contains a q && not (lies_between (pos 1) (pos (length ts)) q))) ≡ true
-          → (is_subset a (indices_from (pos 1) (length ts)) && (c =ˢ all)) ≡ false
-      by true is e = ap (λ b. b && (c =ˢ all)) (no_index e)
-      by false is e = ap (λ b. is_subset a (indices_from (pos 1) (length ts)) && b) (other_union is) ∙ and-false (is_subset a (indices_from (pos 1) (length ts)))
+      by : (b : Bool) → (there =ᴮ contains c q) ≡ b → (not b || is_no_index o n a q) ≡ true
+          → (is_subset a (indices_from o n) && (c =ˢ all)) ≡ false
+      by true same e = ap (λ b. b && (c =ˢ all)) (no_index e)
+      by false same e = ap (λ b. is_subset a (indices_from o n) && b) (not_same c all q (turned (contains all q) (contains c q) (ap (λ b. b =ᴮ contains c q) is ∙ same))) ∙ and-false (is_subset a (indices_from o n))
+
+pub no_chosen_union : (a : NumberSet) (ts : List NumberSet) (c : NumberSet) (q : ℤ)
+    → (not (list_any (λ s. contains s q) (chosen (pos 1) ts a) =ᴮ contains c q) || is_no_index (pos 1) (length ts) a q) ≡ true
+    → (is_subset a (indices_from (pos 1) (length ts)) && (c =ˢ union_of (chosen (pos 1) ts a))) ≡ false
+no_chosen_union a ts c q e =
+    others_chosen a (pos 1) (length ts) c (union_of (chosen (pos 1) ts a)) q _ (in_union (chosen (pos 1) ts a) q) e
+
+pub no_chosen_elements : (xs : List ℤ) (o : ℤ) (a c : NumberSet) (q : ℤ)
+    → (not (is_among q (chosen o xs a) =ᴮ contains c q) || is_no_index o (length xs) a q) ≡ true
+    → (is_subset a (indices_from o (length xs)) && (c =ˢ from_list (chosen o xs a))) ≡ false
+no_chosen_elements xs o a c q e =
+    others_chosen a o (length xs) c (from_list (chosen o xs a)) q _ (in_listed q (chosen o xs a)) e

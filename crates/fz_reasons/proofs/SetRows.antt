@@ -6,7 +6,7 @@ use Rattle.std.specs.Option.{option_map_or}
 use Rattle.fz_builtins.specs.of_meaning.of_syntax.Sets.{NumberSet}
 use Rattle.std.specs.FinSet as sets
 use Rattle.fz_builtins.proofs.of_meaning.of_base.Covers.{and-false}
-use Rattle.fz_reasons.specs.Rows.{Argument, Builtin, Partial, bools_at, int_at, row_at, row_outcome, set_at, sets_at}
+use Rattle.fz_reasons.specs.Rows.{Argument, Builtin, Partial, bools_at, int_at, ints_at, row_at, row_outcome, set_at, sets_at}
 use Rattle.fz_builtins.specs.of_meaning.declared.builtin.Builtin.TheVariants as builtin
 use Rattle.fz_builtins.specs.declared.outcome.Outcome.TheVariants as outcomes
 use Rattle.fz_builtins.specs.of_meaning.Relations.{◌=ᴮ◌, ◌=ˢ◌, all_pairs, are_disjoint, element_at, is_partition, union_of}
@@ -16,7 +16,7 @@ use Rattle.fz_reasons.specs.Elements.{IsShared, Clash}
 use Rattle.fz_reasons.proofs.Indexed.{not_flagged}
 use Rattle.fz_reasons.proofs.Gaps.{has_gap}
 use Rattle.fz_reasons.proofs.Lists.{pair_fails, passing}
-use Rattle.fz_reasons.proofs.Referring.{in_union, no_chosen_union}
+use Rattle.fz_reasons.proofs.Referring.{in_union, no_chosen_elements, no_chosen_union}
 use Rattle.fz_reasons.proofs.Misplaced.{no_difference, no_intersection, no_symmetric_difference, no_union, not_disjoint, not_same, not_within}
 
 -- what is told of the member is so of the sets
@@ -62,6 +62,7 @@ by_place builtin.FznDisjoint K xs q e = ap outcomes.Truth (not_disjoint (set_at 
 by_place builtin.SetConvex K xs q e = ap outcomes.Truth (has_gap (set_at K xs 0) q e)
 by_place builtin.ArraySetElement K xs q e = ap outcomes.Truth (no_element (element_at (sets_at K xs 1) (int_at K xs 0)) (set_at K xs 2) q (not-true _ e))
 by_place builtin.GecodeArraySetElementUnion K xs q e = ap outcomes.Truth (no_chosen_union (set_at K xs 0) (sets_at K xs 1) (set_at K xs 2) q e)
+by_place builtin.GecodeRange K xs q e = ap outcomes.Truth (no_chosen_elements (ints_at K xs 0) (int_at K xs 1) (set_at K xs 2) (set_at K xs 3) q e)
 by_place builtin.FznPartitionSet K xs q e = ap outcomes.Truth (no_whole (sets_at K xs 0) (set_at K xs 1) q (not-true _ e))
 by_place builtin.GecodeLinkSetToBooleans K xs q e = ap outcomes.Truth (not_flagged (set_at K xs 0) (bools_at K xs 1) (int_at K xs 2) q (not-true _ e))
 by_place b K xs q e = no e

@@ -6,6 +6,7 @@ use Rattle.std.specs.List.{filter, list_any, zip}
 use Rattle.std.specs.Option.{option_map_or}
 use Rattle.std.specs.FinSet as sets
 use Rattle.fz_builtins.specs.of_meaning.of_base.declared.value.Value.TheVariants.{Int, Bool as Truth}
+use Rattle.fz_builtins.specs.of_meaning.of_syntax.Sets.{NumberSet}
 use Rattle.fz_reasons.specs.Rows.{Argument, Builtin, Partial, bool_at, bools_at, bools_of, int_at, ints_at, ints_of, row_at, row_outcome, set_at, sets_at, slots_at}
 use Rattle.fz_builtins.specs.of_meaning.declared.builtin.Builtin.TheVariants as builtin
 use Rattle.fz_builtins.specs.of_meaning.declared.kind.Kind.TheVariants.{Int as IntKind, Bool as BoolKind}
@@ -285,14 +286,19 @@ is_misplaced builtin.FznDisjoint x y z = x && y
 is_misplaced builtin.SetConvex x y z = x && not y && z
 is_misplaced builtin.ArraySetElement x y z = not (x =ᴮ y)
 is_misplaced builtin.GecodeArraySetElementUnion x y z = not (x =ᴮ y) || z
+is_misplaced builtin.GecodeRange x y z = not (x =ᴮ y) || z
 is_misplaced builtin.FznPartitionSet x y z = not (x =ᴮ y)
 is_misplaced builtin.GecodeLinkSetToBooleans x y z = not (x =ᴮ y)
 is_misplaced b x y z = false
 
+-- the number is in the set, and isn't one of so many indices, from o on
+abbrev pub is_no_index : ℤ → ℕ → NumberSet → ℤ → Bool
+is_no_index o n s q = sets.contains s q && not (lies_between o ((o +ℤ pos n) -ℤ pos 1) q)
+
 -- in which of the sets that the row compares a number is: above an element of the set, in the set,
--- and below an element; in the element at the index, and in the set; in one of the chosen sets, in
--- the set, and in the first but no index; in one of the sets, and in the whole; in the set, and
--- among the indices of what is true; or in its arguments
+-- and below an element; in the element at the index, and in the set; in one of the chosen sets, or
+-- one of the chosen elements, in the set, and in that of indices but none; in one of the sets, and
+-- in the whole; in the set, and among the indices of what is true; or in its arguments
 abbrev pub in_sets : Builtin → Partial → List Argument → ℤ → Bool × Bool × Bool
 in_sets builtin.SetConvex K xs q = (
   list_any (λ x. int_lt x q) (sets.items (set_at K xs 0)),
@@ -307,7 +313,12 @@ in_sets builtin.ArraySetElement K xs q = (
 in_sets builtin.GecodeArraySetElementUnion K xs q = (
   list_any (λ s. sets.contains s q) (chosen (pos 1) (sets_at K xs 1) (set_at K xs 0)),
   sets.contains (set_at K xs 2) q,
-  sets.contains (set_at K xs 0) q && not (lies_between (pos 1) (pos (length (sets_at K xs 1))) q),
+  is_no_index (pos 1) (length (sets_at K xs 1)) (set_at K xs 0) q,
+)
+in_sets builtin.GecodeRange K xs q = (
+  is_among q (chosen (int_at K xs 1) (ints_at K xs 0) (set_at K xs 2)),
+  sets.contains (set_at K xs 3) q,
+  is_no_index (int_at K xs 1) (length (ints_at K xs 0)) (set_at K xs 2) q,
 )
 in_sets builtin.FznPartitionSet K xs q =
     (list_any (λ s. sets.contains s q) (sets_at K xs 0), sets.contains (set_at K xs 1) q, false)

@@ -390,11 +390,8 @@ fn say_member(teller: &mut Teller<'_, '_>, member: Member) -> Result<(), AllocEr
                 "{number} isn't in the set, which has a lesser number and a greater one"
             )?
         }
-        Builtin::GecodeArraySetElementUnion if member.third => {
-            format!(in alloc; "{number} is in the first, and no index")?
-        }
-        Builtin::GecodeArraySetElementUnion => {
-            format!(in alloc; "{number} is {one} of the chosen sets and {second} the third")?
+        Builtin::GecodeArraySetElementUnion | Builtin::GecodeRange => {
+            return say_chosen(teller, member);
         }
         Builtin::FznPartitionSet => {
             format!(in alloc; "{number} is {one} of the sets and {second} the whole")?
@@ -404,6 +401,25 @@ fn say_member(teller: &mut Teller<'_, '_>, member: Member) -> Result<(), AllocEr
             format!(in alloc; "{number} is {first} the set, and its Boolean {truth} true")?
         }
         _ => format!(in alloc; "{number} is {first} the first and {second} the second")?,
+    };
+    teller.add(said)
+}
+
+/// Whether a number is chosen and whether it is in the set, or that it is an index of nothing.
+fn say_chosen(teller: &mut Teller<'_, '_>, member: Member) -> Result<(), AllocError> {
+    let number = member.number;
+    let alloc = teller.alloc;
+    let is_range = teller.builtin == Builtin::GecodeRange;
+    if member.third {
+        let indices = if is_range { "third" } else { "first" };
+        return teller.add(format!(in alloc; "{number} is in the {indices}, and no index")?);
+    }
+    let one = if member.first { "one" } else { "none" };
+    let second = is_in(member.second);
+    let said = if is_range {
+        format!(in alloc; "{number} is {one} of the chosen elements and {second} the fourth")?
+    } else {
+        format!(in alloc; "{number} is in {one} of the chosen sets and {second} the third")?
     };
     teller.add(said)
 }

@@ -1,15 +1,16 @@
 //! A number that is in one set and not in another.
 
-ghost use Rattle.std.specs.Prelude.{◌≡◌, ◌&&◌, not, int_lt, length, ◌+ℤ◌, ◌-ℤ◌, pos, IfOk, IfSome, false};
+ghost use Rattle.std.specs.Prelude.{◌≡◌, int_lt, ◌+ℤ◌, ◌-ℤ◌, pos, IfOk, IfSome, false};
 ghost use Rattle.std.specs.FinSet as number_sets;
 ghost use Rattle.std.specs.List.{list_any};
 ghost use Rattle.std.specs.Option.{option_map_or};
-ghost use Rattle.fz_builtins.specs.of_meaning.Relations.{chosen, element_at, lies_between};
-ghost use Rattle.fz_builtins.specs.of_kernel.Views.{arguments_of, assigned, sets};
-ghost use Rattle.fz_builtins.specs.Readings.{int, numbers, sets_of, truths};
-ghost use Rattle.fz_reasons.specs.Reasons.{IsMisplaced, Says, in_sets, is_misplaced};
+ghost use Rattle.fz_builtins.specs.of_meaning.Relations.{chosen, element_at, is_among};
+ghost use Rattle.fz_builtins.specs.of_meaning.declared.builtin.Builtin.TheVariants.{GecodeRange};
+ghost use Rattle.fz_builtins.specs.of_kernel.Views.{arguments_of, assigned, ints, sets};
+ghost use Rattle.fz_builtins.specs.Readings.{int, sets_of, truths};
+ghost use Rattle.fz_reasons.specs.Reasons.{IsMisplaced, Says, in_sets, is_misplaced, is_no_index};
 
-use crate::places::lies_between;
+use crate::places::{last_index, lies_between};
 use crate::reason::{Member, Reason};
 use fz_builtins::{
     ArgumentView, Builtin, Elements, IntSet, has, index_at, place_from, same_set, set_element,
@@ -32,6 +33,7 @@ pub(crate) fn by_sets(
             Ok(Some(Reason::NotListed(view.int(0))))
         }
         Builtin::SetNe if same_set(view.set(0), view.set(1)) => Ok(Some(Reason::Same)),
+        Builtin::GecodeRange => Ok(by_element(alloc, builtin, view)?.map(Reason::Member)),
         Builtin::SetEq
         | Builtin::SetSubset
         | Builtin::SetSuperset
@@ -72,6 +74,33 @@ fn by_member(
             }
             let index = view.int(2).saturating_add(place as i64);
             if let Some(member) = misplaced(builtin, view, index) {
+                return Ok(Some(member));
+            }
+        }
+    }
+    Ok(None)
+}
+
+/// A number by which the set of chosen elements is another, or an index is none: where there is
+/// one, so is an end of a range of a set, an element, or the number behind one of these.
+fn by_element(
+    alloc: Global,
+    builtin: Builtin,
+    view: &ArgumentView<'_, '_>,
+) -> Result<Option<Member>, AllocError>
+    ensures { IfOk result (λ o. IfSome o
+        (IsMisplaced builtin (assigned view.now) (arguments_of view.now))) }
+{
+    for argument in 2..4 {
+        if let Some(member) = at_ends(alloc, builtin, view, view.set(argument))? {
+            return Ok(Some(member));
+        }
+    }
+    let elements = view.elements(0);
+    for place in 0..elements.len() {
+        let element = elements.int(place);
+        for number in [element, element.saturating_add(1)] {
+            if let Some(member) = misplaced(builtin, view, number) {
                 return Ok(Some(member));
             }
         }
@@ -135,19 +164,17 @@ fn in_sets(builtin: Builtin, view: &ArgumentView<'_, '_>, number: i64) -> (bool,
         }
         Builtin::GecodeArraySetElementUnion => {
             let first = is_in_chosen(view.set(0), &view.elements(1), number);
-            let third = is_no_index(view, number);
+            let third = is_no_index(view.set(0), 1, view.elements(1).len(), number);
             (first, view.set(2).contains(number), third)
         }
+        Builtin::GecodeRange => in_range(view, number),
         Builtin::FznPartitionSet => {
             let first = is_in_one(&view.elements(0), number);
             (first, view.set(1).contains(number), false)
         }
         Builtin::GecodeLinkSetToBooleans => {
-            (
-                view.set(0).contains(number),
-                is_true_at(view, number),
-                false,
-            )
+            let second = is_true_at(view, number);
+            (view.set(0).contains(number), second, false)
         }
         _ => (
             view.set(0).contains(number),
@@ -171,13 +198,27 @@ fn has_more(set: &IntSet, number: i64) -> bool
     !set.within(i64::MIN, number)
 }
 
-/// Whether a number is in the set of indices and isn't the index of a set.
-fn is_no_index(view: &ArgumentView<'_, '_>, number: i64) -> bool
-    ensures { result ≡ (number_sets.contains (numbers view.now 0) number
-        && not (lies_between (pos 1) (pos (length (sets_of view.now 1))) number)) }
+/// Whether a number is one of the chosen elements, is in the set, and is in that of the indices and
+/// none.
+fn in_range(view: &ArgumentView<'_, '_>, number: i64) -> (bool, bool, bool)
+    ensures { in_sets GecodeRange (assigned view.now) (arguments_of view.now) number ≡ result }
 {
-    let last = view.elements(1).len() as i128;
-    view.set(0).contains(number) && !lies_between(1, last, i128::from(number))
+    let elements = view.elements(0);
+    let offset = view.int(1);
+    let indices = view.set(2);
+    (
+        is_chosen(&elements, offset, indices, number),
+        view.set(3).contains(number),
+        is_no_index(indices, offset, elements.len(), number),
+    )
+}
+
+/// Whether a number is in a set of indices and isn't one of `count` indices from `first` on.
+fn is_no_index(indices: &IntSet, first: i64, count: usize, number: i64) -> bool
+    ensures { result ≡ is_no_index first count indices.now number }
+{
+    let last = last_index(first, count);
+    indices.contains(number) && !lies_between(i128::from(first), last, i128::from(number))
 }
 
 /// Whether a number is in the element at the index.
@@ -217,6 +258,19 @@ fn is_in_chosen(indices: &IntSet, parts: &Elements, number: i64) -> bool
     false
 }
 
+/// Whether a number is one of the elements whose indices, from `first` on, are in `indices`.
+fn is_chosen(elements: &Elements, first: i64, indices: &IntSet, number: i64) -> bool
+    ensures { result ≡ is_among number (chosen first (ints elements.now) indices.now) }
+{
+    for place in 0..elements.len() {
+        let element = elements.int(place);
+        if has(indices, index_at(first, place)) && element == number {
+            return true;
+        }
+    }
+    false
+}
+
 /// Whether the Boolean whose index is the number is true.
 fn is_true_at(view: &ArgumentView<'_, '_>, number: i64) -> bool
     ensures { result ≡ option_map_or (λ t. t)
@@ -238,7 +292,7 @@ fn is_misplaced(builtin: Builtin, first: bool, second: bool, third: bool) -> boo
         | Builtin::ArraySetElement
         | Builtin::FznPartitionSet
         | Builtin::GecodeLinkSetToBooleans => first != second,
-        Builtin::GecodeArraySetElementUnion => first != second || third,
+        Builtin::GecodeArraySetElementUnion | Builtin::GecodeRange => first != second || third,
         Builtin::SetSubset => first && !second,
         Builtin::SetSuperset => second && !first,
         Builtin::SetUnion => third != (first || second),

@@ -28,7 +28,7 @@ pub(crate) fn no_index(elements: &Elements, first: i64, count: usize) -> Option<
 }
 
 /// The last of `count` numbers from `first` on.
-fn last_index(first: i64, count: usize) -> i128
+pub(crate) fn last_index(first: i64, count: usize) -> i128
     ensures { ((first +ℤ pos count) -ℤ pos 1) ≡ result }
 {
     i128::from(first) + count as i128 - 1

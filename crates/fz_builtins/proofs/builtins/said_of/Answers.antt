@@ -2,7 +2,7 @@ use Rattle.std.proofs.Common.{rules, refl, ap, sym, ◌∙◌}
 use Rattle.fz_globals.specs.of_meaning.Builtins.{row_at}
 use Rattle.fz_globals.specs.of_meaning.Relations.{◌=ℤ◌, ◌=ᴮ◌, ◌=ˢ◌}
 use Rattle.fz_globals.specs.of_meaning.Results.{result_of}
-use Rattle.fz_globals.specs.of_meaning.declared.builtin.Builtin.TheVariants.{GecodeArraySetElementUnion}
+use Rattle.fz_globals.specs.of_meaning.declared.builtin.Builtin.TheVariants.{GecodeArraySetElementUnion, GecodeRange}
 use Rattle.fz_globals.specs.of_kernel.Views.{arguments_of, assigned}
 use Rattle.fz_builtins.specs.declared.outcome.Outcome.TheVariants.{Truth}
 use Rattle.fz_builtins.specs.Outcomes.{row_outcome}
@@ -490,6 +490,9 @@ returns-in-GecodeIntSetChannel c = rw c.in-GecodeIntSetChannel.is (ap Truth c.in
 pub returns-in-GecodeInverseSet : goal.returns-in-GecodeInverseSet
 unfolding row_outcome row_at result_of
 returns-in-GecodeInverseSet c = rw c.in-GecodeInverseSet.is (ap Truth c.inverse_set.ensures, tt)
+
+pub returns-in-GecodeRange : goal.returns-in-GecodeRange
+returns-in-GecodeRange c = rw c.in-GecodeRange.is (said_at (row_at GecodeRange) (assigned c.args.view.now) (arguments_of c.args.view.now) c.args.first c.range.result c.range.ensures)
 
 pub returns-in-FznDisjoint : goal.returns-in-FznDisjoint
 unfolding row_outcome row_at result_of

@@ -31,11 +31,11 @@ data_at rows i d b are h = record {
   has_forms = same_at (λ k. k.3) (λ b. (row_at b).has_forms) rows builtins i d b are.has_forms h;
 }
 
-within : (i : ℕ) (b : Builtin) → slice_get builtins i ≡ Some b → i < 124
+within : (i : ℕ) (b : Builtin) → slice_get builtins i ≡ Some b → i < 125
 unfolding builtins
 within i b h = slice_get_within builtins i b h
 
-as_many : (rows : List BaseRow) → AreData rows → length rows ≡ 124
+as_many : (rows : List BaseRow) → AreData rows → length rows ≡ 125
 unfolding builtins
 as_many rows are = sym (length-map rows (λ k. k.3)) ∙ ap length are.has_forms
 
