@@ -1,6 +1,6 @@
 -- The filling of a block: the values that follow from the printed ones by forced steps (this
 -- project's profile).
-use Rattle.std.specs.Prelude.{◌≡◌, ◌≤◌, ◌<◌, ◌⊎◌, ℕ, suc, cond, List, [], ◌∷◌, ◌==◌, Option, Some, None, flat_map, map, slice_get}
+use Rattle.std.specs.Prelude.{◌≡◌, ◌≤◌, ◌<◌, ◌⊎◌, ℕ, suc, cond, List, [], ◌∷◌, ◌++◌, ◌==◌, Option, Some, None, flat_map, map, slice_get}
 use Rattle.std.specs.List.{AllByRecursion}
 use Rattle.std.specs.Option.{option_map_or}
 use Rattle.fz_index.specs.of_model.of_base.declared.value.Value.{Value}
@@ -92,6 +92,17 @@ pub record IsFurthered (m : Model) (F G : Partial) : Type 0 where
   pub steps : List (ℕ × ℕ)
   pub reached : Run On m F G steps
   pub none_left : AllByRecursion (GivesNone m G) (points m)
+
+-- Where values that a solver left out are looked for, the steps of the first filling come first, to
+-- the end of its chain: each is a constraint's to its defined variable. Those of the second follow.
+pub record AreInTurn (m : Model) (K G : Partial) (steps : List (ℕ × ℕ)) : Type 0 where
+  pub between : Partial
+  pub first : List (ℕ × ℕ)
+  pub second : List (ℕ × ℕ)
+  pub chain : Chain m K 0 between
+  pub to_defined : Run Off m K between first
+  pub by_result : Run On m between G second
+  pub order : steps ≡ first ++ second
 
 -- ---- the filling of a block
 

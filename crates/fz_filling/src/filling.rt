@@ -1,16 +1,16 @@
 //! The filling of a block.
 
-ghost use Rattle.std.specs.Prelude.{◌≡◌, ◌-◌, IfErr, IfOk, IfSome, None, OnOk};
+ghost use Rattle.std.specs.Prelude.{◌≡◌, ◌-◌, IfErr, IfOk, IfSome, None, OnOk, map};
 ghost use Rattle.fz_filling.specs.Courses.{IsCourse};
-ghost use Rattle.fz_filling.specs.Givers.{AddsSteps, AreGivers};
+ghost use Rattle.fz_filling.specs.Givers.{AddsInTurn, AddsSteps, AreGivers, giver_view};
 ghost use Rattle.fz_index.specs.of_model.Meaning.{IsPartial};
 ghost use Rattle.fz_stream.specs.Found.{EndsWithin, HasPlaces, block_of};
 ghost use Rattle.fz_stream.specs.of_syntax.Places.{IsSpanWithin};
 ghost use Rattle.fz_stream.specs.of_syntax.View.{bare_items};
 ghost use Rattle.fz_filling.specs.BlockFaults.{AllFit, block_fault, moved};
-ghost use Rattle.fz_filling.specs.Filling.{IsFilledFrom, start};
+ghost use Rattle.fz_filling.specs.Filling.{AreInTurn, IsFilledFrom, start};
 ghost use Rattle.fz_filling.specs.Verdict.{IsFilled};
-ghost use Rattle.fz_filling.specs.declared.completion.Completion.TheVariants.{Off};
+ghost use Rattle.fz_filling.specs.declared.completion.Completion.TheVariants.{Off, On};
 ghost use Rattle.fz_filling.specs.Judged.{IsBlockRefusal, TellsKind, kind_told};
 ghost use Rattle.fz_filling.specs.Working.{HasRoom, IsPlacedWithin, moved_error};
 
@@ -89,6 +89,8 @@ fn fill_by(
     ensures kinds { OnOk result (IsPartial model.now partial.new) }
     ensures steps { OnOk result
         (AddsSteps completion model.now partial.old partial.new steps.old steps.new) }
+    ensures in_turn { OnOk result
+        (completion ≡ On → AddsInTurn model.now partial.old partial.new steps.old steps.new) }
 {
     fill_in(alloc, model, partial, steps, course)?;
     match completion {
@@ -163,13 +165,16 @@ pub fn fill_with_steps(
     ensures kinds { IfOk result (λ f. IsPartial model.now f.0) }
     ensures steps { IfOk result (λ f. AreGivers completion model.now
         (start model.now (block_of block.now)) f.0 f.1.items) }
+    ensures in_turn { IfOk result (λ f. completion ≡ On → AreInTurn model.now
+        (start model.now (block_of block.now)) f.0 (map giver_view f.1.items)) }
     ensures only { IfErr result (λ e. TellsKind e (block_fault model.now block.now)) }
     ensures refused { IfErr result (λ e. HasPlaces block.now → EndsWithin usize.MAX block.now
         → IsBlockRefusal model.now block.now e) }
 {
     let course = Course::new(alloc, model)?;
     let mut steps = Steps {
-        told: Some(Vec::new(alloc)),
+        told: Vec::new(alloc),
+        is_told: true,
     };
     let mut partial = started(alloc, model, block, None)?;
     fill_by(
@@ -181,10 +186,7 @@ pub fn fill_with_steps(
         &mut partial,
         &mut steps,
     )?;
-    match steps.told {
-        Some(told) => Ok((Box::into_inner(partial), told)),
-        None => Ok((Box::into_inner(partial), Vec::new(alloc))),
-    }
+    Ok((Box::into_inner(partial), steps.told))
 }
 
 /// The values that follow from the printed ones by forced steps. It goes over the printed items

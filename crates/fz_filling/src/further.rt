@@ -52,7 +52,7 @@ fn follow(
     ensures kinds { OnOk result (IsPartial model.now partial.new) }
 {
     for number in first..model.variables().len() {
-        let Some(step) = steps.get(number) else {
+        let Some(step) = steps.told.get(number).copied() else {
             return Ok(());
         };
         visit(
@@ -86,7 +86,7 @@ fn pass(
 {
     let mut took = false;
     for point in 0..model.points() {
-        let first = steps.count();
+        let first = steps.told.len();
         if take_step(alloc, model, Completion::On, partial, steps, point)? {
             took = true;
             follow(alloc, model, search, partial, steps, first)?;

@@ -1,13 +1,13 @@
 //! Forced steps: first those of the points in an order that was made for the model, if one was, and
 //! then one after another, in the order of the points, until none is left.
 
-ghost use Rattle.std.specs.Prelude.{◌≡◌, ◌≤◌, ◌<◌, ◌++◌, ◌∷◌, [], IfOk, IfSome, IsNone, IsTrue, OnOk, Some, false, length, option_map, slice_get};
+ghost use Rattle.std.specs.Prelude.{◌≡◌, ◌≤◌, ◌<◌, ◌∷◌, [], IfOk, IfSome, IsNone, IsTrue, OnOk, Some, false, length, slice_get};
 ghost use Rattle.std.specs.List.{AllByRecursion};
 ghost use Rattle.fz_index.specs.of_model.Meaning.{IsPartial, Point, points};
 ghost use Rattle.fz_index.specs.of_model.Partial.{unset_count};
 ghost use Rattle.fz_index.specs.of_model.Steps.{GivesNothing};
 ghost use Rattle.fz_filling.specs.Filling.{Chain, IsFirstStep, IsGivenBy};
-ghost use Rattle.fz_filling.specs.Givers.{AddsSteps, giver_view, steps_view};
+ghost use Rattle.fz_filling.specs.Givers.{AddsSteps, Appends, giver_view};
 ghost use Rattle.fz_filling.specs.Stepping.{GivesNoneAt, IsStepAhead, NoneGives};
 ghost use Rattle.fz_filling.specs.declared.completion.Completion.TheVariants.{Off};
 
@@ -34,46 +34,28 @@ pub struct Giver {
 /// The steps that were taken, in their order, where they are to be told.
 #[derive(Drop)]
 pub(crate) struct Steps {
-    pub(crate) told: Option<Vec<Giver>>,
+    pub(crate) told: Vec<Giver>,
+    pub(crate) is_told: bool,
 }
 
 impl Steps {
     /// None so far. Those of a second filling are told, since it goes from one to the next.
     pub(crate) fn for_completion(alloc: Global, completion: Completion) -> Steps {
-        match completion {
-            Completion::Off => Steps { told: None },
-            Completion::On => Steps {
-                told: Some(Vec::new(alloc)),
-            },
+        Steps {
+            told: Vec::new(alloc),
+            is_told: completion == Completion::On,
         }
     }
 
     /// Tells a step behind those before.
     #[inline(always)]
     fn note(&mut self, giver: Giver) -> Result<(), AllocError>
-        ensures { OnOk result (steps_view self.new
-            ≡ option_map (λ ss. ss ++ giver_view giver ∷ []) (steps_view self.old)) }
+        ensures { OnOk result (Appends (giver_view giver ∷ []) self.old self.new) }
     {
-        if let Some(told) = &mut self.told {
-            told.push(giver)?;
+        if self.is_told {
+            self.told.push(giver)?;
         }
         Ok(())
-    }
-
-    /// The step that was told at an index, counted from 0.
-    pub(crate) fn get(&self, index: usize) -> Option<Giver> {
-        match &self.told {
-            Some(told) => told.get(index).copied(),
-            None => None,
-        }
-    }
-
-    /// How many steps are told.
-    pub(crate) fn count(&self) -> usize {
-        match &self.told {
-            Some(told) => told.len(),
-            None => 0,
-        }
     }
 }
 
