@@ -1,10 +1,9 @@
 #!/usr/bin/env python3
 """Compares what documents say of the sources with these: the table of docs/THEOREM.md, "What each
-crate promises", with the contracts in crates/, and the number of paths in docs/ARCHITECTURE.md with
-crates.txt, and the table of docs/TESTING.md, "What the prover refuses", with the edits of the gate.
-Those of tests/wrong, which the gate doesn't try, must still fit their files. Each file that a
-document names by its path must be there. CONTRIBUTING.md, "A builtin", names each file in which its
-example stands.
+crate promises", with the contracts in crates/, and the table of docs/TESTING.md, "What the prover refuses", with the
+edits of the gate. Those of tests/wrong, which the gate doesn't try, must still fit their files.
+Each file that a document names by its path must be there. CONTRIBUTING.md, "A builtin", names each
+file in which its example stands.
 
 Each clause that a row names must stand at one of the row's calls, and each call must have one of
 them; where a row names none, each call must have an `ensures`. A call is looked for in the crates
@@ -63,11 +62,6 @@ def is_so(crates, calls, clauses):
     return each_has_one and clauses <= set().union(*stated)
 
 
-def paths(crate):
-    """The ways from a crate to those below it, which some kits follow before each command."""
-    return 1 + sum(paths(name) for name in BELOW[crate].split() if name in BELOW)
-
-
 def refused():
     """Whether the table has each edit of the gate and no other, each behind its crate."""
     table = (ROOT / "docs" / "TESTING.md").read_text().split("\n## What the prover refuses\n")[1]
@@ -114,10 +108,6 @@ def wrong():
     for crates, calls, clauses in rows():
         if not is_so(crates, calls, clauses):
             yield f"{calls}: not with the clauses {sorted(clauses)}"
-    architecture = (ROOT / "docs" / "ARCHITECTURE.md").read_text()
-    told = re.search(r"there\s+are\s+(\d+)\s+paths", architecture)
-    if not paths("fzcheck") == int(told[1]) <= 165:
-        yield f"there are {paths('fzcheck')} paths below fzcheck"
     if not refused():
         yield "the table of docs/TESTING.md isn't that of the edits in crates/*/must-fail"
     for edit in sorted(ROOT.glob("tests/wrong/*/*.edit")):

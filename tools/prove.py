@@ -125,7 +125,7 @@ class Build:
 
     def start(self, lanes):
         """Starts what is ready. Most of the proof is one chain of crates, so the crate with the
-        most behind it gets all the processes, and one beside it gets one, which stands back."""
+        most behind it gets all the processes, and one beside it half of them, which stand back."""
         waiting = [it for it in self.crates if it not in (*self.proved, *self.running)]
         ready = [it for it in waiting if {*it.deps} <= {*self.proved}]
         ready.sort(key=self.behind.get, reverse=True)
@@ -134,7 +134,7 @@ class Build:
             if self.behind[crate] > most:
                 crate.start(self.jobs, die_with_parent)
             else:
-                crate.start(1, stand_back)
+                crate.start(max(self.jobs // 2, 1), stand_back)
             self.running.append(crate)
 
     def end(self, crate, log):

@@ -3,8 +3,8 @@ use Rattle.std.proofs.Common.{◌≡◌, ℕ, ◌+◌, ℤ, pos, ◌+ℤ◌, ◌
 use Rattle.std.proofs.lemmas.Int.{ints}
 use Rattle.std.specs.List.{filter}
 use Rattle.std.specs.Prelude.{cond, length}
-use Rattle.fz_index.specs.of_model.Relations.{as_number, products, total, where_true}
-use Rattle.fz_index.proofs.of_model.of_builtins.of_kernel.Left.{next}
+use Rattle.fz_model.specs.Relations.{as_number, products, total, where_true}
+use Rattle.fz_model.proofs.of_builtins.of_kernel.Left.{next}
 use Rattle.fz_bounds.specs.Decided.{LiesIn}
 use Rattle.fz_bounds.specs.declared.range.Range.{Range}
 

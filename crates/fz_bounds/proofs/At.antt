@@ -1,7 +1,7 @@
 -- What is said of a row is said of the builtin that has it.
 use Rattle.std.proofs.Common.{◌≡◌, subst, sym}
-use Rattle.fz_index.specs.of_model.declared.Builtin.{Builtin}
-use Rattle.fz_index.specs.of_model.Builtins.{row_at}
+use Rattle.fz_store.specs.declared.Builtin.{Builtin}
+use Rattle.fz_model.specs.Builtins.{row_at}
 use Rattle.fz_bounds.specs.Within.{Foretells}
 use Rattle.fz_bounds.specs.declared.bounded.BoundedConstraint.{BoundedConstraint}
 use Rattle.fz_bounds.specs.declared.outlook.Outlook.{Outlook}

@@ -1,15 +1,15 @@
 -- What a known-solution says of the domain of a variable.
 use Rattle.std.proofs.Common.{◌≡◌, ℕ, zero, suc, List, [], ◌∷◌, map, None, Some, refl, sym, ap, subst₂, slice_get, ◌∙◌, IsTrue}
-use Rattle.fz_index.specs.of_model.Relations.{kind_of}
-use Rattle.fz_index.specs.of_model.Meaning.{Assignment, Model, Partial, Point, Variable, inside, points, value_at, variables_of, whole}
-use Rattle.fz_index.specs.of_model.Meaning.Point.{DomainPoint, DefinitionPoint, ArrayPoint, ConstraintPoint}
-use Rattle.fz_index.specs.of_model.States.{HoldsIfKnown, IsKnownSolution}
-use Rattle.fz_index.specs.of_model.Partial.{nothing_for}
-use Rattle.fz_index.proofs.of_model.Lists.{at_place}
-use Rattle.fz_index.proofs.of_model.Points.{points_fit}
-use Rattle.fz_index.proofs.of_model.States.{intro}
-use Rattle.fz_index.proofs.of_model.Steps.{PointFits}
-use Rattle.fz_index.proofs.of_model.Under.{assigned, some_and}
+use Rattle.fz_model.specs.Relations.{kind_of}
+use Rattle.fz_model.specs.Meaning.{Assignment, Model, Partial, Point, Variable, inside, points, value_at, variables_of, whole}
+use Rattle.fz_model.specs.Meaning.Point.{DomainPoint, DefinitionPoint, ArrayPoint, ConstraintPoint}
+use Rattle.fz_model.specs.States.{HoldsIfKnown, IsKnownSolution}
+use Rattle.fz_model.specs.Partial.{nothing_for}
+use Rattle.fz_model.proofs.Lists.{at_place}
+use Rattle.fz_model.proofs.Points.{points_fit}
+use Rattle.fz_model.proofs.States.{intro}
+use Rattle.fz_model.proofs.Steps.{PointFits}
+use Rattle.fz_model.proofs.Under.{assigned, some_and}
 use Rattle.fz_bounds.specs.Bounds.{IsInDomain, IsInside, LiesBetween, LiesIn}
 
 known_domain : (m : Model) (A : Assignment) (k : ℕ) (x : Variable) (n : ℕ)

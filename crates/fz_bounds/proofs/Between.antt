@@ -2,19 +2,19 @@
 use Rattle.std.proofs.Common.{◌≡◌, ℕ, suc, Bool, true, false, List, [], ◌∷◌, Option, Some, None, refl, subst, map, IfSome, IsSomeAnd, IsTrue}
 use Rattle.std.specs.List.{list_all}
 use Rattle.std.specs.Option.{option_map_or}
-use Rattle.fz_index.specs.of_model.of_base.declared.value.Value.{Value}
-use Rattle.fz_index.specs.of_model.of_base.declared.value.Value.TheVariants.{Int, Bool as Truth, Set}
-use Rattle.fz_index.specs.of_model.declared.Kind.{Kind}
-use Rattle.fz_index.specs.of_model.declared.Kind.TheVariants.{Int as IntKind, Bool as BoolKind, Set as SetKind}
-use Rattle.fz_index.specs.of_model.declared.Term.{Term}
-use Rattle.fz_index.specs.of_model.declared.Term.TheVariants.{Var, Fixed}
-use Rattle.fz_index.specs.of_model.Relations.{kind_of, same_kind}
-use Rattle.fz_index.specs.of_model.Builtins.{Plain, Shape}
-use Rattle.fz_index.specs.of_model.Builtins.Shape.{ScalarOf, ArrayOf}
-use Rattle.fz_index.specs.of_model.Meaning.{Argument, Assignment, Partial, value_at, whole}
-use Rattle.fz_index.proofs.of_model.Values.{no, and_first, and_second}
-use Rattle.fz_index.specs.of_model.of_builtins.of_kernel.Given.{are_read, argument_is_read, bool_in, int_in, is_read, set_in, slot_in, slots_in, value_of}
-use Rattle.fz_index.specs.of_model.of_builtins.Outcomes.{argument_at}
+use Rattle.fz_model.specs.of_base.declared.value.Value.{Value}
+use Rattle.fz_model.specs.of_base.declared.value.Value.TheVariants.{Int, Bool as Truth, Set}
+use Rattle.fz_model.specs.declared.Kind.{Kind}
+use Rattle.fz_model.specs.declared.Kind.TheVariants.{Int as IntKind, Bool as BoolKind, Set as SetKind}
+use Rattle.fz_model.specs.declared.Term.{Term}
+use Rattle.fz_model.specs.declared.Term.TheVariants.{Var, Fixed}
+use Rattle.fz_model.specs.Relations.{kind_of, same_kind}
+use Rattle.fz_model.specs.Builtins.{Plain, Shape}
+use Rattle.fz_model.specs.Builtins.Shape.{ScalarOf, ArrayOf}
+use Rattle.fz_model.specs.Meaning.{Argument, Assignment, Partial, value_at, whole}
+use Rattle.fz_model.proofs.Values.{no, and_first, and_second}
+use Rattle.fz_model.specs.of_builtins.of_kernel.Given.{are_read, argument_is_read, bool_in, int_in, is_read, set_in, slot_in, slots_in, value_of}
+use Rattle.fz_model.specs.of_builtins.Outcomes.{argument_at}
 use Rattle.fz_bounds.specs.Bounds.{IsInside, Ranges, is_at_most}
 use Rattle.fz_bounds.specs.Between.{AreAtMost, AreBelow, AreBetween, IsAtMost, at_most}
 use Rattle.fz_bounds.proofs.Inside.{at_most_itself}

@@ -4,8 +4,8 @@ use Rattle.std.proofs.lemmas.Int.{ints}
 use Rattle.std.proofs.lemmas.Slice.Zip.{length-zip}
 use Rattle.std.specs.List.{filter, zip}
 use Rattle.std.specs.Prelude.{cond}
-use Rattle.fz_index.specs.of_model.Relations.{total}
-use Rattle.fz_index.proofs.of_model.of_builtins.of_kernel.Left.{next, none_left}
+use Rattle.fz_model.specs.Relations.{total}
+use Rattle.fz_model.proofs.of_builtins.of_kernel.Left.{next, none_left}
 
 abbrev pub chosen : {A : Type 0} → (A → Bool) → List (A × ℤ) → ℤ
 chosen test ps = total (map (λ p. p.1) (filter (λ p. test p.0) ps))

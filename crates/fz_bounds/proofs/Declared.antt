@@ -3,19 +3,19 @@ use Rattle.std.proofs.Common.{◌≡◌, ℕ, zero, suc, ℤ, ◌≤ℤ◌, true
 use Rattle.std.proofs.lemmas.Option.{same_Some}
 use Rattle.std.specs.FinSet.{contains}
 use Rattle.std.specs.List.{AllByRecursion}
-use Rattle.fz_index.specs.of_model.of_base.Sets.{NumberSet}
-use Rattle.fz_index.specs.of_model.of_base.Elements.{LiesWithin}
-use Rattle.fz_index.specs.of_model.of_base.declared.value.Value.{Value}
-use Rattle.fz_index.specs.of_model.declared.Kind.{Kind}
-use Rattle.fz_index.specs.of_model.declared.Kind.TheVariants.{Int as IntKind, Bool as BoolKind, Set as SetKind}
-use Rattle.fz_index.specs.of_model.declared.Domain.{Domain}
-use Rattle.fz_index.specs.of_model.declared.Term.{Term}
-use Rattle.fz_index.specs.of_model.declared.Term.TheVariants.{Fixed, Var}
-use Rattle.fz_index.specs.of_model.Meaning.{Assignment, Partial, Variable, admits, inside, value, value_at, values, whole}
-use Rattle.fz_index.specs.of_model.Meaning.Point.{ArrayPoint, DefinitionPoint, DomainPoint}
-use Rattle.fz_index.proofs.of_model.States.{intro}
-use Rattle.fz_index.proofs.of_model.Steps.{option_cons_parts, some_of}
-use Rattle.fz_index.proofs.of_model.Values.{no'}
+use Rattle.fz_model.specs.of_base.Sets.{NumberSet}
+use Rattle.fz_model.specs.of_base.Elements.{LiesWithin}
+use Rattle.fz_model.specs.of_base.declared.value.Value.{Value}
+use Rattle.fz_model.specs.declared.Kind.{Kind}
+use Rattle.fz_model.specs.declared.Kind.TheVariants.{Int as IntKind, Bool as BoolKind, Set as SetKind}
+use Rattle.fz_model.specs.declared.Domain.{Domain}
+use Rattle.fz_model.specs.declared.Term.{Term}
+use Rattle.fz_model.specs.declared.Term.TheVariants.{Fixed, Var}
+use Rattle.fz_model.specs.Meaning.{Assignment, Partial, Variable, admits, inside, value, value_at, values, whole}
+use Rattle.fz_model.specs.Meaning.Point.{ArrayPoint, DefinitionPoint, DomainPoint}
+use Rattle.fz_model.proofs.States.{intro}
+use Rattle.fz_model.proofs.Steps.{option_cons_parts, some_of}
+use Rattle.fz_model.proofs.Values.{no'}
 use Rattle.fz_bounds.specs.Bounds.{IsInside, NeverHolds, Ranges, is_at_most, number_as}
 use Rattle.fz_bounds.specs.Ends.{AreEnds, AreEndsAt, LiesAt}
 use Rattle.fz_bounds.specs.declared.ends.KindEnds.{KindEnds}

@@ -4,8 +4,8 @@ use Rattle.std.proofs.lemmas.Int.{clamps, ints}
 use Rattle.std.specs.Int.{int_max, int_min}
 use Rattle.std.specs.List.{filter, list_all}
 use Rattle.std.specs.Prelude.{cond}
-use Rattle.fz_index.specs.of_model.Relations.{◌=ℤ◌, all_different, is_among}
-use Rattle.fz_index.proofs.of_model.Values.{and_first, and_second, int_itself, no, no', same_int}
+use Rattle.fz_model.specs.Relations.{◌=ℤ◌, all_different, is_among}
+use Rattle.fz_model.proofs.Values.{and_first, and_second, int_itself, no, no', same_int}
 use Rattle.fz_bounds.specs.Decided.{LiesIn}
 use Rattle.fz_bounds.specs.declared.range.Range.{Range}
 use Rattle.fz_bounds.proofs.Ranges.{IsSum}

@@ -2,8 +2,8 @@
 use Rattle.std.proofs.Common.{◌≡◌, ℕ, zero, suc, ◌+◌, ◌<◌, ℤ, pos, ◌+ℤ◌, Bool, true, false, ◌&&◌, ◌||◌, not, List, [], ◌∷◌, Some, slice_get, refl, sym, ap, subst, ◌∙◌, arith, int_le}
 use Rattle.std.proofs.lemmas.Int.{ints}
 use Rattle.std.specs.List.{list_all}
-use Rattle.fz_index.specs.of_model.Relations.{◌=ℤ◌, all_both, all_neighbours, all_pairs, count_of, counts_lie, load_of, loads_are, precedes, rises_by_one}
-use Rattle.fz_index.proofs.of_model.Values.{and_first, no'}
+use Rattle.fz_model.specs.Relations.{◌=ℤ◌, all_both, all_neighbours, all_pairs, count_of, counts_lie, load_of, loads_are, precedes, rises_by_one}
+use Rattle.fz_model.proofs.Values.{and_first, no'}
 use Rattle.fz_bounds.specs.Decided.{Decides}
 use Rattle.fz_bounds.specs.declared.outlook.Outlook.{Outlook}
 use Rattle.fz_bounds.specs.declared.outlook.Outlook.TheVariants.{Never}

@@ -1,15 +1,15 @@
 -- What bounds say of a row, and of the reified forms of it.
 use Rattle.std.proofs.Common.{◌≡◌, ℕ, suc, ◌+◌, Bool, true, not, ◌||◌, List, [], ◌∷◌, length, sym, ap, subst, subst₂, ◌∙◌, arith}
-use Rattle.fz_index.specs.of_model.declared.Builtin.{Builtin}
-use Rattle.fz_index.specs.of_model.declared.Kind.TheVariants.{Bool as BoolKind}
-use Rattle.fz_index.specs.of_model.Relations.{◌=ᴮ◌}
-use Rattle.fz_index.specs.of_model.Builtins.{Row, Shape, Test, row_at, with_bool, with_truth}
-use Rattle.fz_index.specs.of_model.declared.Form.TheVariants.{Reified, Implied}
-use Rattle.fz_index.specs.of_model.declared.Known.{Known}
-use Rattle.fz_index.specs.of_model.of_builtins.of_meaning.Known.{form_at, known_row}
-use Rattle.fz_index.specs.of_model.Meaning.{Argument, Partial}
-use Rattle.fz_index.specs.of_model.of_builtins.of_kernel.Given.{bool_at}
-use Rattle.fz_index.specs.of_model.of_builtins.Outcomes.{argument_at, test_from}
+use Rattle.fz_store.specs.declared.Builtin.{Builtin}
+use Rattle.fz_model.specs.declared.Kind.TheVariants.{Bool as BoolKind}
+use Rattle.fz_model.specs.Relations.{◌=ᴮ◌}
+use Rattle.fz_model.specs.Builtins.{Row, Shape, Test, row_at, with_bool, with_truth}
+use Rattle.fz_store.specs.declared.Form.TheVariants.{Reified, Implied}
+use Rattle.fz_store.specs.declared.Known.{Known}
+use Rattle.fz_model.specs.of_builtins.of_meaning.Known.{form_at, known_row}
+use Rattle.fz_model.specs.Meaning.{Argument, Partial}
+use Rattle.fz_model.specs.of_builtins.of_kernel.Given.{bool_at}
+use Rattle.fz_model.specs.of_builtins.Outcomes.{argument_at, test_from}
 use Rattle.fz_bounds.specs.Between.{AreBelow, at_most}
 use Rattle.fz_bounds.specs.Decided.{Decides}
 use Rattle.fz_bounds.specs.Within.{Foretells, IsBetween, TellsTruth, TruthLies, given}

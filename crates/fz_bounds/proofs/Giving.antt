@@ -1,10 +1,10 @@
 -- Another value of a variable.
 use Rattle.std.proofs.Common.{◌≡◌, ℕ, zero, suc, ◌≤◌, [], ◌∷◌, length, Some, refl, sym, ap, arith}
-use Rattle.fz_index.specs.of_model.of_base.declared.value.Value.{Value}
-use Rattle.fz_index.specs.of_model.Meaning.{Partial, value_at}
-use Rattle.fz_index.specs.of_model.Steps.{give}
-use Rattle.fz_index.specs.of_model.Partial.{without}
-use Rattle.fz_index.specs.of_model.Openings.{HasEach}
+use Rattle.fz_model.specs.of_base.declared.value.Value.{Value}
+use Rattle.fz_model.specs.Meaning.{Partial, value_at}
+use Rattle.fz_model.specs.Steps.{give}
+use Rattle.fz_model.specs.Partial.{without}
+use Rattle.fz_model.specs.Openings.{HasEach}
 
 pub given_anew : (K : Partial) (n : ℕ) (v : Value) → give (without K n) n v ≡ give K n v
 given_anew [] n v = refl

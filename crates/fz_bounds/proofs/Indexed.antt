@@ -2,8 +2,8 @@
 use Rattle.std.proofs.Common.{◌≡◌, ℕ, zero, suc, ℤ, pos, negsuc, Bool, true, false, ◌&&◌, not, ◌||◌, ◌<◌, arith, List, [], ◌∷◌, Some, slice_get, refl, sym, ap, subst, ◌∙◌}
 use Rattle.std.specs.List.{filter, list_any}
 use Rattle.std.specs.Prelude.{cond}
-use Rattle.fz_index.specs.of_model.Relations.{◌=ℤ◌, all_different, is_among, is_element}
-use Rattle.fz_index.proofs.of_model.Values.{int_itself}
+use Rattle.fz_model.specs.Relations.{◌=ℤ◌, all_different, is_among, is_element}
+use Rattle.fz_model.proofs.Values.{int_itself}
 use Rattle.fz_bounds.specs.Decided.{Decides}
 use Rattle.fz_bounds.specs.declared.outlook.Outlook.{Outlook}
 use Rattle.fz_bounds.specs.declared.outlook.Outlook.TheVariants.{Never}

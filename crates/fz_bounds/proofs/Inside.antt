@@ -1,16 +1,16 @@
 -- What lies inside bounds.
 use Rattle.std.proofs.Common.{◌≡◌, ℕ, zero, suc, ℤ, pos, ◌≤ℤ◌, true, false, not, ◌||◌, Option, Some, None, refl, sym, ap, subst, subst₂, arith, IfSome, IsSomeAnd, IsTrue, int_lt, ◌⊎◌, inl, inr}
 use Rattle.std.proofs.lemmas.Int.{ints}
-use Rattle.fz_index.specs.of_model.of_base.declared.value.Value.{Value}
-use Rattle.fz_index.specs.of_model.of_base.declared.value.Value.TheVariants.{Int, Bool as Truth, Set}
-use Rattle.fz_index.specs.of_model.Relations.{◌=ˢ◌}
-use Rattle.fz_index.specs.of_model.declared.Kind.{Kind}
-use Rattle.fz_index.specs.of_model.declared.Kind.TheVariants.{Int as IntKind, Bool as BoolKind, Set as SetKind}
-use Rattle.fz_index.specs.of_model.Meaning.{Assignment, Partial, value_at, whole}
-use Rattle.fz_index.specs.of_model.Steps.{give}
-use Rattle.fz_index.proofs.of_model.Values.{no, same_set_is, set_itself}
-use Rattle.fz_index.proofs.of_model.Steps.{value_at_given, value_at_other}
-use Rattle.fz_index.specs.of_model.Openings.{HasEach}
+use Rattle.fz_model.specs.of_base.declared.value.Value.{Value}
+use Rattle.fz_model.specs.of_base.declared.value.Value.TheVariants.{Int, Bool as Truth, Set}
+use Rattle.fz_model.specs.Relations.{◌=ˢ◌}
+use Rattle.fz_model.specs.declared.Kind.{Kind}
+use Rattle.fz_model.specs.declared.Kind.TheVariants.{Int as IntKind, Bool as BoolKind, Set as SetKind}
+use Rattle.fz_model.specs.Meaning.{Assignment, Partial, value_at, whole}
+use Rattle.fz_model.specs.Steps.{give}
+use Rattle.fz_model.proofs.Values.{no, same_set_is, set_itself}
+use Rattle.fz_model.proofs.Steps.{value_at_given, value_at_other}
+use Rattle.fz_model.specs.Openings.{HasEach}
 use Rattle.fz_bounds.specs.Bounds.{AreFixed, IsInside, LiesBetween, Ranges, is_at_most, narrowed, number_as}
 use Rattle.fz_bounds.proofs.Giving.{given_there}
 

@@ -17,4 +17,4 @@ pub mod Declared
 pub mod At
 pub mod Forms
 pub mod Never
-pub use Rattle.fz_index.proofs.of_model
+pub use Rattle.fz_model.proofs as of_model

@@ -3,12 +3,12 @@ use Rattle.std.proofs.Common.{◌≡◌, ℕ, zero, suc, ◌<◌, ℤ, ◌≤ℤ
 use Rattle.std.proofs.lemmas.Int.{ints as numerals}
 use Rattle.std.proofs.lemmas.List.{length-map}
 use Rattle.std.proofs.lemmas.Option.{same_Some, slice_get_within}
-use Rattle.fz_index.specs.of_model.declared.Kind.{Kind}
-use Rattle.fz_index.specs.of_model.declared.Kind.TheVariants.{Int as IntKind, Bool as BoolKind}
-use Rattle.fz_index.specs.of_model.Builtins.{Plain}
-use Rattle.fz_index.specs.of_model.Meaning.{Argument, Partial}
-use Rattle.fz_index.proofs.of_model.Lists.{there_is}
-use Rattle.fz_index.specs.of_model.of_builtins.of_kernel.Given.{bool_of, bools_at, int_of, ints_at, slots_at}
+use Rattle.fz_model.specs.declared.Kind.{Kind}
+use Rattle.fz_model.specs.declared.Kind.TheVariants.{Int as IntKind, Bool as BoolKind}
+use Rattle.fz_model.specs.Builtins.{Plain}
+use Rattle.fz_model.specs.Meaning.{Argument, Partial}
+use Rattle.fz_model.proofs.Lists.{there_is}
+use Rattle.fz_model.specs.of_builtins.of_kernel.Given.{bool_of, bools_at, int_of, ints_at, slots_at}
 use Rattle.fz_bounds.specs.Between.{AreAtMost, at_most}
 
 pub each_at_most : (k : Kind) (as' bs : List (Plain k)) (i : ℕ) (a b : Plain k)

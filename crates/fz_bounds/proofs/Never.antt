@@ -2,23 +2,23 @@
 use Rattle.std.proofs.Common.{◌≡◌, ℕ, suc, true, false, List, [], ◌∷◌, Option, None, Some, refl, sym, ap, subst, ◌∙◌, ◌⊎◌, inl, inr, IsSomeAnd, IsTrue, option_map}
 use Rattle.std.specs.List.{list_all}
 use Rattle.std.proofs.lemmas.Option.{same_Some}
-use Rattle.fz_index.specs.of_model.Builtins.{ArgValue, Row, Shape, Test, passes}
-use Rattle.fz_index.specs.of_model.Meaning.{Argument, Assignment, Partial, Posted, argument_values, have_shapes, row_holds, row_of, whole}
-use Rattle.fz_index.specs.of_model.Meaning.Point.{ConstraintPoint}
-use Rattle.fz_index.specs.of_model.declared.Known.{Known}
-use Rattle.fz_index.specs.of_model.of_builtins.of_meaning.Known.{known_row}
-use Rattle.fz_index.specs.of_model.Parts.{constraint_view}
-use Rattle.fz_index.specs.of_model.declared.Builtin.TheVariants.{IntPow}
-use Rattle.fz_index.specs.of_model.declared.State.TheVariants.{Unknown}
-use Rattle.fz_index.specs.of_model.States.{state_of_row}
-use Rattle.fz_index.proofs.of_model.Powers.{is_sum, known_sums, sums_are_known}
-use Rattle.fz_index.proofs.of_model.Values.{no'}
-use Rattle.fz_index.proofs.of_model.Steps.{some_of}
-use Rattle.fz_index.specs.of_model.of_builtins.of_kernel.Given.{are_read, given_from, given_values}
-use Rattle.fz_index.proofs.of_model.of_builtins.of_kernel.Ready.{ready_values, wrong_kind}
-use Rattle.fz_index.specs.of_model.of_builtins.Outcomes.{argument_at, test_from}
-use Rattle.fz_index.proofs.of_model.of_builtins.RowTests.{reads}
-use Rattle.fz_index.proofs.of_model.ConstraintStates.{row_fits}
+use Rattle.fz_model.specs.Builtins.{ArgValue, Row, Shape, Test, passes}
+use Rattle.fz_model.specs.Meaning.{Argument, Assignment, Partial, Posted, argument_values, have_shapes, row_holds, row_of, whole}
+use Rattle.fz_model.specs.Meaning.Point.{ConstraintPoint}
+use Rattle.fz_store.specs.declared.Known.{Known}
+use Rattle.fz_model.specs.of_builtins.of_meaning.Known.{known_row}
+use Rattle.fz_model.specs.Parts.{constraint_view}
+use Rattle.fz_store.specs.declared.Builtin.TheVariants.{IntPow}
+use Rattle.fz_model.specs.declared.State.TheVariants.{Unknown}
+use Rattle.fz_model.specs.States.{state_of_row}
+use Rattle.fz_model.proofs.Powers.{is_sum, known_sums, sums_are_known}
+use Rattle.fz_model.proofs.Values.{no'}
+use Rattle.fz_model.proofs.Steps.{some_of}
+use Rattle.fz_model.specs.of_builtins.of_kernel.Given.{are_read, given_from, given_values}
+use Rattle.fz_model.proofs.of_builtins.of_kernel.Ready.{ready_values, wrong_kind}
+use Rattle.fz_model.specs.of_builtins.Outcomes.{argument_at, test_from}
+use Rattle.fz_model.proofs.of_builtins.RowTests.{reads}
+use Rattle.fz_model.proofs.ConstraintStates.{row_fits}
 use Rattle.fz_bounds.specs.Bounds.{IsInside, NeverHolds, Ranges}
 use Rattle.fz_bounds.specs.Between.{AreBetween}
 use Rattle.fz_bounds.specs.Decided.{Decides}

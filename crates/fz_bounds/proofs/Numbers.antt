@@ -2,17 +2,17 @@
 use Rattle.std.proofs.Common.{◌≡◌, ℕ, ℤ, pos, ◌≤ℤ◌, ◌+ℤ◌, ◌-ℤ◌, true, false, not, ◌||◌, Option, Some, None, refl, sym, ap, subst, subst₂, ◌∙◌, arith, int_lt, inl, inr, slice_get, ◌<ℤ◌, Result, Ok, Err, IfOk, IsTrue}
 use Rattle.std.proofs.lemmas.Int.{clamps, ints}
 use Rattle.std.specs.Int.{int_max, int_min}
-use Rattle.fz_index.proofs.of_model.of_base.Covers.{apart}
-use Rattle.fz_index.specs.of_model.of_base.declared.value.Value.{Value}
-use Rattle.fz_index.specs.of_model.of_base.declared.value.Value.TheVariants.{Int, Bool as Truth}
-use Rattle.fz_index.specs.of_model.declared.Kind.{Kind}
-use Rattle.fz_index.specs.of_model.declared.Kind.TheVariants.{Int as IntKind, Bool as BoolKind, Set as SetKind}
-use Rattle.fz_index.specs.of_model.Meaning.{Assignment, Model, Point, inside as is_within, points, value_at, whole}
-use Rattle.fz_index.specs.of_model.States.{HoldsIfKnown}
-use Rattle.fz_index.specs.of_model.declared.Domain.{Domain}
-use Rattle.fz_index.specs.of_model.Relations.{kind_of, same_kind}
-use Rattle.fz_index.proofs.of_model.Steps.{some_of}
-use Rattle.fz_index.proofs.of_model.Values.{no}
+use Rattle.fz_model.proofs.of_base.Covers.{apart}
+use Rattle.fz_model.specs.of_base.declared.value.Value.{Value}
+use Rattle.fz_model.specs.of_base.declared.value.Value.TheVariants.{Int, Bool as Truth}
+use Rattle.fz_model.specs.declared.Kind.{Kind}
+use Rattle.fz_model.specs.declared.Kind.TheVariants.{Int as IntKind, Bool as BoolKind, Set as SetKind}
+use Rattle.fz_model.specs.Meaning.{Assignment, Model, Point, inside as is_within, points, value_at, whole}
+use Rattle.fz_model.specs.States.{HoldsIfKnown}
+use Rattle.fz_model.specs.declared.Domain.{Domain}
+use Rattle.fz_model.specs.Relations.{kind_of, same_kind}
+use Rattle.fz_model.proofs.Steps.{some_of}
+use Rattle.fz_model.proofs.Values.{no}
 use Rattle.fz_bounds.proofs.Giving.{given_back}
 use Rattle.fz_bounds.specs.Bounds.{IsInside, LiesBetween, LiesIn, NumberNeverHolds, Ranges, is_at_most, narrowed, number_as}
 use Rattle.fz_bounds.specs.Ends.{AreEndsAt, Excludes, IsTold}

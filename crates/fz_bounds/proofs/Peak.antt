@@ -4,9 +4,9 @@ use Rattle.std.proofs.lemmas.Int.{ints}
 use Rattle.std.proofs.lemmas.Bool.Decides.{nat_tests}
 use Rattle.std.specs.List.{filter, list_all}
 use Rattle.std.specs.Prelude.{cond, nat_eq}
-use Rattle.fz_index.specs.of_model.Relations.{◌=ℤ◌, Span, is_cumulative, is_natural, runs_at, used_at}
+use Rattle.fz_model.specs.Relations.{◌=ℤ◌, Span, is_cumulative, is_natural, runs_at, used_at}
 use Rattle.fz_bounds.proofs.Chosen.{one_kept}
-use Rattle.fz_index.proofs.of_model.Values.{no, no', and_both, and_first, and_second, same_int}
+use Rattle.fz_model.proofs.Values.{no, no', and_both, and_first, and_second, same_int}
 
 abbrev Task : Type 0
 Task = Span × ℤ

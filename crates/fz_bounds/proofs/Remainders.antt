@@ -3,8 +3,8 @@ use Rattle.std.proofs.Common.{◌≡◌, ℕ, zero, suc, ◌<◌, ◌≤◌, ◌
 use Rattle.std.proofs.Math.IntN.{*ℤ_comm}
 use Rattle.std.proofs.lemmas.Int.{clamps, ints, quot-rem, rem_below}
 use Rattle.std.specs.Int.{int_max, int_min}
-use Rattle.fz_index.specs.of_model.Relations.{◌=ℤ◌}
-use Rattle.fz_index.proofs.of_model.Values.{int_itself, no', same_int}
+use Rattle.fz_model.specs.Relations.{◌=ℤ◌}
+use Rattle.fz_model.proofs.Values.{int_itself, no', same_int}
 
 far_from_zero : (b : ℤ) → (b =ℤ pos 0) ≡ false → 0 < unsigned_abs b
 far_from_zero (pos zero) e = no' (sym (int_itself (pos 0)) ∙ e)

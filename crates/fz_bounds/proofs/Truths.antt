@@ -1,8 +1,8 @@
 -- Booleans between others.
 use Rattle.std.proofs.Common.{◌≡◌, Bool, true, false, not, List, [], ◌∷◌, refl, sym, ◌∙◌}
 use Rattle.std.specs.List.{list_all, list_any}
-use Rattle.fz_index.specs.of_model.declared.Kind.TheVariants.{Bool as BoolKind}
-use Rattle.fz_index.proofs.of_model.Values.{no, no'}
+use Rattle.fz_model.specs.declared.Kind.TheVariants.{Bool as BoolKind}
+use Rattle.fz_model.proofs.Values.{no, no'}
 use Rattle.fz_bounds.specs.Between.{AreAtMost}
 
 pub all_more : (as' bs : List Bool) → AreAtMost BoolKind as' bs → list_all (λ x. x) as' ≡ true

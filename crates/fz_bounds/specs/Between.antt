@@ -1,13 +1,13 @@
 -- The arguments of a constraint between those that bounds give, read as its row asks (private
 -- functions only).
 use Rattle.std.specs.Prelude.{ℕ, suc, Bool, not, ◌||◌, List, [], ◌∷◌, int_le, IsTrue, ⊤}
-use Rattle.fz_index.specs.of_model.declared.Kind.{Kind}
-use Rattle.fz_index.specs.of_model.declared.Kind.TheVariants.{Int as IntKind, Bool as BoolKind, Set as SetKind}
-use Rattle.fz_index.specs.of_model.Relations.{◌=ˢ◌}
-use Rattle.fz_index.specs.of_model.Builtins.{Of, Plain, Shape}
-use Rattle.fz_index.specs.of_model.Builtins.Shape.{ScalarOf, ArrayOf}
-use Rattle.fz_index.specs.of_model.Meaning.{Argument, Partial}
-use Rattle.fz_index.specs.of_model.of_builtins.Outcomes.{argument_at}
+use Rattle.fz_model.specs.declared.Kind.{Kind}
+use Rattle.fz_model.specs.declared.Kind.TheVariants.{Int as IntKind, Bool as BoolKind, Set as SetKind}
+use Rattle.fz_model.specs.Relations.{◌=ˢ◌}
+use Rattle.fz_model.specs.Builtins.{Of, Plain, Shape}
+use Rattle.fz_model.specs.Builtins.Shape.{ScalarOf, ArrayOf}
+use Rattle.fz_model.specs.Meaning.{Argument, Partial}
+use Rattle.fz_model.specs.of_builtins.Outcomes.{argument_at}
 
 -- of two readings of a scalar of a kind, the first is at most the second
 abbrev pub at_most : (k : Kind) → Plain k → Plain k → Bool

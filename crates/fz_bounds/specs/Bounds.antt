@@ -1,17 +1,17 @@
 -- Bounds of a model's variables, the assignments that lie inside them, and what a point says there
 -- (this project's profile).
 use Rattle.std.specs.Prelude.{◌≡◌, ℕ, ℤ, pos, Bool, false, not, ◌||◌, int_le, int_lt, length, Option, Some, IfSome, IsSomeAnd, IsTrue, slice_get, ⊤}
-use Rattle.fz_index.specs.of_model.of_base.declared.value.Value.{Value}
-use Rattle.fz_index.specs.of_model.of_base.declared.value.Value.TheVariants.{Int, Bool as Truth, Set}
-use Rattle.fz_index.specs.of_model.Relations.{◌=ˢ◌, kind_of}
-use Rattle.fz_index.specs.of_model.declared.Kind.{Kind}
-use Rattle.fz_index.specs.of_model.declared.Kind.TheVariants.{Int as IntKind, Bool as BoolKind, Set as SetKind}
-use Rattle.fz_index.specs.of_model.declared.Domain.{Domain}
-use Rattle.fz_index.specs.of_model.Meaning.{Assignment, Model, Partial, Point, inside, points, value_at, whole}
-use Rattle.fz_index.specs.of_model.Steps.{give}
-use Rattle.fz_index.specs.of_model.Meaning.Point.{DomainPoint, DefinitionPoint, ArrayPoint, ConstraintPoint}
-use Rattle.fz_index.specs.of_model.States.{HoldsIfKnown}
-use Rattle.fz_index.specs.of_model.Openings.{HasEach}
+use Rattle.fz_model.specs.of_base.declared.value.Value.{Value}
+use Rattle.fz_model.specs.of_base.declared.value.Value.TheVariants.{Int, Bool as Truth, Set}
+use Rattle.fz_model.specs.Relations.{◌=ˢ◌, kind_of}
+use Rattle.fz_model.specs.declared.Kind.{Kind}
+use Rattle.fz_model.specs.declared.Kind.TheVariants.{Int as IntKind, Bool as BoolKind, Set as SetKind}
+use Rattle.fz_model.specs.declared.Domain.{Domain}
+use Rattle.fz_model.specs.Meaning.{Assignment, Model, Partial, Point, inside, points, value_at, whole}
+use Rattle.fz_model.specs.Steps.{give}
+use Rattle.fz_model.specs.Meaning.Point.{DomainPoint, DefinitionPoint, ArrayPoint, ConstraintPoint}
+use Rattle.fz_model.specs.States.{HoldsIfKnown}
+use Rattle.fz_model.specs.Openings.{HasEach}
 
 -- a number that is no greater, a Boolean that is true only where the other is, the same set
 abbrev pub is_at_most : Value → Value → Bool

@@ -1,6 +1,6 @@
 -- What an outlook says of a test, and a range of a number (this project's profile).
 use Rattle.std.specs.Prelude.{◌≡◌, ℤ, Bool, true, false, int_le, int_lt, IfSome, ⊤}
-use Rattle.fz_index.specs.of_model.Relations.{◌=ℤ◌}
+use Rattle.fz_model.specs.Relations.{◌=ℤ◌}
 use Rattle.fz_bounds.specs.declared.order.Order.{Order}
 use Rattle.fz_bounds.specs.declared.order.Order.TheVariants as orders
 use Rattle.fz_bounds.specs.declared.outlook.Outlook.{Outlook}

@@ -1,11 +1,11 @@
 -- Bounds of a variable as numbers.
 use Rattle.std.specs.Prelude.{◌≡◌, ℕ, ℤ, pos, ◌≤ℤ◌, Some, ⊤, slice_get}
-use Rattle.fz_index.specs.of_model.of_base.declared.value.Value.{Value}
-use Rattle.fz_index.specs.of_model.declared.Kind.{Kind}
-use Rattle.fz_index.specs.of_model.declared.Kind.TheVariants.{Int as IntKind, Bool as BoolKind, Set as SetKind}
-use Rattle.fz_index.specs.of_model.Meaning.{Assignment, Model, Point, points, value, value_at, whole}
-use Rattle.fz_index.specs.of_model.declared.Term.{Term}
-use Rattle.fz_index.specs.of_model.States.{HoldsIfKnown}
+use Rattle.fz_model.specs.of_base.declared.value.Value.{Value}
+use Rattle.fz_model.specs.declared.Kind.{Kind}
+use Rattle.fz_model.specs.declared.Kind.TheVariants.{Int as IntKind, Bool as BoolKind, Set as SetKind}
+use Rattle.fz_model.specs.Meaning.{Assignment, Model, Point, points, value, value_at, whole}
+use Rattle.fz_model.specs.declared.Term.{Term}
+use Rattle.fz_model.specs.States.{HoldsIfKnown}
 use Rattle.fz_bounds.specs.Bounds.{IsInside, Ranges, number_as}
 use Rattle.fz_bounds.specs.declared.ends.KindEnds.{KindEnds}
 
@@ -34,9 +34,10 @@ abbrev pub LiesAt : Ranges → Term → KindEnds → Type 0
 LiesAt B t e = (A : Assignment) → IsInside B A → (a : ℤ)
     × (value (whole A) t ≡ Some (number_as e.kind a)) × (e.low ≤ℤ a) × (a ≤ℤ e.high)
 
--- the point of the number holds under no assignment inside the bounds that gives the variable one of
--- these numbers (private functions only)
-pub record Excludes (m : Model) (k : ℕ) (B : Ranges) (n : ℕ) (kind : Kind) (from to : ℤ) : Type 0 where
+-- the point of the number holds under no assignment inside the bounds that gives the variable one
+-- of these numbers (private functions only)
+pub record Excludes (m : Model) (k : ℕ) (B : Ranges) (n : ℕ) (kind : Kind) (from to : ℤ)
+    : Type 0 where
   pub never : (p : Point) → slice_get (points m) k ≡ Some p → (A : Assignment) → IsInside B A
       → (a : ℤ) → value_at (whole A) n ≡ Some (number_as kind a) → from ≤ℤ a → a ≤ℤ to
       → HoldsIfKnown (whole A) p → ⊥

@@ -4,4 +4,4 @@ pub mod Decided
 pub mod Between
 pub mod Within
 pub mod Spans
-pub use Rattle.fz_index.specs.of_model
+pub use Rattle.fz_model.specs as of_model

@@ -1,11 +1,11 @@
 -- Arguments of a constraint that lie within bounds (private functions only).
 use Rattle.std.specs.Prelude.{◌≡◌, ℕ, List, true}
-use Rattle.fz_index.specs.of_model.declared.Kind.TheVariants.{Int as IntKind, Bool as BoolKind, Set as SetKind}
-use Rattle.fz_index.specs.of_model.Builtins.{Row, Shape}
-use Rattle.fz_index.specs.of_model.Meaning.{Argument, Partial}
-use Rattle.fz_index.specs.of_model.Parts.{constraint_view}
-use Rattle.fz_index.specs.of_model.of_builtins.of_kernel.Given.{are_read, bool_at, bools_at, int_at, ints_at, set_at}
-use Rattle.fz_index.specs.of_model.of_builtins.Outcomes.{test_from}
+use Rattle.fz_model.specs.declared.Kind.TheVariants.{Int as IntKind, Bool as BoolKind, Set as SetKind}
+use Rattle.fz_model.specs.Builtins.{Row, Shape}
+use Rattle.fz_model.specs.Meaning.{Argument, Partial}
+use Rattle.fz_model.specs.Parts.{constraint_view}
+use Rattle.fz_model.specs.of_builtins.of_kernel.Given.{are_read, bool_at, bools_at, int_at, ints_at, set_at}
+use Rattle.fz_model.specs.of_builtins.Outcomes.{test_from}
 use Rattle.fz_bounds.specs.Between.{AreAtMost, AreBetween, at_most}
 use Rattle.fz_bounds.specs.Decided.{Decides}
 use Rattle.fz_bounds.specs.declared.bounded.BoundedConstraint.{BoundedConstraint}

@@ -2,9 +2,9 @@
 
 ghost use Rattle.std.specs.Prelude.{◌≡◌, ◌+ℤ◌, ◌-ℤ◌, ℤ, int_le, length, pos};
 ghost use Rattle.std.specs.List.{list_all};
-ghost use Rattle.fz_index.specs.of_model.Meaning.{Partial as Values};
-ghost use Rattle.fz_index.specs.of_model.Relations.{lies_between, load_of, loads_are};
-ghost use Rattle.fz_index.specs.of_model.of_builtins.of_kernel.Given.{int_at, ints_at};
+ghost use Rattle.fz_model.specs.Meaning.{Partial as Values};
+ghost use Rattle.fz_model.specs.Relations.{lies_between, load_of, loads_are};
+ghost use Rattle.fz_model.specs.of_builtins.of_kernel.Given.{int_at, ints_at};
 ghost use Rattle.fz_bounds.specs.Decided.{Decides, LiesIn};
 ghost use Rattle.fz_bounds.specs.Within.{NumberLies, NumbersLie, given};
 

@@ -2,15 +2,17 @@
 
 ghost use Rattle.std.specs.Prelude.{◌≡◌, ◌*ℤ◌, not};
 ghost use Rattle.std.specs.List.{list_all, list_any};
-ghost use Rattle.fz_index.specs.of_model.Meaning.{Partial as Values};
-ghost use Rattle.fz_index.specs.of_model.of_builtins.of_kernel.Given.{bool_at, bools_at, int_at};
-ghost use Rattle.fz_index.specs.of_model.of_builtins.of_kernel.Views.{arguments_of, assigned};
+ghost use Rattle.fz_model.specs.Meaning.{Partial as Values};
+ghost use Rattle.fz_model.specs.of_builtins.of_kernel.Given.{bool_at, bools_at, int_at};
+ghost use Rattle.fz_model.specs.of_builtins.of_kernel.Views.{arguments_of, assigned};
 ghost use Rattle.fz_bounds.specs.Decided.{Decides, LiesIn};
 ghost use Rattle.fz_bounds.specs.Within.{NumberLies, TruthLies, TruthsLie, given};
 
 use crate::outlook::Outlook;
 use crate::range::Range;
-use fz_index::{ArgumentView, ConstraintParts, Partial, all_true, any_false, any_true};
+use fz_kernel::ArgumentView;
+use fz_kernel::arrays::{all_true, any_false, any_true};
+use fz_store::{ConstraintParts, Partial};
 
 /// A constraint with the least and the greatest values of variables.
 #[derive(Clone, Copy)]

@@ -1,17 +1,17 @@
 //! The bounds of a model's variables.
 
 ghost use Rattle.std.specs.Prelude.{◌≡◌, IfOk, IfSome};
-ghost use Rattle.fz_index.specs.of_model.Meaning.{Assignment, whole};
-ghost use Rattle.fz_index.specs.of_model.States.{IsKnownSolution};
-ghost use Rattle.fz_index.specs.of_model.Shown.{point_view};
-ghost use Rattle.fz_index.specs.of_model.Openings.{HasEach};
+ghost use Rattle.fz_model.specs.Meaning.{Assignment, whole};
+ghost use Rattle.fz_model.specs.States.{IsKnownSolution};
+ghost use Rattle.fz_model.specs.Shown.{point_view};
+ghost use Rattle.fz_model.specs.Openings.{HasEach};
 ghost use Rattle.fz_bounds.specs.Bounds.{AreFixed, IsBoth, IsInDomain, IsInside, narrowed, number_as};
 ghost use Rattle.fz_bounds.specs.Ends.{AreEndsAt};
 
 use crate::domains::ends_of;
 use crate::ends::{KindEnds, ends_between, number_as};
 use crate::replacing::replace;
-use fz_index::{Kind, Model, Partial, PointParts, Value};
+use fz_store::{Kind, Model, Partial, PointParts, Value};
 use std::alloc::{AllocError, Global};
 
 /// The least and the greatest value that each variable may have, so far as they are known. Of a set
@@ -25,9 +25,9 @@ pub struct Bounds {
 }
 
 impl std::marker::Model for Bounds {
-    ghost use Rattle.fz_index.specs.of_model.of_base.contracts.sets.IntSet as the_set;
+    ghost use Rattle.fz_model.specs.of_base.contracts.sets.IntSet as the_set;
     ghost use Rattle.std.specs.Coded.{codes};
-    ghost use Rattle.fz_index.specs.of_model.Shown.{point_view};
+    ghost use Rattle.fz_model.specs.Shown.{point_view};
     ghost use Rattle.fz_bounds.specs.Bounds.{AreFixed, Ranges};
 
     ghost Value = { Ranges };

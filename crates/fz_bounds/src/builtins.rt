@@ -1,12 +1,12 @@
 //! What bounds say of a builtin's row.
 
-ghost use Rattle.fz_index.specs.of_model.Builtins.{row_at};
+ghost use Rattle.fz_model.specs.Builtins.{row_at};
 ghost use Rattle.fz_bounds.specs.Within.{Foretells};
 
 use crate::bounded::BoundedConstraint;
 use crate::order::Order;
 use crate::outlook::Outlook;
-use fz_index::Builtin;
+use fz_store::Builtin;
 
 /// Whether the row of a builtin holds at no arguments inside the bounds, or at all of them.
 pub(crate) fn foretold(builtin: Builtin, at: &BoundedConstraint<'_, '_>) -> Outlook

@@ -1,9 +1,9 @@
 //! Counts of several values within bounds.
 
 ghost use Rattle.std.specs.Prelude.{ℤ};
-ghost use Rattle.fz_index.specs.of_model.Meaning.{Partial as Values};
-ghost use Rattle.fz_index.specs.of_model.Relations.{counts_are, counts_lie, is_closed};
-ghost use Rattle.fz_index.specs.of_model.of_builtins.of_kernel.Given.{ints_at};
+ghost use Rattle.fz_model.specs.Meaning.{Partial as Values};
+ghost use Rattle.fz_model.specs.Relations.{counts_are, counts_lie, is_closed};
+ghost use Rattle.fz_model.specs.of_builtins.of_kernel.Given.{ints_at};
 ghost use Rattle.fz_bounds.specs.Decided.{Decides};
 ghost use Rattle.fz_bounds.specs.Within.{NumbersLie, given};
 

@@ -2,11 +2,11 @@
 
 ghost use Rattle.std.specs.Prelude.{◌≡◌, ◌≤ℤ◌, ◌&&◌, ℕ, ℤ, List, IfSome, IsTrue, Some, false, int_le};
 ghost use Rattle.std.specs.FinSet.{contains};
-ghost use Rattle.fz_index.specs.of_model.of_base.declared.value.Value.{Value as Held};
-ghost use Rattle.fz_index.specs.of_model.Meaning.{Assignment, Variable, admits, inside, value, value_at, whole};
-ghost use Rattle.fz_index.specs.of_model.Meaning.Point.{ArrayPoint, DefinitionPoint};
-ghost use Rattle.fz_index.specs.of_model.Shown.{scalar_terms};
-ghost use Rattle.fz_index.specs.of_model.Slots.{scalar_term};
+ghost use Rattle.fz_model.specs.of_base.declared.value.Value.{Value as Held};
+ghost use Rattle.fz_model.specs.Meaning.{Assignment, Variable, admits, inside, value, value_at, whole};
+ghost use Rattle.fz_model.specs.Meaning.Point.{ArrayPoint, DefinitionPoint};
+ghost use Rattle.fz_model.specs.Shown.{scalar_terms};
+ghost use Rattle.fz_model.specs.Slots.{scalar_term};
 ghost use Rattle.fz_bounds.specs.Bounds.{IsInside, NeverHolds, number_as};
 ghost use Rattle.fz_bounds.specs.Decided.{Decides};
 ghost use Rattle.fz_bounds.specs.Ends.{LiesAt};
@@ -14,7 +14,7 @@ ghost use Rattle.fz_bounds.specs.Ends.{LiesAt};
 use crate::bounds::Bounds;
 use crate::ends::{KindEnds, ends_between};
 use crate::outlook::Outlook;
-use fz_index::{Domain, IntSet, Kind, Scalar, Scalars, Term, same_kind};
+use fz_store::{Domain, IntSet, Kind, Scalar, Scalars, Term, same_kind};
 
 /// So many numbers of a range are looked for in a set with gaps.
 const TRIED: usize = 1_000;

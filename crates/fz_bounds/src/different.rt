@@ -2,9 +2,9 @@
 
 ghost use Rattle.std.specs.Prelude.{◌≡◌, ◌<◌, ℕ, IsTrue, Some, false, length, slice_get};
 ghost use Rattle.std.specs.List.{filter};
-ghost use Rattle.fz_index.specs.of_model.Meaning.{Partial as Values};
-ghost use Rattle.fz_index.specs.of_model.Relations.{all_different, is_nonzero};
-ghost use Rattle.fz_index.specs.of_model.of_builtins.of_kernel.Given.{ints_at, slots_at};
+ghost use Rattle.fz_model.specs.Meaning.{Partial as Values};
+ghost use Rattle.fz_model.specs.Relations.{all_different, is_nonzero};
+ghost use Rattle.fz_model.specs.of_builtins.of_kernel.Given.{ints_at, slots_at};
 ghost use Rattle.fz_bounds.specs.Decided.{Decides};
 ghost use Rattle.fz_bounds.specs.Within.{NumbersLie, given};
 

@@ -1,13 +1,13 @@
 //! Domains and definitions within bounds.
 
 ghost use Rattle.std.specs.Prelude.{◌≡◌, ℤ, int_le, IfSome, IsTrue};
-ghost use Rattle.fz_index.specs.of_model.of_base.declared.value.Value.{Value as Held};
-ghost use Rattle.fz_index.specs.of_model.of_base.Elements.{LiesWithin};
-ghost use Rattle.fz_index.specs.of_model.Relations.{kind_of};
-ghost use Rattle.fz_index.specs.of_model.Meaning.{admits, inside};
+ghost use Rattle.fz_model.specs.of_base.declared.value.Value.{Value as Held};
+ghost use Rattle.fz_model.specs.of_base.Elements.{LiesWithin};
+ghost use Rattle.fz_model.specs.Relations.{kind_of};
+ghost use Rattle.fz_model.specs.Meaning.{admits, inside};
 ghost use Rattle.fz_bounds.specs.Bounds.{is_at_most};
 
-use fz_index::{Domain, IntSet, Kind, Value};
+use fz_store::{Domain, IntSet, Kind, Value};
 
 /// The number in the middle between two.
 fn middle(low: i64, high: i64) -> i64 {

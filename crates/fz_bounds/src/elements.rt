@@ -1,9 +1,9 @@
 //! Rows over the elements of arrays within bounds.
 
 ghost use Rattle.std.specs.Prelude.{◌≡◌, ◌<◌, ℤ, Bool, IfSome, Some, length, slice_get};
-ghost use Rattle.fz_index.specs.of_model.Meaning.{Partial as Values};
-ghost use Rattle.fz_index.specs.of_model.Relations.{◌=ℤ◌, ◌=ᴮ◌, count_of, is_among, is_element, products, total, where_true};
-ghost use Rattle.fz_index.specs.of_model.of_builtins.of_kernel.Given.{bool_at, bools_at, int_at, ints_at, slots_at};
+ghost use Rattle.fz_model.specs.Meaning.{Partial as Values};
+ghost use Rattle.fz_model.specs.Relations.{◌=ℤ◌, ◌=ᴮ◌, count_of, is_among, is_element, products, total, where_true};
+ghost use Rattle.fz_model.specs.of_builtins.of_kernel.Given.{bool_at, bools_at, int_at, ints_at, slots_at};
 ghost use Rattle.fz_bounds.specs.Decided.{Decides, LiesIn};
 ghost use Rattle.fz_bounds.specs.Within.{NumberLies, NumbersLie, TruthLies, TruthsLie, given};
 
@@ -130,8 +130,9 @@ impl<'s, 'a> BoundedConstraint<'s, 'a> {
     /// Whether the element of the second argument, at the index that is the first, is the third.
     pub(crate) fn int_element(&self) -> Outlook
         ensures { (K : Values) → NumberLies self.now 0 K → NumbersLie self.now 1 K
-            → NumberLies self.now 2 K → Decides result (is_element ◌=ℤ◌ (int_at K (given self.now) 0)
-            (ints_at K (given self.now) 1) (int_at K (given self.now) 2)) }
+            → NumberLies self.now 2 K → Decides result (is_element ◌=ℤ◌
+            (int_at K (given self.now) 0) (ints_at K (given self.now) 1)
+            (int_at K (given self.now) 2)) }
     {
         for place in 0..self.count(1) {
             let here = self.number(0).equal(Range::index(place));

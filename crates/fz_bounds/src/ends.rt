@@ -4,7 +4,7 @@ ghost use Rattle.std.specs.Prelude.{◌≡◌, IfSome};
 ghost use Rattle.fz_bounds.specs.Bounds.{number_as};
 ghost use Rattle.fz_bounds.specs.Ends.{AreEnds};
 
-use fz_index::{Kind, Value};
+use fz_store::{Kind, Value};
 
 /// The bounds of a variable as numbers: of a Boolean, 0 is false and 1 is true.
 #[derive(Clone, Copy)]

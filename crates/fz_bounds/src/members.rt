@@ -2,9 +2,9 @@
 
 ghost use Rattle.std.specs.Prelude.{◌≡◌, ◌<◌, ℤ, Some, length, slice_get};
 ghost use Rattle.std.specs.FinSet.{contains};
-ghost use Rattle.fz_index.specs.of_model.Meaning.{Partial as Values};
-ghost use Rattle.fz_index.specs.of_model.Relations.{count_in};
-ghost use Rattle.fz_index.specs.of_model.of_builtins.of_kernel.Given.{int_at, ints_at, set_at, slots_at};
+ghost use Rattle.fz_model.specs.Meaning.{Partial as Values};
+ghost use Rattle.fz_model.specs.Relations.{count_in};
+ghost use Rattle.fz_model.specs.of_builtins.of_kernel.Given.{int_at, ints_at, set_at, slots_at};
 ghost use Rattle.fz_bounds.specs.Decided.{Decides, LiesIn};
 ghost use Rattle.fz_bounds.specs.Within.{NumberLies, NumbersLie, SetLies, given};
 

@@ -2,9 +2,9 @@
 
 ghost use Rattle.std.specs.Prelude.{◌≡◌, ◌||◌, ℤ, Bool, not, pos};
 ghost use Rattle.std.specs.List.{list_all};
-ghost use Rattle.fz_index.specs.of_model.Meaning.{Partial as Values};
-ghost use Rattle.fz_index.specs.of_model.Relations.{all_neighbours, precedes, rises_by_one};
-ghost use Rattle.fz_index.specs.of_model.of_builtins.of_kernel.Given.{bools_at, int_at, ints_at};
+ghost use Rattle.fz_model.specs.Meaning.{Partial as Values};
+ghost use Rattle.fz_model.specs.Relations.{all_neighbours, precedes, rises_by_one};
+ghost use Rattle.fz_model.specs.of_builtins.of_kernel.Given.{bools_at, int_at, ints_at};
 ghost use Rattle.fz_bounds.specs.Decided.{Decides, LiesIn, in_order};
 ghost use Rattle.fz_bounds.specs.Within.{NumberLies, NumbersLie, TruthsLie, given};
 
@@ -131,8 +131,8 @@ impl<'s, 'a> BoundedConstraint<'s, 'a> {
         Outlook::Open
     }
 
-    /// Whether each element of the first argument is greater by at most one than the greatest before
-    /// it, or than 0.
+    /// Whether each element of the first argument is greater by at most one than the greatest
+    /// before it, or than 0.
     pub(crate) fn rise_by_one(&self) -> Outlook
         ensures { (K : Values) → NumbersLie self.now 0 K
             → Decides result (rises_by_one (pos 0) (ints_at K (given self.now) 0)) }

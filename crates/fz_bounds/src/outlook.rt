@@ -1,7 +1,7 @@
 //! What bounds say of a test.
 
 ghost use Rattle.std.specs.Prelude.{◌≡◌, ◌↔◌, Bool, IsTrue, true, not, ◌&&◌, ◌||◌};
-ghost use Rattle.fz_index.specs.of_model.Relations.{◌=ᴮ◌, as_number};
+ghost use Rattle.fz_model.specs.Relations.{◌=ᴮ◌, as_number};
 ghost use Rattle.fz_bounds.specs.declared.outlook.Outlook.TheVariants.{Always, Never};
 ghost use Rattle.fz_bounds.specs.Decided.{Decides, LiesIn};
 

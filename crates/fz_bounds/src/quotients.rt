@@ -1,9 +1,9 @@
 //! Quotients and remainders within bounds.
 
 ghost use Rattle.std.specs.Prelude.{◌≡◌, ◌&&◌, ℤ, IsTrue, false, int_div, int_rem, not, pos};
-ghost use Rattle.fz_index.specs.of_model.Meaning.{Partial as Values};
-ghost use Rattle.fz_index.specs.of_model.Relations.{◌=ℤ◌};
-ghost use Rattle.fz_index.specs.of_model.of_builtins.of_kernel.Given.{int_at};
+ghost use Rattle.fz_model.specs.Meaning.{Partial as Values};
+ghost use Rattle.fz_model.specs.Relations.{◌=ℤ◌};
+ghost use Rattle.fz_model.specs.of_builtins.of_kernel.Given.{int_at};
 ghost use Rattle.fz_bounds.specs.Decided.{Decides, LiesIn};
 ghost use Rattle.fz_bounds.specs.Within.{NumberLies, given};
 

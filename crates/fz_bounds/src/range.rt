@@ -2,7 +2,7 @@
 
 ghost use Rattle.std.specs.Prelude.{◌≡◌, ℤ, Bool, cond, pos, ◌+◌, ◌+ℤ◌, ◌-ℤ◌, ◌*ℤ◌, int_le, int_lt, IfSome, IsSomeAnd, IsTrue, true, unsigned_abs};
 ghost use Rattle.std.specs.Int.{int_max, int_min};
-ghost use Rattle.fz_index.specs.of_model.Relations.{◌=ℤ◌};
+ghost use Rattle.fz_model.specs.Relations.{◌=ℤ◌};
 ghost use Rattle.fz_bounds.specs.Decided.{Decides, LiesIn};
 
 use crate::outlook::Outlook;

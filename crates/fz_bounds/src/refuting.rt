@@ -1,16 +1,17 @@
 //! Points that cannot hold inside bounds.
 
 ghost use Rattle.std.specs.Prelude.{◌≡◌, ◌<◌, IfOk, IsTrue, Some, length, option_map};
-ghost use Rattle.fz_index.specs.of_model.of_builtins.of_meaning.Known.{known_row};
-ghost use Rattle.fz_index.specs.of_model.Meaning.{points, row_of};
-ghost use Rattle.fz_index.specs.of_model.Parts.{constraint_view};
-ghost use Rattle.fz_index.specs.of_model.Shown.{IfConstraint, point_view};
+ghost use Rattle.fz_model.specs.of_builtins.of_meaning.Known.{known_row};
+ghost use Rattle.fz_model.specs.Meaning.{points, row_of};
+ghost use Rattle.fz_model.specs.Parts.{constraint_view};
+ghost use Rattle.fz_model.specs.Shown.{IfConstraint, point_view};
 ghost use Rattle.fz_bounds.specs.Bounds.{NeverHolds, NumberNeverHolds};
 
 use crate::bounds::Bounds;
 use crate::declarations::{definition_fails, elements_fail, lies_outside};
 use crate::rows::row_fails;
-use fz_index::{Model, PointParts, State, state};
+use fz_model::state;
+use fz_store::{Model, PointParts, State};
 use std::alloc::{AllocError, Global};
 
 /// Whether the point of a number, from 0, is found to hold under no assignment inside the bounds. A

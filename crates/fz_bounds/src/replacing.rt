@@ -1,9 +1,9 @@
 //! Another value for a variable.
 
 ghost use Rattle.std.specs.Prelude.{◌≡◌};
-ghost use Rattle.fz_index.specs.of_model.Steps.{give};
+ghost use Rattle.fz_model.specs.Steps.{give};
 
-use fz_index::{Partial, Value};
+use fz_store::{Partial, Value};
 
 /// Gives a variable a value, whatever value it had, and changes nothing else.
 #[tactic(auto, using(crate::proofs::Giving::given_anew, crate::proofs::Giving::none_to_give))]

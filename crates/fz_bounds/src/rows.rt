@@ -1,12 +1,12 @@
 //! Rows of THE TABLE, and their reified forms, within bounds.
 
 ghost use Rattle.std.specs.Prelude.{◌≡◌, ◌↔◌, IsTrue, length, option_map};
-ghost use Rattle.fz_index.specs.of_model.Builtins.{row_at};
-ghost use Rattle.fz_index.specs.of_model.of_builtins.of_meaning.Known.{HasTruth, known_row};
-ghost use Rattle.fz_index.specs.of_model.Meaning.{row_of};
-ghost use Rattle.fz_index.specs.of_model.Meaning.Point.{ConstraintPoint};
-ghost use Rattle.fz_index.specs.of_model.Parts.{constraint_view};
-ghost use Rattle.fz_index.specs.of_model.of_builtins.of_kernel.declared.reading.Readiness.TheVariants.{Ready};
+ghost use Rattle.fz_model.specs.Builtins.{row_at};
+ghost use Rattle.fz_model.specs.of_builtins.of_meaning.Known.{HasTruth, known_row};
+ghost use Rattle.fz_model.specs.Meaning.{row_of};
+ghost use Rattle.fz_model.specs.Meaning.Point.{ConstraintPoint};
+ghost use Rattle.fz_model.specs.Parts.{constraint_view};
+ghost use Rattle.fz_model.specs.of_builtins.of_kernel.declared.reading.Readiness.TheVariants.{Ready};
 ghost use Rattle.fz_bounds.specs.Bounds.{NeverHolds};
 ghost use Rattle.fz_bounds.specs.Within.{AreKnown, Foretells, TellsTruth};
 
@@ -14,7 +14,9 @@ use crate::bounded::BoundedConstraint;
 use crate::bounds::Bounds;
 use crate::builtins::foretold;
 use crate::outlook::Outlook;
-use fz_index::{Builtin, ConstraintParts, Form, Known, Readiness, control_index};
+use fz_builtins::control_index;
+use fz_kernel::Readiness;
+use fz_store::{Builtin, ConstraintParts, Form, Known};
 
 /// Whether a constraint is found to hold under no assignment inside the bounds. Each of its scalars
 /// has to have bounds.

@@ -3,9 +3,9 @@
 
 ghost use Rattle.std.specs.Prelude.{◌≡◌, ◌&&◌, ◌<◌, ◌+ℤ◌, ℤ, IsTrue, Some, false, int_le, length, pos, slice_get};
 ghost use Rattle.std.specs.List.{zip};
-ghost use Rattle.fz_index.specs.of_model.Meaning.{Partial as Values};
-ghost use Rattle.fz_index.specs.of_model.Relations.{◌=ℤ◌, all_pairs, is_cumulative, last_naturally, runs_at, used_at};
-ghost use Rattle.fz_index.specs.of_model.of_builtins.of_kernel.Given.{int_at, ints_at, slots_at};
+ghost use Rattle.fz_model.specs.Meaning.{Partial as Values};
+ghost use Rattle.fz_model.specs.Relations.{◌=ℤ◌, all_pairs, is_cumulative, last_naturally, runs_at, used_at};
+ghost use Rattle.fz_model.specs.of_builtins.of_kernel.Given.{int_at, ints_at, slots_at};
 ghost use Rattle.fz_bounds.specs.Decided.{Decides, LiesIn};
 ghost use Rattle.fz_bounds.specs.Spans.{keep_apart};
 ghost use Rattle.fz_bounds.specs.Within.{NumberLies, NumbersLie, given};
@@ -135,8 +135,8 @@ impl<'s, 'a> BoundedConstraint<'s, 'a> {
         false
     }
 
-    /// Whether all durations are 0 or more, and no two tasks have anything in common; empty ones may
-    /// be spared.
+    /// Whether all durations are 0 or more, and no two tasks have anything in common; empty ones
+    /// may be spared.
     pub(crate) fn is_disjunctive(&self, spare: bool) -> Outlook
         ensures { (K : Values) → NumbersLie self.now 0 K → NumbersLie self.now 1 K → Decides result
             (last_naturally (zip (ints_at K (given self.now) 0) (ints_at K (given self.now) 1))

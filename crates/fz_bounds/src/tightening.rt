@@ -2,8 +2,8 @@
 
 ghost use Rattle.std.specs.Prelude.{◌≡◌, ◌<◌, pos, ◌+ℤ◌, ◌-ℤ◌, IfOk, IsTrue, OnErr, Some, length, slice_get};
 ghost use Rattle.std.specs.Int.{int_max, int_min};
-ghost use Rattle.fz_index.specs.of_model.Meaning.{Assignment, Point, points, whole};
-ghost use Rattle.fz_index.specs.of_model.States.{HoldsIfKnown};
+ghost use Rattle.fz_model.specs.Meaning.{Assignment, Point, points, whole};
+ghost use Rattle.fz_model.specs.States.{HoldsIfKnown};
 ghost use Rattle.fz_bounds.specs.Bounds.{IsInside, NumberNeverHolds, narrowed, number_as};
 ghost use Rattle.fz_bounds.specs.Ends.{AreEndsAt, Excludes};
 ghost use Rattle.fz_bounds.specs.declared.tightening.Tightened.TheVariants.{Empty, Unshown};
@@ -11,7 +11,7 @@ ghost use Rattle.fz_bounds.specs.declared.tightening.Tightened.TheVariants.{Empt
 use crate::bounds::Bounds;
 use crate::ends::KindEnds;
 use crate::refuting::cannot_hold;
-use fz_index::{Kind, Model, same_kind};
+use fz_store::{Kind, Model, same_kind};
 use std::alloc::{AllocError, Global};
 
 /// So many numbers of a variable are tried one by one.
@@ -124,9 +124,9 @@ impl Bounds {
         requires in_range { asked.now.point < length (points asked.now.model.now) }
         requires ends { AreEndsAt self.old asked.now.variable asked.now.ends }
         ensures same { self.new ≡ self.old }
-        ensures never { IfOk result (λ b. IsTrue b → Excludes asked.now.model.now asked.now.point self.old
-            asked.now.variable asked.now.ends.kind asked.now.ends.low (int_min asked.now.ends.high
-            (low -ℤ pos 1))) }
+        ensures never { IfOk result (λ b. IsTrue b → Excludes asked.now.model.now asked.now.point
+            self.old asked.now.variable asked.now.ends.kind asked.now.ends.low
+            (int_min asked.now.ends.high (low -ℤ pos 1))) }
     {
         if low <= asked.ends.low {
             return Ok(true);
@@ -144,9 +144,9 @@ impl Bounds {
         requires in_range { asked.now.point < length (points asked.now.model.now) }
         requires ends { AreEndsAt self.old asked.now.variable asked.now.ends }
         ensures same { self.new ≡ self.old }
-        ensures never { IfOk result (λ b. IsTrue b → Excludes asked.now.model.now asked.now.point self.old
-            asked.now.variable asked.now.ends.kind (int_max asked.now.ends.low (high +ℤ pos 1))
-            asked.now.ends.high) }
+        ensures never { IfOk result (λ b. IsTrue b → Excludes asked.now.model.now asked.now.point
+            self.old asked.now.variable asked.now.ends.kind
+            (int_max asked.now.ends.low (high +ℤ pos 1)) asked.now.ends.high) }
     {
         if asked.ends.high <= high {
             return Ok(true);
@@ -165,8 +165,8 @@ impl Bounds {
         requires in_range { asked.now.point < length (points asked.now.model.now) }
         requires ends { AreEndsAt self.old asked.now.variable asked.now.ends }
         ensures same { self.new ≡ self.old }
-        ensures never { IfOk result (λ b. IsTrue b → Excludes asked.now.model.now asked.now.point self.old
-            asked.now.variable asked.now.ends.kind from to) }
+        ensures never { IfOk result (λ b. IsTrue b → Excludes asked.now.model.now asked.now.point
+            self.old asked.now.variable asked.now.ends.kind from to) }
     {
         if self.fails_between(alloc, asked, from, to)? {
             return Ok(true);
@@ -193,8 +193,8 @@ impl Bounds {
         requires in_range { asked.now.point < length (points asked.now.model.now) }
         requires ends { AreEndsAt self.old asked.now.variable asked.now.ends }
         ensures same { self.new ≡ self.old }
-        ensures never { IfOk result (λ b. IsTrue b → Excludes asked.now.model.now asked.now.point self.old
-            asked.now.variable asked.now.ends.kind from to) }
+        ensures never { IfOk result (λ b. IsTrue b → Excludes asked.now.model.now asked.now.point
+            self.old asked.now.variable asked.now.ends.kind from to) }
     {
         let ends = asked.ends;
         self.narrow(asked.variable, ends.kind, from, to);

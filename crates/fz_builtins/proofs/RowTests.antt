@@ -7,7 +7,7 @@ use Rattle.std.proofs.Math.Bool.{or-false, and_comm}
 use Rattle.std.specs.List.{list_any}
 use Rattle.std.specs.Option.{option_map_or}
 use Rattle.std.specs.FinSet as sets
-use Rattle.fz_globals.specs.of_meaning.of_syntax.Sets.{NumberSet}
+use Rattle.fz_globals.specs.of_meaning.of_base.Sets.{NumberSet}
 use Rattle.fz_globals.specs.of_meaning.of_base.declared.value.Value.{Value}
 use Rattle.fz_globals.specs.of_meaning.of_base.declared.value.Value.TheVariants.{Int, Bool as Truth, Set}
 use Rattle.fz_globals.specs.of_meaning.declared.kind.Kind.{Kind}

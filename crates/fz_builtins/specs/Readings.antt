@@ -1,6 +1,6 @@
 -- The arguments that a view reads, by their indices, counted from 0.
 use Rattle.std.specs.Prelude.{ℕ, ℤ, Bool, List}
-use Rattle.fz_globals.specs.of_meaning.of_syntax.Sets.{NumberSet}
+use Rattle.fz_globals.specs.of_meaning.of_base.Sets.{NumberSet}
 use Rattle.fz_globals.specs.of_kernel.declared.view.ArgumentView.{ArgumentView}
 use Rattle.fz_globals.specs.of_kernel.Views.{arguments_of, assigned}
 use Rattle.fz_globals.specs.of_kernel.Given.{int_at, bool_at, set_at, ints_at, bools_at, sets_at}

@@ -1,7 +1,7 @@
 -- What a row says: whether it holds; or which value its result has to be, by the other arguments.
 use Rattle.std.specs.Prelude.{◌≡◌, ⊤, ℕ, zero, suc, ℤ, Bool, false, cond, List, [], ◌∷◌, Option, None, Some, option_map, slice_get}
 use Rattle.std.specs.Option.{option_map_or}
-use Rattle.fz_globals.specs.of_meaning.of_syntax.Sets.{NumberSet}
+use Rattle.fz_globals.specs.of_meaning.of_base.Sets.{NumberSet}
 use Rattle.fz_globals.specs.of_meaning.of_base.declared.value.Value.{Value}
 use Rattle.fz_globals.specs.of_meaning.of_base.declared.value.Value.TheVariants.{Int, Bool as Truth, Set}
 use Rattle.fz_globals.specs.of_meaning.declared.kind.Kind.{Kind}

@@ -6,17 +6,19 @@ ghost use Rattle.fz_globals.specs.of_meaning.Relations.{◌=ℤ◌, all_differen
 ghost use Rattle.fz_builtins.specs.Readings.{int, ints, sets_of, truths};
 ghost use Rattle.fz_builtins.specs.Said.{is_result};
 
-use fz_globals::{
-    ArgumentView, IntSet, all_elements_different, all_true, any_false, any_true, maximum, minimum,
-    odd_number_true, sum_where_true,
+use fz_kernel::ArgumentView;
+use fz_kernel::arrays::{
+    all_elements_different, all_true, any_false, any_true, maximum, minimum, odd_number_true,
+    sum_where_true,
 };
+use fz_store::IntSet;
 use std::alloc::{AllocError, Global};
 
 /// The element at the index.
 pub(crate) fn int_element(view: &ArgumentView<'_, '_>) -> Option<i64>
     ensures { result ≡ element_at (ints view.now 1) (int view.now 0) }
 {
-    fz_globals::int_element(view.int(0), &view.elements(1))
+    fz_kernel::arrays::int_element(view.int(0), &view.elements(1))
 }
 
 /// The greatest element.
@@ -81,7 +83,7 @@ pub(crate) fn bool_odd(view: &ArgumentView<'_, '_>) -> bool
 pub(crate) fn bool_element(view: &ArgumentView<'_, '_>) -> Option<bool>
     ensures { result ≡ element_at (truths view.now 1) (int view.now 0) }
 {
-    fz_globals::bool_element(view.int(0), &view.elements(1))
+    fz_kernel::arrays::bool_element(view.int(0), &view.elements(1))
 }
 
 /// Whether an element of the first is true, or one of the second false.
@@ -104,5 +106,5 @@ pub(crate) fn bool_sum(view: &ArgumentView<'_, '_>) -> i128
 pub(crate) fn set_element<'s>(view: &ArgumentView<'s, '_>) -> Option<&'s IntSet>
     ensures { option_map (λ s. s.now) result ≡ element_at (sets_of view.now 1) (int view.now 0) }
 {
-    fz_globals::set_element(view.int(0), &view.elements(1))
+    fz_kernel::arrays::set_element(view.int(0), &view.elements(1))
 }

@@ -14,9 +14,10 @@ use crate::said::Said::{Boolean, Given, Number, Set, Whether};
 use crate::said::{Said, outcome_of};
 use crate::scalars::{implies, is_below};
 use crate::{arrays, counting, covers, flags, ordering, places, scalars, scheduling, sums};
-use fz_globals::{
-    ArgumentView, Builtin, SetError, absolute, product, quotient, remainder, same_set, sum,
-};
+use fz_kernel::ArgumentView;
+use fz_kernel::numbers::{absolute, product, quotient, remainder, sum};
+use fz_kernel::sets::same_set;
+use fz_store::{Builtin, SetError};
 use std::alloc::{AllocError, Global};
 
 /// The outcome of a builtin's row at the values that the argument view gives. It refuses only where

@@ -5,8 +5,9 @@ ghost use Rattle.std.specs.List.{list_any, filter};
 ghost use Rattle.fz_globals.specs.of_meaning.Relations.{◌=ᴮ◌, all_different, is_among, count_of, count_in, values_of, is_nonzero};
 ghost use Rattle.fz_builtins.specs.Readings.{int, ints, numbers, truth, truths};
 
+use fz_globals::counts;
 use fz_globals::counts::{count_in, count_of, is_listed, is_truth_listed, nonzero_are_different};
-use fz_globals::{ArgumentView, counts};
+use fz_kernel::ArgumentView;
 use std::alloc::{AllocError, Global};
 
 /// How often the number at one index is an element of the array at another.

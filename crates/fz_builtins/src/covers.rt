@@ -4,8 +4,8 @@ ghost use Rattle.std.specs.Prelude.{◌≡◌, ◌&&◌, IfOk};
 ghost use Rattle.fz_globals.specs.of_meaning.Relations.{counts_are, counts_lie, is_closed};
 ghost use Rattle.fz_builtins.specs.Readings.{ints};
 
-use fz_globals::ArgumentView;
 use fz_globals::cover::{counts_are, counts_lie, is_closed};
+use fz_kernel::ArgumentView;
 use std::alloc::{AllocError, Global};
 
 /// Whether each value of the cover is an element as often as its number says.

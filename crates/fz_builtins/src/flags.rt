@@ -9,12 +9,14 @@ ghost use Rattle.fz_builtins.specs.Readings.{int, ints, numbers, sets_of, truths
 ghost use Rattle.fz_builtins.specs.Said.{IsSaid};
 
 use crate::said::Said;
+use fz_globals::are_indices;
 use fz_globals::channels::are_channelled;
 use fz_globals::chosen::{are_inverse_sets, set_of_chosen, union_of_chosen};
 use fz_globals::convex::is_convex;
 use fz_globals::flags::is_flagged;
 use fz_globals::partition::{are_disjoint, is_partition};
-use fz_globals::{ArgumentView, SetError, are_indices};
+use fz_kernel::ArgumentView;
+use fz_store::SetError;
 use std::alloc::{AllocError, Global};
 
 /// Whether the set is that of the indices whose Booleans are true.

@@ -5,7 +5,8 @@ ghost use Rattle.fz_globals.specs.of_meaning.Builtins.{row_at};
 ghost use Rattle.fz_globals.specs.of_meaning.Known.{HasTruth};
 ghost use Rattle.fz_builtins.specs.Readings.{truth};
 
-use fz_globals::{ArgumentView, Known};
+use fz_kernel::ArgumentView;
+use fz_store::Known;
 
 /// The index of the control variable, which is behind the arguments of the base row.
 pub fn control_index(known: Known) -> usize

@@ -23,25 +23,6 @@ mod sums;
 
 pub use builtins::{of_builtin, said_of};
 pub use forms::{control, control_index};
-pub use fz_globals::channels::is_held;
-pub use fz_globals::counts::{count_of, is_listed, is_truth_listed};
-pub use fz_globals::partition::are_disjoint;
-pub use fz_globals::precedence::has_only;
-pub use fz_globals::tables::{is_bool_row, is_int_row};
-pub use fz_globals::tours::{count_moved, first_moved};
-pub use fz_globals::{
-    Argument, ArgumentView, Builtin, ConstraintParts, Domain, Elements, Filled, Form, Found, Goal,
-    IntSet, Kind, Known, Model, ModelError, Partial, Point, PointParts, Posted, Readiness, Scalar,
-    Scalars, SetError, Slot, State, Term, Value, Variable, What, Wide, all_true, any_false,
-    any_true, has, index_at, int_element_at, item_at, kind_of, number_of_truth, numbers_in_order,
-    numbers_of, odd_number_true, part, place_from, same_kind, same_set, scalar_at, set_element,
-    sum, sum_of_products, sum_where_true,
-};
-pub use fz_scheduling::bins::load_of;
-pub use fz_scheduling::runs_at;
-pub use fz_scheduling::slides::term_at;
-pub use fz_scheduling::tasks::used_at;
-pub use fz_scheduling::words::next_state;
 pub use outcome::Outcome;
 pub use said::Said;
 pub use sums::{is_unknown, leaves};

@@ -4,12 +4,12 @@ ghost use Rattle.std.specs.Prelude.{◌≡◌, not, pos, int_le, int_lt, ◌&&�
 ghost use Rattle.fz_globals.specs.of_meaning.Relations.{◌=ℤ◌, ◌=ᴮ◌, all_neighbours, is_sorted_form, is_before, precedes, precedes_in_sets, rises_by_one};
 ghost use Rattle.fz_builtins.specs.Readings.{int, ints, sets_of, truths};
 
-use fz_globals::ArgumentView;
 use fz_globals::order::{
     all_equal, is_decreasing, is_increasing, is_sorted_form, is_strictly_increasing,
     truths_decrease, truths_increase,
 };
 use fz_globals::precedence::{precede_in_chain, precedes, precedes_in_sets, rises_by_one};
+use fz_kernel::ArgumentView;
 use fz_scheduling::lexical::{bools_are_before, ints_are_before};
 use std::alloc::{AllocError, Global};
 

@@ -4,7 +4,7 @@ ghost use Rattle.std.specs.Prelude.{◌≡◌, not, ◌||◌};
 ghost use Rattle.fz_globals.specs.of_meaning.Relations.{◌=ᴮ◌};
 ghost use Rattle.fz_builtins.specs.Outcomes.{compared, implied_by, told};
 
-use fz_globals::State;
+use fz_store::State;
 
 /// Whether a row holds, or that a number of it leaves 128 bits, or that it has a power that isn't
 /// known.

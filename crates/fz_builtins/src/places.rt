@@ -5,10 +5,10 @@ ghost use Rattle.fz_globals.specs.of_meaning.Relations.{◌=ℤ◌, ◌=ᴮ◌, 
 ghost use Rattle.fz_builtins.specs.Readings.{int, ints, numbers, truths};
 ghost use Rattle.fz_builtins.specs.Said.{is_result};
 
-use fz_globals::ArgumentView;
 use fz_globals::best_index::{index_of_greatest_truth, index_of_maximum, index_of_minimum};
 use fz_globals::tables::{is_bool_row, is_int_row};
 use fz_globals::tours::{are_inverse, is_circuit, is_subcircuit};
+use fz_kernel::ArgumentView;
 use fz_scheduling::words::is_word;
 use std::alloc::{AllocError, Global};
 

@@ -8,7 +8,9 @@ ghost use Rattle.fz_builtins.specs.Outcomes.{row_outcome};
 ghost use Rattle.fz_builtins.specs.Said.{IsSaid, is_result};
 
 use crate::outcome::Outcome;
-use fz_globals::{ArgumentView, IntSet, same_set};
+use fz_kernel::ArgumentView;
+use fz_kernel::sets::same_set;
+use fz_store::IntSet;
 
 /// What a row says by the values of its arguments. Where it has a result, the argument at the index
 /// that comes with it, that argument isn't looked at: the row holds where its value is the one that

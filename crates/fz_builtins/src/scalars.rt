@@ -13,7 +13,8 @@ ghost use Rattle.fz_builtins.specs.Said.{IsSaid, is_result};
 
 use crate::outcome::Outcome;
 use crate::said::Said;
-use fz_globals::{ArgumentView, greatest, least, number_of_truth, power};
+use fz_kernel::ArgumentView;
+use fz_kernel::numbers::{greatest, least, number_of_truth, power};
 
 /// Either number is the other one.
 #[inline(always)]

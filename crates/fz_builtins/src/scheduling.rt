@@ -6,12 +6,13 @@ ghost use Rattle.fz_globals.specs.of_meaning.Relations.{◌=ℤ◌, all_pairs, a
 ghost use Rattle.fz_builtins.specs.Readings.{int, ints, numbers};
 ghost use Rattle.fz_builtins.specs.Said.{is_result};
 
-use fz_globals::{ArgumentView, SetError};
+use fz_kernel::ArgumentView;
 use fz_scheduling::bins::{loads_are_given, loads_are_within};
 use fz_scheduling::boxes::{overlap_in_no_area, overlap_nowhere};
 use fz_scheduling::slides::slides_between;
 use fz_scheduling::tasks::{are_apart, is_cumulative, is_disjunctive, is_strictly_disjunctive};
 use fz_scheduling::weights::weight_of;
+use fz_store::SetError;
 use std::alloc::Global;
 
 /// Whether the tasks that run at one time never use more than there is.

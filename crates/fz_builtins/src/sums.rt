@@ -9,8 +9,11 @@ ghost use Rattle.fz_builtins.specs.Outcomes.{sum_outcome};
 ghost use Rattle.fz_builtins.specs.Readings.{int, ints};
 
 use crate::outcome::Outcome;
-use fz_globals::{ArgumentView, Wide, power, sum_of_products};
+use fz_kernel::ArgumentView;
+use fz_kernel::arrays::sum_of_products;
+use fz_kernel::numbers::power;
 use fz_scheduling::packed::is_knapsack;
+use fz_store::Wide;
 
 /// Whether the sum of products is the third argument.
 #[inline(always)]

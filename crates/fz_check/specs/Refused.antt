@@ -71,9 +71,9 @@ pub record IsFirstFault (m : Model) (blocks : List the_block.Block) (number : �
   pub tells : IsBlockRefusal m block e
   pub not_memory : e ≢ BlockMemory
 
--- The stream's bytes are not too many, and a text of parts. Of their blocks, with the byte ranges of
--- names and literals, the one with this number is the first that doesn't fit the model, and this is
--- its first fault.
+-- The stream's bytes are not too many, and a text of parts. Of their blocks, with the byte ranges
+-- of names and literals, the one with this number is the first that doesn't fit the model, and this
+-- is its first fault.
 pub record HasBlockFault (m : Model) (stream : List ℕ) (number : ℕ) (e : BlockError) : Type 0 where
   pub short : length stream ≤ most_bytes
   pub parts : List StreamPart

@@ -28,8 +28,8 @@ pub data Event : Type 0 where
 abbrev pub claimed : Claim → Event
 claimed c = Claimed c.kind
 
--- of these claims, the events of those at the front that come after so many blocks or fewer, and the
--- claims behind them
+-- of these claims, the events of those at the front that come after so many blocks or fewer, and
+-- the claims behind them
 abbrev pub claims_by : ℕ → List Claim → List Event
 claims_by n [] = []
 claims_by n (c ∷ cs) = cond (nat_le c.after n) (claimed c ∷ claims_by n cs) []

@@ -1,7 +1,7 @@
 -- What a check over a reader and a writer answers, and what it writes (this project's profile). The
--- bytes that a reader still has and those that a writer got are options: where there is None, as for
--- a file, nothing is said of them. `o` are the options of the check, and `text` says which bytes may
--- be written of an event.
+-- bytes that a reader still has and those that a writer got are options: where there is None, as
+-- for a file, nothing is said of them. `o` are the options of the check, and `text` says which
+-- bytes may be written of an event.
 use Rattle.std.specs.Prelude.{◌≡◌, ◌≢◌, ℕ, suc, List, [], ◌∷◌, ◌++◌, ◌⊎◌, ⊤, length, Option}
 use Rattle.std.specs.Io.KnownBytes.{Appends, Consumes, IsAtEnd}
 use Rattle.fz_judge.specs.of_syntax.Limits.{Limits}
@@ -60,8 +60,8 @@ abbrev pub EndInside : Limits → Option (List ℕ) → List ℕ → List Stream
 EndInside limits left given parts = ((front : List ℕ) × (rest : List ℕ) × (given ≡ front ++ rest)
     × HasNoMore limits front parts) ⊎ (IsAtEnd left × IsStreamTextWithin limits given parts)
 
--- The part that comes next after these is a block, which has the number, and this is its fault, with
--- its byte range in the stream.
+-- The part that comes next after these is a block, which has the number, and this is its fault,
+-- with its byte range in the stream.
 pub record PartIsRefused (m : Model) (parts : List StreamPart) (part : StreamPart) (number : ℕ)
     (e : BlockError) : Type 0 where
   pub block : the_block.Block
@@ -101,7 +101,8 @@ AreLast o left given parts answer events =
     (events ≡ []) ⊎ (IsAtEnd left × HoldsOfJudged o.limits o.ending given (λ front cut.
     IsStreamTextWithin o.limits front parts × (events ≡ cut ++ Answered answer ∷ [])))
 
--- The reader gave these bytes, and the writer got a front of bytes of their events, and nothing else.
+-- The reader gave these bytes, and the writer got a front of bytes of their events, and nothing
+-- else.
 pub record WritesFrontOfEvents (o : Options) (text : Event → List ℕ → Type 0) (m : Model)
     (left left' written written' : Option (List ℕ)) : Type 0 where
   pub given : List ℕ
@@ -133,8 +134,8 @@ abbrev pub IsUntouched : Option (List ℕ) → Option (List ℕ) → Option (Lis
 IsUntouched left left' written written' = (left' ≡ left) × (written' ≡ written)
 
 -- The check of a model's text ends with this error: of the model, which is refused only where its
--- bytes are not a text of any tree, or with the first fault of its names, before anything is read or
--- written; or else behind it.
+-- bytes are not a text of any tree, or with the first fault of its names, before anything is read
+-- or written; or else behind it.
 abbrev pub IsEndedWith : Options → (Event → List ℕ → Type 0) → List ℕ → Option (List ℕ)
     → Option (List ℕ) → Option (List ℕ) → Option (List ℕ) → CheckError → Type 0
 IsEndedWith o text model left left' written written' e =

@@ -55,7 +55,7 @@ abbrev pub cut_events : Option Span → List Event
 cut_events None = []
 cut_events (Some span) = CutOff span ∷ []
 
--- The outcomes of blocks that come behind these, where these leave such objectives, go on from them.
+-- The outcomes of blocks that come behind these, which leave such objectives, go on from them.
 abbrev pub OutcomesGoOn : Completion → Model → List SolutionBlock → List Outcome → Option ℤ
     → Option ℤ → Type 0
 OutcomesGoOn c m blocks outcomes filled found =
@@ -140,8 +140,9 @@ LeavesNext s j e =
     ⊎ ((part : StreamPart) × StandsAt o.limits s left given (parts ++ part ∷ [])
     × IsUntold m parts part e)
 
--- How a check stands that has told of these parts, whether it goes on or not: these bytes were read,
--- in at most so many reads, and once a front of the lines that wait is written, it is one of all.
+-- How a check stands that has told of these parts, whether it goes on or not: these bytes were
+-- read, in at most so many reads, and once a front of the lines that wait is written, it is one of
+-- all.
 pub record Stands (o : Options) (text : Event → List ℕ → Type 0) (m : Model) (reads : ℕ)
     (left left' written written' : Option (List ℕ)) (lines : List ℕ) : Type 0 where
   pub given : List ℕ

@@ -10,7 +10,9 @@ ghost use Rattle.fz_check.specs.Claims.{answer_with, behind_block, behind_claim,
 ghost use Rattle.fz_check.specs.View.{answer_view};
 
 use crate::claims::{Claims, Known, Refutation, Refuter, Saying, Statement, refutes, said_by};
-use fz_judge::{ClaimKind, Goal, Verdict};
+use fz_filling::Verdict;
+use fz_store::Goal;
+use fz_stream::ClaimKind;
 
 /// The answer on a whole stream.
 #[derive(Clone, Copy, Debug, PartialEq, Eq)]
@@ -169,8 +171,8 @@ impl Account {
         }
     }
 
-    /// Hears of the next block: the verdict on it, and its objectives under its filling and with the
-    /// values that were found. It gives the claim that it refutes, where it refutes one.
+    /// Hears of the next block: the verdict on it, and its objectives under its filling and with
+    /// the values that were found. It gives the claim that it refutes, where it refutes one.
     pub(crate) fn hear_block(
         &mut self,
         goal: &Goal,

@@ -3,7 +3,8 @@
 ghost use Rattle.std.specs.Prelude.{◌≡◌, ◌≤◌, ℕ, List, length, map, IfOk, IfErr};
 ghost use Rattle.std.specs.List.{AllByRecursion};
 ghost use Rattle.fz_judge.specs.of_syntax.Places.{standard_limits};
-ghost use Rattle.fz_judge.specs.of_syntax.Offering.{IsTextOfAllWithin, items_of_tree};
+ghost use Rattle.fz_judge.specs.of_syntax.Offering.{IsTextOfAllWithin};
+ghost use Rattle.fz_judge.specs.of_syntax.View.{items_of_tree};
 ghost use Rattle.fz_judge.specs.of_syntax.Places.{most_bytes};
 ghost use Rattle.fz_judge.specs.of_model.Names.{HasNoFault};
 ghost use Rattle.fz_judge.specs.of_model.Texts.{IsLoadedFromWithin};
@@ -23,10 +24,9 @@ use crate::jury::Jury;
 use crate::options::Options;
 use crate::outputs::print_all;
 use crate::report::Report;
-use fz_judge::{
-    Ast, Block, Claim, Limits, LoadError, Model, ModelError, Stream, SyntaxError, blocks, load,
-    load_text, parse_within, to_text,
-};
+use fz_data::{LoadError, load, load_text};
+use fz_store::{Model, ModelError};
+use fz_stream::{Ast, Block, Claim, Limits, Stream, SyntaxError, blocks, parse_within, to_text};
 use std::alloc::Global;
 
 /// The model of a text that is within the limits.
@@ -206,9 +206,9 @@ pub fn show_with(alloc: Global, model: &[u8], limits: Limits) -> Result<Vec<u8>,
     Ok(text)
 }
 
-/// As `show_with`, with `:: output_var` behind each scalar variable that lacks it. A solver that runs
-/// this model prints the value of every variable, and what it prints can also be checked against
-/// the model as it was.
+/// As `show_with`, with `:: output_var` behind each scalar variable that lacks it. A solver that
+/// runs this model prints the value of every variable, and what it prints can also be checked
+/// against the model as it was.
 ///
 /// # Errors
 ///

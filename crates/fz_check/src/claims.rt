@@ -4,7 +4,8 @@ ghost use Rattle.std.specs.Prelude.{◌≡◌, None};
 ghost use Rattle.fz_judge.specs.of_model.Parts.{goal_view};
 ghost use Rattle.fz_check.specs.Claims.{is_better, known_refuter, known_with, refutes, saying};
 
-use fz_judge::{ClaimKind, Goal};
+use fz_store::Goal;
+use fz_stream::ClaimKind;
 
 /// What a claim says of a model's solutions, as far as a solution can refute it.
 #[derive(Clone, Copy)]

@@ -3,7 +3,9 @@
 ghost use Rattle.std.specs.Prelude.{◌≡◌};
 ghost use Rattle.fz_check.specs.Telling.{stream_refusal};
 
-use fz_judge::{BlockError, ModelError, StreamError, SyntaxError};
+use fz_filling::BlockError;
+use fz_store::ModelError;
+use fz_stream::{StreamError, SyntaxError};
 use std::alloc::{AllocError, AllocFailed};
 use thiserror::Error;
 

@@ -8,7 +8,10 @@ ghost use Rattle.fz_check.specs.Writing.{Adds};
 use crate::account::Answer;
 use crate::claims::Refutation;
 use crate::line::{push_answer, push_block, push_claim, push_cut, push_refutation};
-use fz_judge::{Block, ClaimKind, Model, Refutation as BoundsRefutation, Span, Verdict};
+use fz_filling::Verdict;
+use fz_index::Refutation as BoundsRefutation;
+use fz_store::Model;
+use fz_stream::{Block, ClaimKind, Span};
 use std::alloc::AllocError;
 
 /// A block that was judged.
@@ -23,8 +26,8 @@ pub struct Judged<'e, 'a> {
     /// whether that objective is one of values that were looked for: under the filling alone the
     /// block has none, or another
     pub found: bool,
-    /// why bounds refute the block, where its verdict is that they do: the point of the verdict, and
-    /// the bounds that other points left
+    /// why bounds refute the block, where its verdict is that they do: the point of the verdict,
+    /// and the bounds that other points left
     pub refuted: Option<&'e BoundsRefutation>,
     pub model: &'e Model<'a>,
 }

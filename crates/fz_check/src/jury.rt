@@ -12,7 +12,10 @@ use crate::account::{Account, Answer};
 use crate::claims::{Claims, Refutation, Statement};
 use crate::error::CheckError;
 use crate::options::Options;
-use fz_judge::{Block, BlockError, ClaimKind, Judge, Model, Verdict};
+use fz_filling::{BlockError, Verdict};
+use fz_judge::Judge;
+use fz_store::Model;
+use fz_stream::{Block, ClaimKind};
 use std::alloc::Global;
 
 /// A judge of a model's blocks, and an account of what it judged.

@@ -11,7 +11,10 @@ use crate::error::CheckError;
 use crate::options::{Ending, Options};
 use crate::pieces::ReadFailed;
 use crate::reader::{PartReader, Step};
-use fz_judge::{Block, BlockError, Judge, Model, Part, Verdict};
+use fz_filling::{BlockError, Verdict};
+use fz_judge::Judge;
+use fz_store::Model;
+use fz_stream::{Block, Part};
 use std::alloc::Global;
 use std::io::Read;
 

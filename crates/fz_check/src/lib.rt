@@ -32,10 +32,10 @@ pub use checking::{check, read_model, show, show_printing_all, show_with};
 pub use claims::{Best, Claims, Known, Refutation, Refuter, Saying, Source, Statement};
 pub use error::CheckError;
 pub use event::{Event, Judged, Taker, TextTaker};
-pub use fz_judge::{
-    BlockError, Claim, ClaimKind, Completion, Fault, Judge, Limits, Model, ModelError, Reason,
-    Span, StreamError, SyntaxError, Verdict, fill, fill_with_steps,
-};
+pub use fz_filling::{BlockError, Completion, Fault, Reason, Verdict, fill, fill_with_steps};
+pub use fz_judge::Judge;
+pub use fz_store::{Model, ModelError};
+pub use fz_stream::{Claim, ClaimKind, Limits, Span, StreamError, SyntaxError};
 pub use learning::{Listener, learn};
 pub use line::{block_text, claim_text};
 pub use options::{Ending, Options};
@@ -43,8 +43,8 @@ pub use refusal::{Told, refusal_fault, refusal_text, status};
 pub use report::{Report, report_text};
 pub use streaming::{MOST_READS, check_events, check_stream, check_stream_up_to};
 
-/// What the lines say that were written before a refusal is so, as it is of a report: of the verdicts
-/// and of the claims that are refuted.
+/// What the lines say that were written before a refusal is so, as it is of a report: of the
+/// verdicts and of the claims that are refuted.
 pub fn written_lines_are_borne_out()
     ensures { WrittenLinesAreBorneOut }
 {}

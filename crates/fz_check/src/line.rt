@@ -9,7 +9,8 @@ ghost use Rattle.fz_check.specs.View.{answer_view};
 use crate::account::Answer;
 use crate::claims::{Refutation, Refuter};
 use crate::text::{push_bytes, push_count, push_fault, push_reason};
-use fz_judge::{ClaimKind, Span, Verdict};
+use fz_filling::Verdict;
+use fz_stream::{ClaimKind, Span};
 use std::alloc::{AllocError, Global};
 
 /// A claim's line in a stream, without blanks at its ends.

@@ -9,7 +9,7 @@ ghost use Rattle.fz_judge.specs.of_model.Names.{is_scalar_variable};
 ghost use Rattle.fz_judge.specs.of_model.View.{located, located_decl};
 ghost use Rattle.fz_check.specs.Outputs.{is_output_var, is_unprinted, printed_decl, with_all_printed};
 
-use fz_judge::{Ast, Decl, Name, Note, Span};
+use fz_stream::{Ast, Decl, Name, Note, Span};
 use std::alloc::{AllocError, Global};
 
 /// The name of the annotation of a variable that a solver is to print.

@@ -4,14 +4,12 @@ ghost use Rattle.fz_check.specs.Reading.{piece_size};
 
 use std::io::Read;
 use std::marker::Model;
-use thiserror::Error;
 
 /// The most bytes of one read.
 const PIECE: usize = 4096;
 
 /// A read failed, or as many were made as may be.
-#[derive(Clone, Copy, Debug, PartialEq, Eq, Error)]
-#[error("read")]
+#[derive(Clone, Copy)]
 pub(crate) struct ReadFailed;
 
 /// The bytes of the last read that aren't taken yet.

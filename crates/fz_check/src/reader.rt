@@ -9,7 +9,7 @@ ghost use Rattle.fz_check.specs.Telling.{IsEndOf, IsUnread, broken_end};
 use crate::error::{CheckError, stream_refusal};
 use crate::options::Ending;
 use crate::pieces::{Pieces, ReadFailed};
-use fz_judge::{Limits, Part, Span, Splitter, StreamError};
+use fz_stream::{Limits, Part, Span, Splitter, StreamError};
 use std::alloc::Global;
 use std::io::Read;
 use std::marker::Model;

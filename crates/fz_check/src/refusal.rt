@@ -6,7 +6,9 @@ ghost use Rattle.fz_check.specs.Refusal.{block_fault, model_fault, named, named_
 use crate::account::Answer;
 use crate::error::CheckError;
 use crate::text::{push_bytes, push_count};
-use fz_judge::{BlockError, ModelError, Span, StreamError, SyntaxError};
+use fz_filling::BlockError;
+use fz_store::ModelError;
+use fz_stream::{Span, StreamError, SyntaxError};
 use std::alloc::{AllocError, Global};
 
 /// The name of a fault, and its byte range where it has one.

@@ -8,7 +8,8 @@ ghost use Rattle.fz_check.specs.View.{answer_view, report_events};
 
 use crate::account::Answer;
 use crate::line::{push_answer, push_block, push_claim};
-use fz_judge::{Claim, Verdict};
+use fz_filling::Verdict;
+use fz_stream::Claim;
 use std::alloc::{AllocError, Global};
 
 /// What is told of a stream: the verdicts on its blocks in order, its claims, and the answer.

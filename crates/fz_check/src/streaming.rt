@@ -20,7 +20,7 @@ use crate::pieces::ReadFailed;
 use crate::reader::{PartReader, Step};
 use crate::telling::{gather, tell_end, tell_next};
 use crate::writing::{WriteFailed, write_lines};
-use fz_judge::Model;
+use fz_store::Model;
 use std::alloc::Global;
 use std::io::{Read, Write};
 

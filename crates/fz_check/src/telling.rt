@@ -20,7 +20,7 @@ use crate::event::{Event, Judged, Taker};
 use crate::jury::Jury;
 use crate::reader::PartReader;
 use crate::writing::{WriteFailed, write_lines};
-use fz_judge::{Part, Span};
+use fz_stream::{Part, Span};
 use std::alloc::{AllocError, Global};
 use std::io::Write;
 

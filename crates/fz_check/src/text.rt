@@ -5,7 +5,7 @@ ghost use Rattle.std.specs.Fmt.{signed_decimal};
 ghost use Rattle.fz_check.specs.Report.{fault_text, reason_text};
 ghost use Rattle.fz_judge.specs.of_filling.View.{fault_view, reason_view};
 
-use fz_judge::{Fault, Reason};
+use fz_filling::{Fault, Reason};
 use itoa::Buffer;
 use std::alloc::AllocError;
 

@@ -3,11 +3,9 @@ ghost use Rattle.std.specs.Io.KnownBytes.{Appends};
 ghost use Rattle.fz_check.specs.Writing.{WritesFront};
 
 use std::io::Write;
-use thiserror::Error;
 
 /// A write failed, or took nothing.
-#[derive(Clone, Copy, Debug, PartialEq, Eq, Error)]
-#[error("write")]
+#[derive(Clone, Copy)]
 pub(crate) struct WriteFailed;
 
 /// Writes all of the bytes. After an error a front of them was written. A failed write is not

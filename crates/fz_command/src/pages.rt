@@ -21,8 +21,8 @@ fzcheck check [--large] [--complete] [--cut] [--claims] [--known STREAM]..
                 prove that there are none, the block is violated
     --cut       where the stream ends inside a block, as that of a solver does that was killed,
                 judges what comes before that block, and tells the byte range of what it left out
-    --claims    judges claims on the whole search as far as a satisfied block refutes them: that there
-                is no solution, or none better than the last one
+    --claims    judges claims on the whole search as far as a satisfied block refutes them: that
+                there is no solution, or none better than the last one
     --known STREAM
                 as --claims, and up to 64 times: the blocks of another solver's stream, each judged
                 by itself before all others, refute claims too

@@ -2,7 +2,8 @@
 use Rattle.std.proofs.Common.{◌≡◌, ℕ, List, [], ◌∷◌, ◌++◌, map, None, refl, ap, subst, ◌∙◌, inl, inr}
 use Rattle.std.specs.Prelude.{◌≢◌, ◌⊎◌}
 use Rattle.std.proofs.lemmas.List.{map-append}
-use Rattle.fz_store.specs.of_meaning.of_syntax.Offering.{TreeItems, IsTextOfAllWithin, all_items}
+use Rattle.fz_syntax.specs.Offering.{IsTextOfAllWithin, all_items}
+use Rattle.fz_tree.specs.View.{TreeItems}
 use Rattle.fz_tree.specs.of_lex.declared.limits.Limits.{Limits}
 use Rattle.fz_tree.specs.of_lex.declared.error.SyntaxError.{SyntaxError}
 use Rattle.fz_tree.specs.declared.tree.Decl.{Decl}

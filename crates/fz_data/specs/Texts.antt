@@ -1,11 +1,12 @@
 -- What is said of the text of a model that is loaded item by item.
 use Rattle.std.specs.Prelude.{◌≡◌, ◌⊎◌, ℕ, List, map}
-use Rattle.fz_store.specs.of_meaning.of_syntax.Offering.{TreeItems, IsTextOfAllWithin, IsLeft, TookAll, from_decls, from_constraints}
+use Rattle.fz_syntax.specs.Offering.{IsTextOfAllWithin, IsLeft, TookAll, from_decls, from_constraints}
+use Rattle.fz_tree.specs.View.{TreeItems}
 use Rattle.fz_tree.specs.of_lex.declared.limits.Limits.{Limits}
 use Rattle.fz_tree.specs.of_lex.View.{standard_limits}
 use Rattle.fz_tree.specs.of_lex.declared.error.SyntaxError.{SyntaxError}
 use Rattle.fz_tree.specs.Text.{IsTextOfTreeWithin}
-use Rattle.fz_store.specs.of_meaning.of_syntax.declared.reader.Rest.{Rest}
+use Rattle.fz_syntax.specs.declared.reader.Rest.{Rest}
 use Rattle.fz_tree.specs.declared.tree.Solve.{Solve}
 use Rattle.fz_tree.specs.declared.tree.Decl.{Decl}
 use Rattle.fz_tree.specs.declared.tree.Constraint.{Constraint}

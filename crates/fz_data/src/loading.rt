@@ -66,8 +66,8 @@ fn declared<'a>(alloc: Global, decls: &[Decl<'a>]) -> Result<Scope<'a>, ModelErr
     Ok(scope)
 }
 
-/// The model of a tree. It refuses a tree that has faults, and tells the first; any other it refuses
-/// only where memory runs out.
+/// The model of a tree. It refuses a tree that has faults, and tells the first; any other it
+/// refuses only where memory runs out.
 pub fn load<'a>(alloc: Global, ast: &Ast<'a>) -> Result<Model<'a>, ModelError>
     ensures no_fault { IfOk result (λ _. HasNoFault (located ast.now)) }
     ensures model { IfOk result (λ m. m ≡ model_of (located ast.now)) }

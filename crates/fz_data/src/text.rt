@@ -2,7 +2,7 @@
 
 ghost use Rattle.std.specs.Prelude.{◌≡◌, ◌≢◌, ◌<◌, ◌↔◌, Err, ◌++◌, ◌∷◌, [], IfErr, IfOk, List, OnOk, length, map};
 ghost use Rattle.fz_store.specs.of_meaning.Located.{Constraint as LocatedConstraint, Decl as LocatedDecl};
-ghost use Rattle.fz_store.specs.of_meaning.of_syntax.Offering.{IsLeft, IsRefusedAt, IsRefusedWithin, IsTextOfAllWithin, Took, TookAll, all_items, from_constraints, from_decls, from_predicates, left_of};
+ghost use Rattle.fz_syntax.specs.Offering.{IsLeft, IsRefusedAt, IsRefusedWithin, IsTextOfAllWithin, Took, TookAll, all_items, from_constraints, from_decls, from_predicates, left_of};
 ghost use Rattle.fz_tree.specs.of_lex.declared.error.SyntaxError.{SyntaxError as SyntaxFault};
 ghost use Rattle.fz_tree.specs.of_lex.declared.error.SyntaxError.TheVariants.{TooLong};
 ghost use Rattle.fz_tree.specs.declared.tree.Decl as the_decl;
@@ -19,10 +19,8 @@ ghost use Rattle.fz_data.specs.Texts.{HasDeclared, HasPosted, IsLoadRefusal, IsL
 use crate::error::LoadError;
 use crate::loading::{declare, empty};
 use crate::posting::{goal_of, post};
-use fz_store::{
-    ConstraintItems, DeclItems, Model, ModelError, Offer, Posted, PredicateItems, Scope, Store,
-    assembled,
-};
+use fz_store::{Model, ModelError, Posted, Scope, Store, assembled};
+use fz_syntax::{ConstraintItems, DeclItems, Offer, PredicateItems};
 use fz_tree::{Constraint, Decl, Limits, Solve, SyntaxError};
 use std::alloc::Global;
 
@@ -201,8 +199,8 @@ fn read_text<'a>(alloc: Global, source: &'a [u8], limits: Limits) -> Result<Mode
 ///
 /// # Errors
 ///
-/// `Text` with the error of `parse_within`, or else `Names` with that of `load`: a fault of the text comes
-/// before each of names, wherever it is.
+/// `Text` with the error of `parse_within`, or else `Names` with that of `load`: a fault of the
+/// text comes before each of names, wherever it is.
 pub fn load_text<'a>(
     alloc: Global,
     source: &'a [u8],

@@ -4,8 +4,8 @@ use Rattle.std.specs.Prelude.{ℕ, suc, ℤ, pos, ◌+ℤ◌, List, [], ◌∷�
 use Rattle.std.specs.Option.{option_map_or, option_or}
 use Rattle.fz_filling.specs.of_model.States.{fits_128, known_products, terms_at_argument}
 use Rattle.fz_filling.specs.of_model.Meaning.{Argument, Partial, Point, row_of}
-use Rattle.fz_filling.specs.of_model.declared.Wide.{Wide}
-use Rattle.fz_filling.specs.of_model.declared.Wide.TheVariants.{Products, Power}
+use Rattle.fz_store.specs.declared.Wide.{Wide}
+use Rattle.fz_store.specs.declared.Wide.TheVariants.{Products, Power}
 use Rattle.fz_filling.specs.of_model.Meaning.Point.{DomainPoint, DefinitionPoint, ArrayPoint, ConstraintPoint}
 
 -- the number, from 1, of the first addend with which the sum leaves signed 128 bits, where k

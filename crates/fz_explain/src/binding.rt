@@ -6,8 +6,8 @@ use crate::naming::best_name;
 use crate::notes::name_at;
 use crate::scalars::push_list;
 use crate::variables::{Variables, add, add_all, add_point, add_term};
-use fz_filling::{Goal, Model, PointParts, Scalars, What};
 use fz_places::NameTable;
+use fz_store::{Goal, Model, PointParts, Scalars, What};
 use fz_tree::{Ast, Decl, Note};
 use indexmap::IndexSet;
 use std::alloc::{AllocError, Global};
@@ -66,12 +66,7 @@ fn is_output(note: &Note<'_>) -> bool {
 }
 
 fn has_output(notes: &[Note<'_>]) -> bool {
-    for note in notes {
-        if is_output(note) {
-            return true;
-        }
-    }
-    false
+    notes.iter().any(|note| is_output(note))
 }
 
 /// Adds the variables among the elements of an array.

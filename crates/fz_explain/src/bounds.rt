@@ -3,7 +3,8 @@
 use crate::notes::{Known, Note, Origin, by_its_domain, giver_of, note_with};
 use crate::remarks::Remarks;
 use crate::verdict::Reading;
-use fz_filling::{Kind, Left, Model, Narrower, Narrowing};
+use fz_index::{Left, Narrower, Narrowing};
+use fz_store::{Kind, Model};
 use std::alloc::{AllocError, Global};
 
 /// The bounds of a variable. Of a Boolean 0 is false and 1 is true.

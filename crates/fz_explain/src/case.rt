@@ -3,10 +3,11 @@
 use crate::binding::Unbound;
 use crate::message::{Message, Text};
 use crate::verdict::{Reading, verdict_message, verdict_place};
-use fz_filling::{
-    Block, Completion, Limits, Model, Refutation, Verdict, fill_with_steps, parse_within,
-};
+use fz_filling::{Completion, Verdict, fill_with_steps};
+use fz_index::Refutation;
 use fz_places::NameTable;
+use fz_store::Model;
+use fz_stream::{Block, Limits, parse_within};
 use fz_tree::Ast;
 use std::alloc::{AllocError, Global};
 
@@ -45,8 +46,8 @@ impl<'a, 'n> Explainer<'a, 'n> {
         }
     }
 
-    /// Parses the text of the model, where that wasn't done before. The text was loaded, under limits
-    /// that these are no less than, so only memory can be lacking for it.
+    /// Parses the text of the model, where that wasn't done before. The text was loaded, under
+    /// limits that these are no less than, so only memory can be lacking for it.
     fn parse(&mut self, alloc: Global) -> Result<(), AllocError> {
         if self.ast.is_none() {
             match parse_within(alloc, self.text.bytes, Limits::LARGE) {
@@ -57,8 +58,8 @@ impl<'a, 'n> Explainer<'a, 'n> {
         Ok(())
     }
 
-    /// The line and the column, in the model's text or in the stream, that the verdict on a block is
-    /// about; none where it is satisfied.
+    /// The line and the column, in the model's text or in the stream, that the verdict on a block
+    /// is about; none where it is satisfied.
     ///
     /// # Errors
     ///
@@ -94,8 +95,8 @@ impl<'a, 'n> Explainer<'a, 'n> {
         }
     }
 
-    /// The printed variables of the model that nothing binds but their own domains; none where there
-    /// are none, and of a text of more than 16 MiB.
+    /// The printed variables of the model that nothing binds but their own domains; none where
+    /// there are none, and of a text of more than 16 MiB.
     ///
     /// # Errors
     ///

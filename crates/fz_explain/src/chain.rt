@@ -1,7 +1,7 @@
-//! Why values are given and bounds are narrowed, down to what was printed: of a variable whose value a
-//! constraint gave the reason for it, then those for the values that it was given from; of bounds
-//! what narrowed them, then the values and bounds that this is from. Each constraint gives one
-//! reason for a value, and each printed value, each domain and each step is told once.
+//! Why values are given and bounds are narrowed, down to what was printed: of a variable whose
+//! value a constraint gave the reason for it, then those for the values that it was given from; of
+//! bounds what narrowed them, then the values and bounds that this is from. Each constraint gives
+//! one reason for a value, and each printed value, each domain and each step is told once.
 
 ghost use Rattle.std.specs.Prelude.{◌<◌, IfSome, length};
 ghost use Rattle.fz_filling.specs.of_model.Meaning.{points};
@@ -12,7 +12,7 @@ use crate::notes::{Known, Note, domain_text, short_text, told_text, told_value};
 use crate::source::{Source, source_of};
 use crate::variables::variables_of;
 use crate::verdict::Reading;
-use fz_filling::{Narrower, Narrowing};
+use fz_index::{Narrower, Narrowing};
 use fz_reasons::giving_at;
 use indexmap::IndexSet;
 use std::alloc::{AllocError, Global};
@@ -46,8 +46,8 @@ struct Chain<'r> {
     count: usize,
 }
 
-/// Adds to each variable of a message on a point why it has its value, or its bounds, to which these
-/// steps led.
+/// Adds to each variable of a message on a point why it has its value, or its bounds, to which
+/// these steps led.
 pub(crate) fn note_chain(
     alloc: Global,
     reading: &Reading<'_, '_, '_, '_, '_>,
@@ -208,8 +208,8 @@ impl<'r> Chain<'r> {
         Ok(lines)
     }
 
-    /// The line on the bounds of a variable before the step with this number: those of another point
-    /// or of its domain, where that isn't told.
+    /// The line on the bounds of a variable before the step with this number: those of another
+    /// point or of its domain, where that isn't told.
     fn look_before(
         &mut self,
         alloc: Global,
@@ -256,8 +256,8 @@ impl<'r> Chain<'r> {
         Ok(None)
     }
 
-    /// The line on a value: the reason for it, where it was given, or else that it is printed, where
-    /// bounds are from it.
+    /// The line on a value: the reason for it, where it was given, or else that it is printed,
+    /// where bounds are from it.
     fn look_at_value(
         &mut self,
         alloc: Global,

@@ -7,8 +7,9 @@ ghost use Rattle.fz_filling.specs.of_model.Slots.{scalar_term};
 ghost use Rattle.fz_tree.specs.View.{bare_literal};
 ghost use Rattle.fz_explain.specs.Differing.{first_differing, has_value};
 
-use fz_filling::{Partial, Scalar, Scalars, literal_value, scalar_at};
+use fz_data::literal_value;
 use fz_places::Value;
+use fz_store::{Partial, Scalar, Scalars, scalar_at};
 use fz_tree::Literal;
 use std::alloc::{AllocError, Global};
 

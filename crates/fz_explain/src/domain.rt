@@ -4,7 +4,7 @@ ghost use Rattle.std.specs.Prelude.{◌≡◌, ◌<◌, Some, length, option_map
 ghost use Rattle.fz_filling.specs.of_model.Meaning.{Point, points};
 ghost use Rattle.fz_explain.specs.Domains.{domain_of};
 
-use fz_filling::{Domain, Model, PointParts};
+use fz_store::{Domain, Model, PointParts};
 
 /// The declared domain, where the point with this number, from 0, is about one; none where it is a
 /// definition or a constraint.

@@ -6,8 +6,9 @@ ghost use Rattle.fz_filling.specs.Givers.{giver_view};
 ghost use Rattle.fz_explain.specs.Explained.{IsTold, shortened};
 
 use crate::source::{Source, source_of};
-use fz_filling::{Giver, Partial};
+use fz_filling::Giver;
 use fz_places::Value;
+use fz_store::Partial;
 use std::alloc::{AllocError, Global};
 
 /// The most variables of an explanation.

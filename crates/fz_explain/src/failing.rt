@@ -6,7 +6,8 @@ ghost use Rattle.fz_filling.specs.of_model.States.{state};
 ghost use Rattle.fz_explain.specs.Firsts.{IsFirst, NoPoint};
 ghost use Rattle.fz_explain.specs.Told.{IsSought, is_sought};
 
-use fz_filling::{Model, Partial, State, state};
+use fz_model::state;
+use fz_store::{Model, Partial, State};
 use std::alloc::{AllocError, Global};
 
 /// What kind of point is looked for.

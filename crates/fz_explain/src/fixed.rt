@@ -5,8 +5,8 @@ ghost use Rattle.fz_filling.specs.of_model.Shown.{scalar_terms};
 ghost use Rattle.fz_filling.specs.of_model.Slots.{scalar_term, slot_term};
 ghost use Rattle.fz_explain.specs.Fixings.{fixed_value, fixed_values, fixing, fixing_view};
 
-use fz_filling::{Model, Scalar, Scalars, What, scalar_at};
 use fz_places::Value;
+use fz_store::{Model, Scalar, Scalars, What, scalar_at};
 use std::alloc::{AllocError, Global};
 
 /// What a name stands for: of a parameter the only value, of an array those of its elements.

@@ -3,7 +3,8 @@
 use crate::excerpt::shown_text;
 use crate::message::Message;
 use crate::verdict::Reading;
-use fz_filling::{Completion, Model, Reason, Verdict};
+use fz_filling::{Completion, Reason, Verdict};
+use fz_store::Model;
 use std::alloc::{AllocError, Global};
 
 /// A variable has no value, and none was looked for.

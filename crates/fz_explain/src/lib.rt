@@ -1,8 +1,8 @@
 //! What is behind a verdict on a block, or a refusal, for a person to act on. Data under contracts
 //! are the point that a verdict is about, the variables in that point, and where the value of each
-//! comes from. Messages in the form of a compiler's show these: an `Explainer` explains the verdicts
-//! on blocks, `message_at` shows a byte range of a file or a stream. No contract speaks of their
-//! words and layout, which `tests/explained` tests.
+//! comes from. Messages in the form of a compiler's show these: an `Explainer` explains the
+//! verdicts on blocks, `message_at` shows a byte range of a file or a stream. No contract speaks of
+//! their words and layout, which `tests/explained` tests.
 #![tactic(auto)]
 
 mod binding;
@@ -39,11 +39,13 @@ pub use domain::declared_domain;
 pub use explained::{Explained, Explanation, explain};
 pub use failing::{Sought, first_point};
 pub use fixed::{Fixing, fixing_of};
-pub use fz_filling::{Giver, Kind, Refutation};
+pub use fz_filling::Giver;
+pub use fz_index::Refutation;
 pub use fz_places::{
     Element, ModelPlace, NameLine, NameTable, Range, Spot, TableError, Value, element_of,
     model_place, spot_of,
 };
+pub use fz_store::Kind;
 pub use message::{Message, Text, message_at};
 pub use notes::{FixedNote, Known, MOST_RANGES, Note, Origin};
 pub use place::point_place;

@@ -1,5 +1,5 @@
-//! The notes of a message on variables, with their values or bounds and where these come from, and on
-//! domains.
+//! The notes of a message on variables, with their values or bounds and where these come from, and
+//! on domains.
 
 use crate::bounds::{Bounds, bounds_text};
 use crate::excerpt::shown_text;
@@ -11,9 +11,9 @@ use crate::place::point_place;
 use crate::remarks::{Remarks, remarks_on};
 use crate::source::Source;
 use crate::verdict::Reading;
-use fz_filling::{Domain, Model, Point};
 use fz_places::{IntSet, Range, Value, spot_of};
 use fz_reasons::{Piece, Told, Who};
+use fz_store::{Domain, Model, Point};
 use fz_tree::{Basic, Constraint, Expr};
 use indexmap::IndexSet;
 use std::alloc::{AllocError, Global};
@@ -428,12 +428,7 @@ fn note_basic(
 }
 
 fn is_told(fixed: &[FixedNote], name: &str) -> bool {
-    for note in fixed {
-        if note.name.as_str() == name {
-            return true;
-        }
-    }
-    false
+    fixed.iter().any(|note| note.name.as_str() == name)
 }
 
 /// The value of a parameter, or a list of values: of more than twelve the first eight, how many

@@ -6,7 +6,7 @@ ghost use Rattle.fz_filling.specs.of_model.View.{located_decl};
 ghost use Rattle.fz_tree.specs.View.{bare_notes};
 ghost use Rattle.fz_explain.specs.Spots.{point_notes, point_place};
 
-use fz_filling::Point;
+use fz_store::Point;
 use fz_tree::{Ast, Constraint, Decl, Note, Span};
 
 /// The constraint with this number, from 1.

@@ -8,8 +8,9 @@ use crate::naming::indexed;
 use crate::notes::{note_variables, value_text};
 use crate::place::declaration_of;
 use crate::verdict::Reading;
-use fz_filling::{Scalar, Scalars, What, literal_value};
+use fz_data::literal_value;
 use fz_places::{Value, indices_of};
+use fz_store::{Scalar, Scalars, What};
 use fz_tree::{Literal, Printed, PrintedValue, Span};
 use std::alloc::{AllocError, Global};
 

@@ -7,7 +7,7 @@ use crate::message::Message;
 use crate::notes::note_variables;
 use crate::variables::variables_of;
 use crate::verdict::Reading;
-use fz_filling::Refutation;
+use fz_index::Refutation;
 use std::alloc::{AllocError, Global};
 
 /// What is said behind the bounds.

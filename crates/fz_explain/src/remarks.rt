@@ -1,12 +1,12 @@
-//! What the MiniZinc compiler wrote at a point on where it is from: the names of a constraint and of
-//! its expression, and the path to it in the model.
+//! What the MiniZinc compiler wrote at a point on where it is from: the names of a constraint and
+//! of its expression, and the path to it in the model.
 
 use crate::excerpt::{cut_text, shown_text};
 use crate::place::point_notes;
 use crate::quoting::{Quote, Source, source_in};
 use crate::verdict::Reading;
-use fz_filling::Point;
 use fz_places::{ModelPlace, NameLine, NameTable, model_place, text_of};
+use fz_store::Point;
 use fz_tree::Note;
 use std::alloc::{AllocError, Global};
 

@@ -6,8 +6,8 @@ ghost use Rattle.fz_filling.specs.of_model.States.{terms_at_argument};
 ghost use Rattle.fz_filling.specs.of_model.Parts.{argument_view, constraint_view, place_view};
 ghost use Rattle.fz_filling.specs.of_model.Slots.{scalar_term, slot_term};
 
-use fz_filling::{Argument, ConstraintParts, Scalar, Slot, part, scalar_at};
 use fz_places::Value;
+use fz_store::{Argument, ConstraintParts, Scalar, Slot, part, scalar_at};
 use std::alloc::{AllocError, Global};
 
 /// Adds the scalars of a list of slots.

@@ -4,7 +4,8 @@ ghost use Rattle.std.specs.Prelude.{◌≡◌, map};
 ghost use Rattle.fz_filling.specs.Givers.{giver_view};
 ghost use Rattle.fz_explain.specs.Sources.{SourcesAreEarlier, giver_of, source_of};
 
-use fz_filling::{Giver, Partial};
+use fz_filling::Giver;
+use fz_store::Partial;
 
 /// Where the value of a variable comes from.
 #[derive(Clone, Copy, PartialEq, Eq)]
@@ -42,8 +43,8 @@ pub(crate) fn source_of(filling: &Partial, steps: &[Giver], variable: usize) -> 
     }
 }
 
-/// Where the steps are those from the printed values to a filling, a value that is told as given was
-/// given from values that are printed or that steps before gave.
+/// Where the steps are those from the printed values to a filling, a value that is told as given
+/// was given from values that are printed or that steps before gave.
 pub fn sources_are_earlier()
     ensures { SourcesAreEarlier }
 {}

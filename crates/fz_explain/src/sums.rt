@@ -8,8 +8,8 @@ ghost use Rattle.fz_filling.specs.of_model.Slots.{scalar_term};
 ghost use Rattle.fz_explain.specs.Leaving.{first_leaving, leaving_in, leaving_of};
 
 use crate::scalars::scalars_at;
-use fz_filling::{ConstraintParts, Model, Partial, PointParts, Scalar, Wide};
 use fz_places::Value;
+use fz_store::{ConstraintParts, Model, Partial, PointParts, Scalar, Wide};
 use std::alloc::{AllocError, Global};
 
 /// The integer value of a scalar: of a literal, or of a variable that has a value.

@@ -9,7 +9,7 @@ ghost use Rattle.fz_filling.specs.of_model.Steps.{terms_of};
 ghost use Rattle.fz_explain.specs.Sources.{variables_in, with_term, with_terms};
 
 use crate::scalars::{push_argument, push_list};
-use fz_filling::{Argument, ConstraintParts, Model, PointParts, Scalar, Term};
+use fz_store::{Argument, ConstraintParts, Model, PointParts, Scalar, Term};
 use indexmap::IndexSet;
 use std::alloc::{AllocError, Global};
 

@@ -18,9 +18,10 @@ use crate::remarks::remarks_on;
 use crate::sentence::sentence;
 use crate::sums::too_large_at;
 use crate::variables::variables_of;
-use fz_filling::{Completion, Fault, Giver, Goal, Model, Partial, Point, Reason, Term, Verdict};
+use fz_filling::{Completion, Fault, Giver, Reason, Verdict};
 use fz_places::NameTable;
 use fz_reasons::reason_at;
+use fz_store::{Goal, Model, Partial, Point, Term};
 use fz_tree::{Ast, Basic, Goal as GoalItem, Span};
 use std::alloc::{AllocError, Global};
 
@@ -133,8 +134,8 @@ fn note_first(
     }
 }
 
-/// Adds what the text of the model has at the point of a verdict: what the compiler wrote there, and
-/// the values that are fixed.
+/// Adds what the text of the model has at the point of a verdict: what the compiler wrote there,
+/// and the values that are fixed.
 fn note_text(
     alloc: Global,
     reading: &Reading<'_, '_, '_, '_, '_>,

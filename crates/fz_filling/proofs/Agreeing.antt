@@ -5,8 +5,8 @@ use Rattle.std.specs.Option.{option_map_or}
 use Rattle.fz_index.specs.of_model.of_base.declared.value.Value.{Value}
 use Rattle.fz_index.specs.of_model.of_base.declared.value.Value.TheVariants.{Int}
 use Rattle.fz_index.specs.of_model.declared.State.TheVariants.{TooLarge, Unknown}
-use Rattle.fz_index.specs.of_model.declared.Wide.{Wide}
-use Rattle.fz_index.specs.of_model.declared.Wide.TheVariants.{Products, Power}
+use Rattle.fz_store.specs.declared.Wide.{Wide}
+use Rattle.fz_store.specs.declared.Wide.TheVariants.{Products, Power}
 use Rattle.fz_index.specs.of_model.Builtins.{ArgValue, Row}
 use Rattle.fz_index.specs.of_model.States.{is_beyond, is_unknown, judged, known_products, leaves, leaves_128, number_of_value, power_leaves, product_before, state_of_row, state_of_values, terms_at_argument}
 use Rattle.fz_index.specs.of_model.Results.{Result, result_of}

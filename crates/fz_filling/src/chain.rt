@@ -9,7 +9,7 @@ ghost use Rattle.fz_filling.specs.declared.completion.Completion.TheVariants.{Of
 
 use crate::course::Course;
 use crate::steps::{Steps, fill_along, fill_on};
-use fz_index::{Model, Partial};
+use fz_store::{Model, Partial};
 use std::alloc::{AllocError, Global};
 
 /// Takes the steps of points in this order first, and then those that are left. It comes to the

@@ -4,7 +4,7 @@ ghost use Rattle.std.specs.Prelude.{IfOk};
 ghost use Rattle.fz_filling.specs.Courses.{IsCourse};
 
 use crate::lone::lone_order;
-use fz_index::Model;
+use fz_store::Model;
 use std::alloc::{AllocError, Global};
 
 /// What is known of the fillings of a model.

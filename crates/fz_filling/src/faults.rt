@@ -11,7 +11,8 @@ ghost use Rattle.fz_filling.specs.BlockFaults.{literal_fault, value_fault};
 ghost use Rattle.fz_filling.specs.Judged.{refusal};
 
 use crate::error::BlockError;
-use fz_index::{Kind, Scalar, Scalars, Variable, What, literal_kind, same_kind};
+use fz_data::literal_kind;
+use fz_store::{Kind, Scalar, Scalars, Variable, What, same_kind};
 use fz_stream::{Literal, Name, PrintedValue};
 
 /// A literal of another kind.

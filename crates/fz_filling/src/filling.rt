@@ -21,7 +21,8 @@ use crate::error::BlockError;
 use crate::further::further;
 use crate::start::{nothing_proposed, start};
 use crate::steps::{Giver, Steps};
-use fz_index::{Model, Partial, Search};
+use fz_index::Search;
+use fz_store::{Model, Partial};
 use fz_stream::{Block, Span};
 use std::alloc::{AllocError, Global};
 

@@ -13,7 +13,8 @@ ghost use Rattle.fz_filling.specs.declared.completion.Completion.TheVariants.{On
 
 use crate::completion::Completion;
 use crate::steps::{Steps, take_step};
-use fz_index::{Model, Partial, Place, Search, known_of};
+use fz_index::{Place, Search, known_of};
+use fz_store::{Model, Partial};
 use std::alloc::{AllocError, Global};
 
 /// Takes the step of each of these points that gives one.

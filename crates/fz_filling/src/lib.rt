@@ -29,11 +29,6 @@ pub use completion::Completion;
 pub use course::Course;
 pub use error::BlockError;
 pub use filling::{fill, fill_with_steps, filled};
-pub use fz_index::{
-    Argument, ConstraintParts, Domain, Goal, Kind, Left, LoadError, Model, ModelError, Narrower,
-    Narrowing, Partial, Point, PointParts, Refutation, Scalar, Scalars, Search, Slot, State, Term,
-    What, Wide, literal_value, load, load_text, part, scalar_at, state,
-};
 pub use fz_stream::{
     Ast, Block, Claim, ClaimKind, Decl, Limits, Name, Note, Part, Span, Splitter, Stream,
     StreamError, SyntaxError, blocks, parse_within, to_text,

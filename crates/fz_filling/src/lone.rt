@@ -4,7 +4,9 @@ ghost use Rattle.std.specs.Prelude.{◌≡◌, ◌<◌, ℕ, IfOk, IfSome, IsTru
 ghost use Rattle.fz_index.specs.of_model.Shown.{point_view};
 ghost use Rattle.fz_filling.specs.Courses.{AreKept, AreLone, IsNoted};
 
-use fz_index::{Model, PointParts, Term, only_number, order_of};
+use fz_index::order_of;
+use fz_model::only_number;
+use fz_store::{Model, PointParts, Term};
 use std::alloc::{AllocError, Global};
 
 /// Stores that a point can give a variable a value; `true` where it is the only one so far. The

@@ -10,9 +10,8 @@ ghost use Rattle.fz_filling.specs.View.{fault_view, reason_view, verdict_view};
 ghost use Rattle.fz_filling.specs.Working.{is_failed, reason_named};
 
 use crate::verdict::{Fault, Reason, Verdict};
-use fz_index::{
-    Goal, Model, Overview, Partial, Point, State, Term, Value, Variable, all_hold, is_held, state,
-};
+use fz_model::{Overview, all_hold, is_held, state};
+use fz_store::{Goal, Model, Partial, Point, State, Term, Value, Variable};
 use std::alloc::{AllocError, Global};
 
 /// The fault of a point that fails.

@@ -15,7 +15,7 @@ ghost use Rattle.fz_filling.specs.Working.{has_value, have_values};
 
 use crate::values::{is_number, is_of_literal, is_set, is_truth};
 use crate::verdict::Fault;
-use fz_index::{Model, Partial, Scalar, Scalars, What, scalar_at};
+use fz_store::{Model, Partial, Scalar, Scalars, What, scalar_at};
 use fz_stream::{Literal, Printed, PrintedValue};
 use std::alloc::{AllocError, Global};
 

@@ -16,7 +16,8 @@ ghost use Rattle.fz_filling.specs.Working.{HasRoom, IsWithin, element_pairs, ite
 
 use crate::error::BlockError;
 use crate::faults::value_fault;
-use fz_index::{Model, Partial, Scalar, Scalars, Value, What, literal_value, scalar_at};
+use fz_data::literal_value;
+use fz_store::{Model, Partial, Scalar, Scalars, Value, What, scalar_at};
 use fz_stream::{Literal, LiteralKind, Printed, PrintedValue};
 use std::alloc::{AllocError, Global};
 

@@ -12,7 +12,8 @@ ghost use Rattle.fz_filling.specs.Stepping.{GivesNoneAt, IsStepAhead, NoneGives}
 ghost use Rattle.fz_filling.specs.declared.completion.Completion.TheVariants.{Off};
 
 use crate::completion::Completion;
-use fz_index::{Model, Partial, Value, forced, forced_any};
+use fz_model::{forced, forced_any};
+use fz_store::{Model, Partial, Value};
 use std::alloc::{AllocError, Global};
 
 /// A forced step: the number of the point that gives it, the variable's number, and the value.

@@ -6,7 +6,8 @@ ghost use Rattle.fz_index.specs.of_model.Names.{literal_value};
 ghost use Rattle.fz_index.specs.of_model.States.{same_value};
 ghost use Rattle.fz_stream.specs.of_syntax.View.{bare_literal_kind};
 
-use fz_index::{IntSet, Value, literal_value};
+use fz_data::literal_value;
+use fz_store::{IntSet, Value};
 use fz_stream::LiteralKind;
 use std::alloc::{AllocError, Global};
 

@@ -12,7 +12,7 @@ use Rattle.std.proofs.lemmas.Bool.{or_right, cases_eq, or_parts}
 use Rattle.std.proofs.lemmas.Bool.Decides.{nat_tests, Decides-int_eq}
 use Rattle.std.proofs.lemmas.Option.{slice_get_within}
 use Rattle.std.proofs.lemmas.Grind.{common_steps}
-use Rattle.fz_kernel.specs.of_meaning.of_syntax.Sets.{NumberSet}
+use Rattle.fz_kernel.specs.of_meaning.of_base.Sets.{NumberSet}
 use Rattle.fz_kernel.proofs.of_meaning.of_base.Numbers.{same_numbers}
 use Rattle.fz_kernel.specs.of_meaning.Relations.{◌=ℤ◌, ◌=ˢ◌, element_at, are_channelled, indices_of, lies_between, sets_are}
 use Rattle.fz_kernel.proofs.of_meaning.Values.{no, no', and_first, and_second, and_both, same_int, int_itself, same_set_is, set_itself}

@@ -1,10 +1,10 @@
 -- The elements whose indices are in a set, one after another.
-use Rattle.std.proofs.Common.{◌≡◌, ℕ, ◌+◌, ◌≤◌, ℤ, pos, ◌+ℤ◌, Bool, true, false, ◌&&◌, ◌||◌, if◌then◌else◌, List, [], ◌∷◌, ◌++◌, append-nil, append_assoc, drop, length, Some, slice_get, refl, sym, ap, ◌∙◌}
+use Rattle.std.proofs.Common.{◌≡◌, ℕ, ◌+◌, ◌≤◌, ℤ, pos, ◌+ℤ◌, Bool, true, false, not, ◌&&◌, ◌||◌, if◌then◌else◌, List, [], ◌∷◌, ◌++◌, append-nil, append_assoc, drop, length, Some, slice_get, refl, sym, ap, ◌∙◌}
 use Rattle.std.specs.List.{list_all}
 use Rattle.std.specs.Ordering.{int_cmp}
 use Rattle.std.specs.Cmp.{int_cmp_total}
 use Rattle.std.specs.FinSet.{contains, contains-empty, contains-union, empty, is_subset, union}
-use Rattle.fz_kernel.specs.of_meaning.of_syntax.Sets.{NumberSet}
+use Rattle.fz_kernel.specs.of_meaning.of_base.Sets.{NumberSet}
 use Rattle.fz_kernel.proofs.of_meaning.of_base.Numbers.{same_numbers}
 use Rattle.fz_kernel.specs.of_meaning.Relations.{chosen, indices_from, refer_back, union_of}
 use Rattle.fz_kernel.proofs.Left.{next, none_left}
@@ -103,20 +103,17 @@ pub all_united : (ss : List NumberSet) (s : NumberSet) (i : ℕ) (u : NumberSet)
 all_united ss s i u so_far end =
     sym (so_far ∙ ap (λ l. union u (union_of (chosen (pos 1 +ℤ pos i) l s))) (none_left ss i end) ∙ empty_union u)
 
--- ---- a number in each of them
+-- ---- a test of each of them
 
-module _ (n o : ℤ) (ss : List NumberSet) (s : NumberSet) (i : ℕ) (r : Bool) (so_far : r ≡ list_all (λ t. contains t n) (left o ss s i)) where
-  module _ (x : NumberSet) (at : slice_get ss i ≡ Some x) where
-    pub one_has_not : contains s (o +ℤ pos i) ≡ true → contains x n ≡ false → false ≡ r
-    one_has_not is other = sym (so_far ∙ ap (list_all (λ t. contains t n)) (one_chosen o ss s i x at is) ∙ ap (λ b. b && list_all (λ t. contains t n) (left o ss s (i + 1))) other)
-
-    pub one_has : contains s (o +ℤ pos i) ≡ true → contains x n ≡ true
-        → r ≡ list_all (λ t. contains t n) (left o ss s (i + 1))
-    one_has is has = so_far ∙ ap (list_all (λ t. contains t n)) (one_chosen o ss s i x at is) ∙ ap (λ b. b && list_all (λ t. contains t n) (left o ss s (i + 1))) has
-
-    pub one_left_out : contains s (o +ℤ pos i) ≡ false
-        → r ≡ list_all (λ t. contains t n) (left o ss s (i + 1))
-    one_left_out is = so_far ∙ ap (list_all (λ t. contains t n)) (none_chosen o ss s i x at is)
+pub one_passes : {A : Type 0} (p : A → Bool) (i : ℤ) (x : A) (xs : List A) (s : NumberSet)
+    → list_all p (chosen i (x ∷ xs) s)
+    ≡ ((not (contains s i) || p x) && list_all p (chosen (i +ℤ pos 1) xs s))
+one_passes p i x xs s = by (contains s i)
+  where
+    by : (b : Bool) → list_all p (if b then x ∷ chosen (i +ℤ pos 1) xs s else chosen (i +ℤ pos 1) xs s)
+        ≡ ((not b || p x) && list_all p (chosen (i +ℤ pos 1) xs s))
+    by true = refl
+    by false = refl
 
 -- ---- sets that refer back, one after another
 

@@ -6,9 +6,9 @@ use Rattle.std.specs.Cmp.{int_cmp_total, both_ways}
 use Rattle.std.specs.FinSet.{contains, empty, is_subset, len, contains-empty, is_subset-contains, contains-is_subset, empty_of_len, len-empty}
 use Rattle.std.proofs.lemmas.Int.{ints}
 use Rattle.std.proofs.lemmas.Bool.Decides.{nat_tests}
-use Rattle.fz_kernel.specs.of_meaning.of_syntax.Sets.{NumberSet, numbers_between}
+use Rattle.fz_kernel.specs.of_meaning.of_base.Sets.{NumberSet, numbers_between}
 use Rattle.fz_kernel.specs.of_meaning.of_base.Elements.{LiesWithin, Has64Bits}
-use Rattle.fz_kernel.specs.of_meaning.of_syntax.Ranges.{is_between}
+use Rattle.fz_kernel.specs.of_meaning.of_base.Ranges.{is_between}
 use Rattle.fz_kernel.proofs.of_meaning.of_base.Numbers.{contains-numbers_between, same_numbers}
 use Rattle.fz_kernel.specs.of_meaning.Relations.{◌=ᴮ◌, flags_are}
 use Rattle.fz_kernel.proofs.of_meaning.Values.{no}

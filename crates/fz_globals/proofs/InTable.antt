@@ -1,39 +1,19 @@
 -- Two lists compared index by index, and the rows of a table one after another.
-use Rattle.std.proofs.Common.{◌≡◌, ℕ, suc, zero, ◌+◌, ◌*◌, ◌<◌, ◌≤◌, Bool, true, false, ◌&&◌, ◌||◌, List, [], ◌∷◌, drop, take, length, Some, slice_get, refl, sym, ap, ◌∙◌, arith, rules}
+use Rattle.std.proofs.Common.{◌≡◌, ℕ, suc, zero, ◌+◌, ◌*◌, ◌<◌, ◌≤◌, Bool, true, false, ◌&&◌, ◌||◌, List, [], ◌∷◌, drop, take, length, refl, ap, ◌∙◌, arith, rules}
 use Rattle.std.specs.List.{list_any}
 use Rattle.std.proofs.lemmas.List.{length-drop, drop-drop}
 use Rattle.std.proofs.lemmas.Nat.{mod-mul-add, mul-add-lt}
 use Rattle.std.proofs.lemmas.Grind.{common_steps}
-use Rattle.fz_kernel.specs.of_meaning.Relations.{is_same_list, is_row_of, rows_of, rows_within}
-use Rattle.fz_kernel.proofs.Left.{next}
-
--- ---- indices of a part of a list
-
-pub in_front : {A : Type 0} (xs : List A) (n i : ℕ) (x : A) → i < n → slice_get xs i ≡ Some x
-    → slice_get (take n xs) i ≡ Some x
-in_front xs zero i x h at = absurd (omega arith)
-in_front (y ∷ ys) (suc n) (suc i) x h at = in_front ys n i x (omega arith) at
-in_front _ (suc n) i x h at = at
-
-pub behind : {A : Type 0} (xs : List A) (s i j : ℕ) (x : A) → j ≡ s + i → slice_get xs j ≡ Some x
-    → slice_get (drop s xs) i ≡ Some x
-behind xs zero i j x is at = grind (arith, common_steps)
-behind [] (suc s) i j x is at = at
-behind (y ∷ ys) (suc s) i zero x is at = absurd (omega arith)
-behind (y ∷ ys) (suc s) i (suc j) x is at = behind ys s i j x (omega arith) at
+use Rattle.fz_kernel.specs.of_meaning.Relations.{all_both, is_same_list, is_row_of, rows_of, rows_within}
 
 -- ---- lists that are compared
 
-module _ {A : Type 0} (same : A → A → Bool) (xs ys : List A) (i : ℕ) where
-  module _ (x y : A) (at_x : slice_get xs i ≡ Some x) (at_y : slice_get ys i ≡ Some y) (r : Bool) (so_far : r ≡ is_same_list same (drop i xs) (drop i ys)) where
-    one : r ≡ (same x y && is_same_list same (drop (i + 1) xs) (drop (i + 1) ys))
-    one = so_far ∙ (λ k. is_same_list same (next xs i x at_x k) (next ys i y at_y k))
-
-    pub goes_on : same x y ≡ true → r ≡ is_same_list same (drop (i + 1) xs) (drop (i + 1) ys)
-    goes_on passed = one ∙ ap (λ b. b && is_same_list same (drop (i + 1) xs) (drop (i + 1) ys)) passed
-
-    pub differs : same x y ≡ false → false ≡ r
-    differs failed = sym (one ∙ ap (λ b. b && is_same_list same (drop (i + 1) xs) (drop (i + 1) ys)) failed)
+-- with the front of a list that is no shorter
+pub same_front : {A : Type 0} (same : A → A → Bool) (xs ys : List A) → length xs ≤ length ys
+    → all_both same xs ys ≡ is_same_list same xs (take (length xs) ys)
+same_front same [] ys h = refl
+same_front same (x ∷ xs) [] h = absurd (omega arith)
+same_front same (x ∷ xs) (y ∷ ys) h = ap (λ b. same x y && b) (same_front same xs ys (omega arith))
 
 -- ---- rows
 

@@ -6,8 +6,8 @@ use Rattle.std.specs.Cmp.{int_cmp_total}
 use Rattle.std.specs.FinSet as sets
 use Rattle.std.proofs.lemmas.Bool.{or_left, or_right}
 use Rattle.std.proofs.lemmas.Int.{ints}
-use Rattle.fz_kernel.specs.of_meaning.of_syntax.Sets.{NumberSet, numbers_between}
-use Rattle.fz_kernel.specs.of_meaning.of_syntax.Ranges.{AreInOrder, covers, is_between}
+use Rattle.fz_kernel.specs.of_meaning.of_base.Sets.{NumberSet, numbers_between}
+use Rattle.fz_kernel.specs.of_meaning.of_base.Ranges.{AreInOrder, covers, is_between}
 use Rattle.fz_kernel.specs.of_meaning.of_base.declared.ranges.Range.{Range}
 use Rattle.fz_kernel.proofs.of_meaning.of_base.Covers.{between_yes, between_above, covers_below, or-false}
 use Rattle.fz_kernel.proofs.of_meaning.of_base.Numbers.{contains-numbers_between}

@@ -6,7 +6,7 @@ use Rattle.std.specs.Cmp.{int_cmp_total, both_ways}
 use Rattle.std.proofs.lemmas.Bool.Decides.{nat_tests}
 use Rattle.std.specs.FinSet.{contains, empty, union, intersection, difference, is_subset, len, contains-empty, contains-union, contains-intersection, contains-difference, is_subset-contains, contains-is_subset, empty_of_len, len-empty}
 use Rattle.fz_kernel.proofs.of_meaning.of_base.Covers.{and-false}
-use Rattle.fz_kernel.specs.of_meaning.of_syntax.Sets.{NumberSet}
+use Rattle.fz_kernel.specs.of_meaning.of_base.Sets.{NumberSet}
 use Rattle.fz_kernel.proofs.of_meaning.of_base.Numbers.{same_numbers}
 use Rattle.fz_kernel.specs.of_meaning.Relations.{◌=ˢ◌, all_pairs, are_disjoint, is_partition, union_of}
 use Rattle.fz_kernel.proofs.of_meaning.Values.{no, and_first, and_second, and_both, same_truth, same_set_is, set_itself}

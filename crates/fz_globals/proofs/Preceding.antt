@@ -2,7 +2,7 @@
 use Rattle.std.proofs.Common.{◌≡◌, ℕ, ◌+◌, ℤ, pos, ◌+ℤ◌, Bool, true, false, not, ◌&&◌, ◌||◌, List, drop, int_le, Some, slice_get, refl, sym, ap, ◌∙◌}
 use Rattle.std.specs.Int.{int_max}
 use Rattle.std.proofs.lemmas.Bool.Decides.{Decides-int_eq}
-use Rattle.fz_kernel.specs.of_meaning.of_syntax.Sets.{NumberSet}
+use Rattle.fz_kernel.specs.of_meaning.of_base.Sets.{NumberSet}
 use Rattle.fz_kernel.specs.of_meaning.Relations.{◌=ℤ◌, has_only, precedes, precedes_in_sets, rises_by_one}
 use Rattle.fz_globals.proofs.Compared.{is_other}
 use Rattle.fz_kernel.proofs.Left.{next}

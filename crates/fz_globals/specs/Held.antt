@@ -3,7 +3,7 @@
 use Rattle.std.specs.Prelude.{ℕ, ◌+◌, ℤ, pos, ◌+ℤ◌, ◌-ℤ◌, Bool, true, false, ◌&&◌, List, [], ◌∷◌}
 use Rattle.std.specs.Option.{option_map_or}
 use Rattle.std.specs.FinSet as set
-use Rattle.fz_kernel.specs.of_meaning.of_syntax.Sets.{NumberSet}
+use Rattle.fz_kernel.specs.of_meaning.of_base.Sets.{NumberSet}
 use Rattle.fz_kernel.specs.of_meaning.Relations.{element_at}
 
 -- the index is in the set whose index the number is, where the sets' indices begin with so

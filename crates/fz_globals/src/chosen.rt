@@ -7,7 +7,10 @@ ghost use Rattle.fz_kernel.specs.Views.{ints, sets};
 
 use crate::flags::has;
 use crate::indices::{are_indices, index_at};
-use fz_kernel::{Elements, IntSet, SetError};
+use crate::order::implies;
+use fz_kernel::Elements;
+use fz_kernel::indices::all_between;
+use fz_store::{IntSet, SetError};
 use std::alloc::{AllocError, Global};
 
 /// The union of the sets whose indices, from 1 on, are in `indices`.
@@ -94,11 +97,10 @@ fn all_have(number: i128, parts: &Elements, first: i64, indices: &IntSet) -> boo
     ensures { result ≡ list_all (λ t. contains t number)
         (chosen first (sets parts.now) indices.now) }
 {
-    for place in 0..parts.len() {
-        let part = parts.set(place);
-        if has(indices, index_at(first, place)) && !has(part, number) {
-            return false;
-        }
-    }
-    true
+    all_between(0, parts.len(), |place| {
+        implies(
+            has(indices, index_at(first, place)),
+            has(parts.set(place), number),
+        )
+    })
 }

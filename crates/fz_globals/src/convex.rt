@@ -2,7 +2,7 @@
 ghost use Rattle.std.specs.Prelude.{◌≡◌, IfOk};
 ghost use Rattle.fz_kernel.specs.of_meaning.Relations.{is_convex};
 
-use fz_kernel::IntSet;
+use fz_store::IntSet;
 use std::alloc::{AllocError, Global};
 
 /// Whether all numbers between any two elements are elements.

@@ -6,9 +6,11 @@ ghost use Rattle.fz_kernel.specs.of_meaning.Relations.{◌=ℤ◌, ◌=ᴮ◌, a
 ghost use Rattle.fz_kernel.specs.Views.{ints, bools};
 
 use crate::ordered::{numbers_in_order, values_in_order};
+use fz_kernel::Elements;
 use fz_kernel::arrays::stands_from;
 use fz_kernel::distinct::all_different;
-use fz_kernel::{Elements, IntSet};
+use fz_kernel::indices::any_between;
+use fz_store::IntSet;
 use std::alloc::{AllocError, Global};
 
 /// The number of indices with the value.
@@ -60,12 +62,7 @@ pub fn is_listed(number: i64, elements: &Elements) -> bool
 pub fn is_truth_listed(truth: bool, elements: &Elements) -> bool
     ensures exact { result ≡ list_any (λ x. x =ᴮ truth) (bools elements.now) }
 {
-    for place in 0..elements.len() {
-        if elements.truth(place) == truth {
-            return true;
-        }
-    }
-    false
+    any_between(0, elements.len(), |place| elements.truth(place) == truth)
 }
 
 /// Whether no two elements at different indices are equal, unless they are 0.

@@ -5,8 +5,9 @@ ghost use Rattle.fz_kernel.specs.of_meaning.Relations.{flags_are, is_flagged};
 ghost use Rattle.fz_kernel.specs.Views.{bools};
 
 use crate::indices::{are_indices, index_at};
+use fz_kernel::Elements;
 use fz_kernel::indices::all_between;
-use fz_kernel::{Elements, IntSet};
+use fz_store::IntSet;
 
 /// Whether the set is that of the indices, from `first` on, of the Booleans that are true.
 pub fn is_flagged(set: &IntSet, flags: &Elements, first: i64) -> bool

@@ -4,7 +4,7 @@ ghost use Rattle.std.specs.Int.{int_min};
 ghost use Rattle.std.specs.FinSet.{is_subset};
 ghost use Rattle.fz_kernel.specs.of_meaning.Relations.{indices_from};
 
-use fz_kernel::IntSet;
+use fz_store::IntSet;
 
 /// The index, counted from `first`, of a position that is counted from 0.
 pub fn index_at(first: i64, place: usize) -> i128

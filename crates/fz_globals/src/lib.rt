@@ -27,20 +27,5 @@ mod testing;
 pub mod tours;
 
 pub use flags::has;
-pub use fz_kernel::arrays::{
-    all_elements_different, all_true, any_false, any_true, bool_element, int_element,
-    int_element_at, maximum, minimum, numbers_of, odd_number_true, set_element, sum_of_products,
-    sum_where_true,
-};
-pub use fz_kernel::numbers::{
-    absolute, greatest, least, number_of_truth, power, product, quotient, remainder, sum,
-};
-pub use fz_kernel::sets::same_set;
-pub use fz_kernel::{
-    Argument, ArgumentView, Builtin, ConstraintParts, Domain, Elements, Filled, Form, Found, Goal,
-    IntSet, Kind, Known, Model, ModelError, Partial, Point, PointParts, Posted, Readiness, Scalar,
-    Scalars, SetError, Slot, State, Term, Value, Variable, What, Wide, item_at, kind_of, part,
-    same_kind, scalar_at,
-};
 pub use indices::{are_indices, index_at, place_from};
 pub use ordered::numbers_in_order;

@@ -55,7 +55,7 @@ pub fn truths_decrease(elements: &Elements) -> bool
     })
 }
 
-fn implies(a: bool, b: bool) -> bool
+pub(crate) fn implies(a: bool, b: bool) -> bool
     ensures { result ≡ (not a || b) }
 {
     !a || b

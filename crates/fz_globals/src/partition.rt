@@ -4,7 +4,8 @@ ghost use Rattle.std.specs.FinSet.{difference};
 ghost use Rattle.fz_kernel.specs.of_meaning.Relations.{are_disjoint, is_partition};
 ghost use Rattle.fz_kernel.specs.Views.{sets};
 
-use fz_kernel::{Elements, IntSet, SetError};
+use fz_kernel::Elements;
+use fz_store::{IntSet, SetError};
 use std::alloc::{AllocError, Global};
 
 /// Whether the sets have no element in common. It takes no memory.

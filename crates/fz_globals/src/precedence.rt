@@ -8,7 +8,8 @@ ghost use Rattle.fz_globals.specs.Keys.{AreKeys, comes_before};
 
 use crate::firsts::{first_place, keys_in_order};
 use crate::testing::neighbours_pass;
-use fz_kernel::{Elements, IntSet};
+use fz_kernel::Elements;
+use fz_store::IntSet;
 use std::alloc::{AllocError, Global};
 
 // Up to this many numbers in a chain the elements are gone over for each of them, which takes no

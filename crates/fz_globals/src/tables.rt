@@ -4,6 +4,7 @@ ghost use Rattle.fz_kernel.specs.of_meaning.Relations.{◌=ℤ◌, ◌=ᴮ◌, i
 ghost use Rattle.fz_kernel.specs.Views.{bools, ints, slots_of};
 
 use fz_kernel::Elements;
+use fz_kernel::indices::all_between;
 
 /// Whether the elements are a row of the table; the empty list is none. The test of a row ends at
 /// the first element that differs.
@@ -74,12 +75,9 @@ fn ints_stand_at(elements: &Elements, table: &Elements, start: usize) -> bool
     ensures { result ≡ is_same_list ◌=ℤ◌ (ints elements.now)
         (take (length (ints elements.now)) (drop start (ints table.now))) }
 {
-    for place in 0..elements.len() {
-        if elements.int(place) != table.int(start + place) {
-            return false;
-        }
-    }
-    true
+    all_between(0, elements.len(), |place| {
+        elements.int(place) == table.int(start + place)
+    })
 }
 
 // Whether the table has the elements from an index on.
@@ -88,10 +86,7 @@ fn bools_stand_at(elements: &Elements, table: &Elements, start: usize) -> bool
     ensures { result ≡ is_same_list ◌=ᴮ◌ (bools elements.now)
         (take (length (bools elements.now)) (drop start (bools table.now))) }
 {
-    for place in 0..elements.len() {
-        if elements.truth(place) != table.truth(start + place) {
-            return false;
-        }
-    }
-    true
+    all_between(0, elements.len(), |place| {
+        elements.truth(place) == table.truth(start + place)
+    })
 }

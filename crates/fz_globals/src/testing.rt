@@ -3,7 +3,7 @@
 ghost use Rattle.std.specs.Prelude.{◌≡◌, ◌<◌, ◌≤◌, ℤ, Bool, List, length};
 ghost use Rattle.fz_kernel.specs.of_meaning.Relations.{all_both, all_neighbours};
 ghost use Rattle.fz_kernel.specs.Views.{ints, slots_of};
-ghost use Rattle.fz_globals.specs.Tests.{IsEach, IsOfTwo};
+ghost use Rattle.fz_globals.specs.Tests.{IsEach, IsOfIndex, IsOfTwo, IsTestedAt};
 
 use crate::indices::index_at;
 use fz_kernel::Elements;
@@ -16,15 +16,18 @@ pub(crate) fn numbers_pass<F: Fn(i128, i64) -> bool>(
     passes: F,
 ) -> bool
     requires { F.IsAlwaysCallable passes }
-    ensures { (left : ℤ → List ℤ → Bool) → IsEach (F.post passes) left
-        → result ≡ left first (ints numbers.now) }
+    ensures { (test : ℤ → ℤ → Bool) (left : ℤ → List ℤ → Bool) → IsOfIndex (F.post passes) test
+        → IsEach test left → result ≡ left first (ints numbers.now) }
 {
-    for place in 0..numbers.len() {
-        if !passes(index_at(first, place), numbers.int(place)) {
-            return false;
-        }
-    }
-    true
+    all_between(
+        0,
+        numbers.len(),
+        |place: usize| -> bool
+            requires callable { F.IsAlwaysCallable passes }
+            requires in_range { place < length (slots_of numbers.now) }
+            ensures { IsTestedAt (F.post passes) first (ints numbers.entry.now) place result }
+        { passes(index_at(first, place), numbers.int(place)) },
+    )
 }
 
 /// Whether each number passes with the next one.

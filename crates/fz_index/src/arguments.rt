@@ -1,6 +1,6 @@
 //! Reading the arguments of a constraint that fits a row.
 
-use fz_model::{Argument, ConstraintParts, Scalar, Scalars, Slot, Value, part, scalar_at};
+use fz_store::{Argument, ConstraintParts, Scalar, Scalars, Slot, Value, part, scalar_at};
 use std::slice;
 
 /// The argument at an index as a scalar: the row has one there.

@@ -3,7 +3,7 @@
 use crate::arguments::{declared_elements, elements_in, scalar_in, slots_of};
 use crate::relations::{Shape, Terms, shape_of};
 use crate::row::{Product, Relation, Row, Visit};
-use fz_model::{
+use fz_store::{
     ConstraintParts, Form, Kind, Model, PointParts, Scalar, Scalars, Slot, Term, scalar_at,
 };
 use std::alloc::{AllocError, Global};

@@ -3,7 +3,7 @@
 
 use crate::builder::{Points, points_of};
 use crate::row::{Place, Product, Visit};
-use fz_model::Model;
+use fz_store::Model;
 use std::alloc::{AllocError, Global};
 
 const NOWHERE: Place = Place {

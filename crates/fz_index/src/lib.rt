@@ -14,13 +14,6 @@ mod relations;
 mod row;
 
 pub use ends::{End, Ends};
-pub use fz_model::{
-    Argument, ArgumentView, Builtin, ConstraintParts, Domain, Form, Goal, IntSet, Kind, Known,
-    LoadError, Model, ModelError, Opening, Overview, Partial, Point, PointParts, Posted, Readiness,
-    Scalar, Scalars, Slot, State, Term, Value, Variable, What, Wide, all_hold, all_true, any_false,
-    any_true, control_index, forced, forced_any, is_held, kind_of, literal_kind, literal_value,
-    load, load_text, only_number, opening_of, part, same_kind, scalar_at, state,
-};
 pub use index::{Search, known_of};
 pub use order::order_of;
 pub use refutation::{Left, Narrower, Narrowing, Refutation};

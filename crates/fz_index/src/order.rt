@@ -2,7 +2,7 @@
 //! variables in it.
 
 use crate::arguments::{declared_elements, slots_of};
-use fz_model::{ConstraintParts, Model, PointParts, Slot};
+use fz_store::{ConstraintParts, Model, PointParts, Slot};
 use std::alloc::{AllocError, Global};
 
 /// What is next: to list a point, or first what gives a value to a variable.

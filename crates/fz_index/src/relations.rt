@@ -1,7 +1,7 @@
 //! Constraints as linear rows. A Boolean is 0 or 1 there.
 
 use crate::row::Relation;
-use fz_model::{Builtin, Form, Known};
+use fz_store::{Builtin, Form, Known};
 
 /// The sum of its arguments that a linear row compares.
 #[derive(Clone, Copy)]

@@ -26,7 +26,8 @@ pub enum Relation {
 }
 
 /// What a constraint says of the sum of its products: that it compares so. Where there is a
-/// Boolean it says that where this is true, and else the opposite, or nothing if it is half-reified.
+/// Boolean it says that where this is true, and else the opposite, or nothing if it is
+/// half-reified.
 #[derive(Clone, Copy)]
 pub struct Row {
     pub relation: Relation,

@@ -15,10 +15,14 @@ ghost use Rattle.fz_filling.specs.View.{fault_view, reason_view, verdict_view};
 ghost use Rattle.fz_filling.specs.Working.{IsFound, compared, not_shown_better, with_objective};
 
 use fz_filling::{
-    Block, BlockError, Completion, Course, Fault, Reason, Refutation, Search, Verdict, fault_named,
-    filled, objective, objective_fails, points_verdict, printed_fails,
+    BlockError, Completion, Course, Fault, Reason, Verdict, fault_named, filled, objective,
+    objective_fails, points_verdict, printed_fails,
 };
-use fz_search::{Found, Model, Overview, Partial, search};
+use fz_index::{Refutation, Search};
+use fz_model::Overview;
+use fz_search::{Found, search};
+use fz_store::{Model, Partial};
+use fz_stream::Block;
 use std::alloc::{AllocError, Global};
 
 /// The verdict where the printed names and the points have this one, and the objective may fail.

@@ -8,9 +8,4 @@
 
 mod judge;
 
-pub use fz_filling::{
-    Ast, Block, BlockError, Claim, ClaimKind, Completion, Decl, Fault, Goal, Limits, LoadError,
-    Model, ModelError, Name, Note, Part, Reason, Refutation, Span, Splitter, Stream, StreamError,
-    SyntaxError, Verdict, blocks, fill, fill_with_steps, load, load_text, parse_within, to_text,
-};
 pub use judge::Judge;

@@ -6,7 +6,7 @@ use Rattle.std.specs.List.{list_all}
 use Rattle.std.specs.Option.{option_map_or}
 use Rattle.std.specs.Int.{int_pow}
 use Rattle.std.specs.FinSet as sets
-use Rattle.fz_store.specs.of_meaning.of_syntax.Sets.{NumberSet}
+use Rattle.fz_store.specs.of_meaning.of_base.Sets.{NumberSet}
 use Rattle.fz_store.specs.of_meaning.of_base.declared.value.Value.{Value}
 use Rattle.fz_store.specs.of_meaning.of_base.declared.value.Value.TheVariants.{Int, Bool as Truth, Set}
 use Rattle.fz_store.specs.of_meaning.declared.kind.Kind.{Kind}
@@ -101,8 +101,8 @@ abbrev pub read_unknown : Partial → List Argument → Wide → Bool
 read_unknown K xs (Products i j) = false
 read_unknown K xs (Power i j) = int_lt (int_at K xs j) (pos 0)
 
--- the products of the numbers of two array arguments, added from the left, leave 128 bits; the power
--- of two scalars isn't known or leaves them
+-- the products of the numbers of two array arguments, added from the left, leave 128 bits; the
+-- power of two scalars isn't known or leaves them
 abbrev pub read_leaves : Partial → List Argument → Wide → Bool
 read_leaves K xs (Products i j) = leaves_128 (products (ints_at K xs i) (ints_at K xs j))
 read_leaves K xs (Power i j) = read_unknown K xs (Power i j)

@@ -1,6 +1,6 @@
 -- What an argument view stands for.
 use Rattle.std.specs.Prelude.{◌≡◌, ℤ, Bool, true, false, List, map, Option, Some, None}
-use Rattle.fz_store.specs.of_meaning.of_syntax.Sets.{NumberSet}
+use Rattle.fz_store.specs.of_meaning.of_base.Sets.{NumberSet}
 use Rattle.fz_store.specs.of_meaning.of_base.declared.value.Value.{Value}
 use Rattle.fz_store.specs.of_meaning.declared.term.Term.{Term}
 use Rattle.fz_store.specs.of_meaning.Builtins.{Shape}

@@ -24,10 +24,5 @@ mod slots;
 mod view;
 
 pub use elements::Elements;
-pub use fz_store::{
-    Argument, Builtin, ConstraintParts, Domain, Filled, Form, Found, Goal, IntSet, Kind, Known,
-    Model, ModelError, Partial, Point, PointParts, Posted, Scalar, Scalars, SetError, Slot, State,
-    Term, Value, Variable, What, Wide, item_at, kind_of, part, same_kind, scalar_at,
-};
 pub use reading::Readiness;
 pub use view::ArgumentView;

@@ -48,7 +48,7 @@ abbrev pub IsTokenWithinLimit : TokenValue → Type 0
 IsTokenWithinLimit (Whole z) = IsWithinLimit z
 IsTokenWithinLimit _ = Unit {0}
 
--- The source lexes to the tokens: it is cut into them up to its end, and both are within the limits.
+-- The source lexes to the tokens: it is cut into them up to its end, both within the limits.
 pub record LexesWithin (limits : Limits) (source : List ℕ)
     (tokens : List SpannedToken) : Type 0 where
   pub short : length source ≤ limits.bytes

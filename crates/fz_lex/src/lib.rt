@@ -1,7 +1,7 @@
 //! The tokens of FlatZinc, and the lexer that cuts a text into them: `lex` lists the tokens of a
-//! whole text, and `Tokens` reads them one by one without memory. `Limits` says how large a text may
-//! be. An internal crate of `fz_syntax`, which passes on `lex`, the tokens, the errors and the limits.
-//! Its worked cases are in `tests/cases` (`calls.txt`) and `tests/broken`.
+//! whole text, and `Tokens` reads them one by one without memory. `Limits` says how large a text
+//! may be. An internal crate of `fz_syntax`, which passes on `lex`, the tokens, the errors and the
+//! limits. Its worked cases are in `tests/cases` (`calls.txt`) and `tests/broken`.
 #![tactic(auto)]
 
 mod ahead;

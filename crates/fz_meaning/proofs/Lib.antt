@@ -20,5 +20,4 @@ pub mod ScanSteps
 pub mod KnownNames
 pub mod Names
 pub mod Table
-pub use Rattle.fz_syntax.proofs.Offers
 pub use Rattle.fz_base.proofs as of_base

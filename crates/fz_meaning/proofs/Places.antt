@@ -1,17 +1,17 @@
 -- The located tree without its byte ranges is the plain tree of the parser's tree.
 use Rattle.std.proofs.Common.{◌≡◌, List, [], ◌∷◌, map, Option, Some, None, option_map, refl, ap, arith, rules}
 use Rattle.std.proofs.lemmas.Grind.{common_steps}
-use Rattle.fz_syntax.specs.Offering.{TreeItems, bare_all, items_of_tree}
-use Rattle.fz_syntax.specs.View as plain
-use Rattle.fz_syntax.specs.declared.Ast.{Ast}
-use Rattle.fz_syntax.specs.declared.Basic as the_basic
-use Rattle.fz_syntax.specs.declared.Basic.TheVariants as basics
-use Rattle.fz_syntax.specs.declared.Constraint as the_constraint
-use Rattle.fz_syntax.specs.declared.Decl as the_decl
-use Rattle.fz_syntax.specs.declared.Expr as the_expr
-use Rattle.fz_syntax.specs.declared.Expr.TheVariants as exprs
-use Rattle.fz_syntax.specs.declared.Goal as the_goal
-use Rattle.fz_syntax.specs.Tree as tree
+use Rattle.fz_tree.specs.View.{TreeItems, bare_all, items_of_tree}
+use Rattle.fz_tree.specs.View as plain
+use Rattle.fz_tree.specs.declared.tree.Ast.{Ast}
+use Rattle.fz_tree.specs.declared.tree.Basic as the_basic
+use Rattle.fz_tree.specs.declared.tree.Basic.TheVariants as basics
+use Rattle.fz_tree.specs.declared.tree.Constraint as the_constraint
+use Rattle.fz_tree.specs.declared.tree.Decl as the_decl
+use Rattle.fz_tree.specs.declared.tree.Expr as the_expr
+use Rattle.fz_tree.specs.declared.tree.Expr.TheVariants as exprs
+use Rattle.fz_tree.specs.declared.tree.Goal as the_goal
+use Rattle.fz_tree.specs.Tree as tree
 use Rattle.fz_meaning.specs.Located.{bare_basic, bare_expr, bare_decl, bare_constraint, bare_goal, bare_of}
 use Rattle.fz_meaning.specs.View.{located_basic, located_expr, located_value, located_decl, located_constraint, located_goal, located, located_all}
 

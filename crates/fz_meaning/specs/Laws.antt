@@ -5,8 +5,8 @@ use Rattle.std.specs.List.{filter, list_any, slice_get}
 use Rattle.fz_base.specs.declared.value.Value.{Value}
 use Rattle.fz_meaning.specs.declared.state.State.TheVariants.{Unknown}
 use Rattle.fz_meaning.specs.Relations.{kind_of}
-use Rattle.fz_syntax.specs.View.{bare}
-use Rattle.fz_syntax.specs.declared.Ast.{Ast}
+use Rattle.fz_tree.specs.View.{bare}
+use Rattle.fz_tree.specs.declared.tree.Ast.{Ast}
 use Rattle.fz_meaning.specs.View.{located}
 use Rattle.fz_meaning.specs.Located.{LocatedTree, Decl, bare_of}
 use Rattle.fz_meaning.specs.Names.{HasNoFault, is_scalar_variable, number_of}

@@ -10,5 +10,5 @@ pub mod Laws
 pub mod Known
 pub mod TableData
 pub mod States
-pub use Rattle.fz_syntax.specs as of_syntax
+pub use Rattle.fz_tree.specs as of_tree
 pub use Rattle.fz_base.specs as of_base

@@ -5,7 +5,7 @@
 -- end that is not part of it.
 use Rattle.std.specs.Prelude.{ℕ, Bool, List, Option, map, option_map}
 use Rattle.fz_base.specs.declared.span.Span.{Span}
-use Rattle.fz_syntax.specs.Tree as tree
+use Rattle.fz_tree.specs.Tree as tree
 
 pub record Name : Type 0 where
   pub text : List ℕ

@@ -11,8 +11,8 @@ use Rattle.fz_base.specs.declared.value.Value.TheVariants.{Int, Bool as Truth, S
 use Rattle.fz_meaning.specs.declared.kind.Kind.{Kind}
 use Rattle.fz_meaning.specs.declared.kind.Kind.TheVariants.{Int as IntKind, Bool as BoolKind, Set as SetKind}
 use Rattle.fz_meaning.specs.Relations.{kind_of, same_kind}
-use Rattle.fz_syntax.specs.Tree as tree
-use Rattle.fz_syntax.specs.Tree.{Number, Truth as TruthWord, Range, Braces, Called, NoMoreArgs, MoreArgs, OneBasic, Inner, BoolBase, IntBase, SetBase}
+use Rattle.fz_tree.specs.Tree as tree
+use Rattle.fz_tree.specs.Tree.{Number, Truth as TruthWord, Range, Braces, Called, NoMoreArgs, MoreArgs, OneBasic, Inner, BoolBase, IntBase, SetBase}
 use Rattle.fz_meaning.specs.Located.{Basic, Lit, Named, Expr, One, Several, Decl, Constraint, Goal, Satisfy, Minimize, Maximize, LocatedTree}
 use Rattle.fz_meaning.specs.Meaning.{Place, Scalar, Array, Argument, Variable, Declared, Parameter, ScalarVariable, ArrayOfVariables, Posted, Aim, Model, first_some}
 use Rattle.fz_meaning.specs.declared.term.Term.{Term}

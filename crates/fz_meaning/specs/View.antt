@@ -1,20 +1,19 @@
 -- What the parser's tree and an error stand for: the located tree, and a fault of its names (this
 -- project's profile).
 use Rattle.std.specs.Prelude.{◌≡◌, map, option_map, Option, Some, ⊤}
-use Rattle.fz_syntax.specs.Offering.{TreeItems, items_of_tree}
-use Rattle.fz_syntax.specs.View.{bare_literal, bare_base, bare_notes, bare_predicate}
-use Rattle.fz_syntax.specs.declared.Ast.{Ast}
-use Rattle.fz_syntax.specs.declared.Basic as the_basic
-use Rattle.fz_syntax.specs.declared.Basic.TheVariants as basics
-use Rattle.fz_syntax.specs.declared.Constraint as the_constraint
-use Rattle.fz_syntax.specs.declared.Decl as the_decl
-use Rattle.fz_syntax.specs.declared.Expr as the_expr
-use Rattle.fz_syntax.specs.declared.Expr.TheVariants as exprs
-use Rattle.fz_syntax.specs.declared.Goal as the_goal
-use Rattle.fz_syntax.specs.declared.Goal.TheVariants as goals
-use Rattle.fz_syntax.specs.declared.Literal as the_literal
-use Rattle.fz_syntax.specs.declared.Name as the_name
-use Rattle.fz_syntax.specs.declared.Solve as the_solve
+use Rattle.fz_tree.specs.View.{TreeItems, bare_literal, bare_base, bare_notes, bare_predicate, items_of_tree}
+use Rattle.fz_tree.specs.declared.tree.Ast.{Ast}
+use Rattle.fz_tree.specs.declared.tree.Basic as the_basic
+use Rattle.fz_tree.specs.declared.tree.Basic.TheVariants as basics
+use Rattle.fz_tree.specs.declared.tree.Constraint as the_constraint
+use Rattle.fz_tree.specs.declared.tree.Decl as the_decl
+use Rattle.fz_tree.specs.declared.tree.Expr as the_expr
+use Rattle.fz_tree.specs.declared.tree.Expr.TheVariants as exprs
+use Rattle.fz_tree.specs.declared.tree.Goal as the_goal
+use Rattle.fz_tree.specs.declared.tree.Goal.TheVariants as goals
+use Rattle.fz_tree.specs.declared.tree.Literal as the_literal
+use Rattle.fz_tree.specs.declared.tree.Name as the_name
+use Rattle.fz_tree.specs.declared.tree.Solve as the_solve
 use Rattle.fz_meaning.specs.declared.error.ModelError.{ModelError}
 use Rattle.fz_meaning.specs.declared.error.ModelError.TheVariants as errors
 use Rattle.fz_meaning.specs.Names.{Fault, DuplicateName, UnknownName, WrongKind, WrongLength}

@@ -24,7 +24,6 @@ ghost use Rattle.fz_meaning.specs.Laws.{LocatedIsBare, NumbersAgree, StepsAreFor
 pub use builtin::Builtin;
 pub use error::ModelError;
 pub use fz_base::{IntSet, Range, SetError, Value};
-pub use fz_syntax::{ConstraintItems, DeclItems, Offer, PredicateItems};
 pub use kind::Kind;
 pub use known::{Form, Known};
 pub use row::{Filled, Matrix, Shape, Wide};

@@ -5,7 +5,7 @@ use Rattle.std.specs.Prelude.{◌↔◌}
 use Rattle.std.specs.List.{list_all}
 use Rattle.std.specs.FinSet as sets
 use Rattle.std.specs.Cmp.{int_cmp_total}
-use Rattle.fz_builtins.specs.of_meaning.of_syntax.Sets.{NumberSet}
+use Rattle.fz_builtins.specs.of_meaning.of_base.Sets.{NumberSet}
 use Rattle.fz_builtins.specs.of_meaning.of_base.Elements.{LiesWithin}
 use Rattle.fz_builtins.proofs.of_meaning.of_base.Covers.{at_most_yes}
 use Rattle.fz_builtins.proofs.of_globals.NoGaps.{each_element, element_each}

@@ -3,7 +3,7 @@ use Rattle.std.proofs.Common.{◌⊎◌, length, ◌<◌, ◌≡◌, ℕ, ℤ, p
 use Rattle.std.specs.Prelude.{int_le}
 use Rattle.std.proofs.lemmas.Int.{ints}
 use Rattle.std.proofs.lemmas.Option.{same_Some}
-use Rattle.fz_builtins.specs.of_meaning.of_syntax.Sets.{NumberSet}
+use Rattle.fz_builtins.specs.of_meaning.of_base.Sets.{NumberSet}
 use Rattle.fz_builtins.specs.of_meaning.of_base.Elements.{IsOnly}
 use Rattle.fz_builtins.specs.of_meaning.of_base.declared.value.Value.{Value}
 use Rattle.fz_builtins.specs.of_meaning.of_base.declared.value.Value.TheVariants.{Int}

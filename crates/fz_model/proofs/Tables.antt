@@ -1,9 +1,9 @@
 -- What the rows of the table have in common: with what they compute, and which one fills an element.
-use Rattle.std.proofs.Common.{◌≡◌, Bool, true, false, cond, ◌&&◌, List, [], ◌∷◌, find, Some, refl, sym, subst}
+use Rattle.std.proofs.Common.{◌≡◌, Bool, true, false, cond, ◌&&◌, List, [], ◌∷◌, find, Some, refl, sym, ap, subst, ◌∙◌}
 use Rattle.std.specs.List.{list_all}
 use Rattle.fz_builtins.specs.of_meaning.declared.kind.Kind.TheVariants.{Int as IntKind}
 use Rattle.fz_builtins.specs.of_meaning.Builtins.{Row, builtins, is_named, row_at, rows}
-use Rattle.fz_builtins.specs.of_meaning.Results.{result_of}
+use Rattle.fz_builtins.specs.of_meaning.Results.{Result, result_of}
 use Rattle.fz_builtins.specs.of_meaning.Builtins.Shape.{ScalarOf, ArrayOf}
 use Rattle.fz_builtins.specs.of_meaning.Results.Result.{UnitTerm}
 use Rattle.fz_builtins.specs.of_meaning.Meaning.{Argument, Partial, fits, have_shapes}
@@ -46,10 +46,25 @@ same_numbers K xs r row h = sym (leave_are K r.shapes xs h r.wide (of_row (λ r.
 
 -- ---- the row that fills an element
 
-unit_base : (b : Builtin) → result_of (row_at b) ≡ UnitTerm → row_at b ≡ row_at IntLinEq
+abbrev is_unit : Result → Bool
+is_unit UnitTerm = true
+is_unit _ = false
+
+abbrev is_int_lin_eq : Builtin → Bool
+is_int_lin_eq IntLinEq = true
+is_int_lin_eq _ = false
+
+unit_bases : (b : Builtin) → is_unit (result_of (row_at b)) ≡ is_int_lin_eq b
 unfolding row_at result_of
-unit_base IntLinEq e = refl
-unit_base _ e = cc
+unit_bases IntLinEq = refl
+unit_bases _ = refl
+
+only_int_lin_eq : (b : Builtin) → is_int_lin_eq b ≡ true → row_at b ≡ row_at IntLinEq
+only_int_lin_eq IntLinEq e = refl
+only_int_lin_eq _ e = cc
+
+unit_base : (b : Builtin) → result_of (row_at b) ≡ UnitTerm → row_at b ≡ row_at IntLinEq
+unit_base b e = only_int_lin_eq b (sym (unit_bases b) ∙ ap is_unit e)
 
 unit_form : (b : Builtin) (f : Form) → result_of (form_at f (row_at b)) ≡ UnitTerm
     → form_at f (row_at b) ≡ row_at IntLinEq

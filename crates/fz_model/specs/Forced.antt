@@ -1,5 +1,5 @@
--- What a point forces. The contract of `only_number` cites `IsOnlyNumber`, and those of `forced` and
--- `forced_any` cite `Gives` and `GivesAny` alone; the rest is for private functions.
+-- What a point forces. The contract of `only_number` cites `IsOnlyNumber`, and those of `forced`
+-- and `forced_any` cite `Gives` and `GivesAny` alone; the rest is for private functions.
 use Rattle.std.specs.Prelude.{◌≡◌, ℕ, ℤ, ◌<◌, ◌↔◌, true, false, slice_get, List, [], ◌∷◌, length, flat_map, Option, Some, None, IsTrue, IsSomeAnd}
 use Rattle.fz_builtins.specs.of_meaning.of_base.declared.value.Value.{Value}
 use Rattle.fz_builtins.specs.of_meaning.Relations.{kind_of}
@@ -41,8 +41,8 @@ abbrev pub IsRow : Row → Type 0
 IsRow r = (p : Posted) × (row_of p ≡ Some r)
 
 -- With this value of the variable the row holds: the variable is in an argument that may be filled
--- and is the only open scalar, each number that is needed can be computed, and the value is within the
--- limits.
+-- and is the only open scalar, each number that is needed can be computed, and the value is within
+-- the limits.
 pub record Fills (K : Partial) (xs : List Argument) (r : Row) (n : ℕ) (v : Value) : Type 0 where
   pub only_open : open_terms K (flat_map terms_in xs) ≡ Var n ∷ []
   pub numbers_fit : is_beyond K xs r ≡ false

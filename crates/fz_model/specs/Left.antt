@@ -48,13 +48,15 @@ abbrev pub IsOfKind : List Shape → ℕ → Kind → Type 0
 IsOfKind shapes i k = slice_get shapes i ≡ Some (ScalarOf k)
 
 -- what is left to the argument at an index, of the kind that it has
-pub record IsLeftAt (r : Row) (K : Partial) (xs : List Argument) (i : ℕ) (o : Option Value) : Type 0 where
+pub record IsLeftAt (r : Row) (K : Partial) (xs : List Argument) (i : ℕ) (o : Option Value)
+    : Type 0 where
   pub kind : Kind
   pub shape : IsOfKind r.shapes i kind
   pub left : IsLeft kind (holds_with r K xs i) o
 
 -- the same where each number of the row can be computed, and else nothing
-pub record IsLeftIfComputed (r : Row) (K : Partial) (xs : List Argument) (i : ℕ) (o : Option Value) : Type 0 where
+pub record IsLeftIfComputed (r : Row) (K : Partial) (xs : List Argument) (i : ℕ)
+    (o : Option Value) : Type 0 where
   pub left : reads_beyond r K xs ≡ false → IsLeftAt r K xs i o
   pub beyond : reads_beyond r K xs ≡ true → o ≡ None
 

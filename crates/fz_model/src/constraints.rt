@@ -11,10 +11,9 @@ ghost use Rattle.fz_builtins.specs.of_kernel.Views.{arguments_of, assigned};
 ghost use Rattle.fz_builtins.specs.Outcomes.{outcome_beyond, reads_beyond, row_outcome, told};
 ghost use Rattle.fz_builtins.specs.declared.outcome.Outcome.TheVariants.{Truth};
 
-use fz_builtins::{
-    ArgumentView, ConstraintParts, Form, Known, Outcome, Partial, Readiness, State, control,
-    is_unknown, leaves, of_builtin,
-};
+use fz_builtins::{Outcome, control, is_unknown, leaves, of_builtin};
+use fz_kernel::{ArgumentView, Readiness};
+use fz_store::{ConstraintParts, Form, Known, Partial, State};
 use std::alloc::{AllocError, Global};
 
 /// The state of a constraint: unknown without a row, whatever its values are; then without a value;

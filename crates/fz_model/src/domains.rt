@@ -10,7 +10,7 @@ ghost use Rattle.fz_builtins.specs.of_store.Shown.{scalar_terms};
 ghost use Rattle.fz_builtins.specs.of_store.Slots.{scalar_term, slot_term};
 ghost use Rattle.fz_builtins.specs.of_kernel.Given.{has_value};
 
-use fz_builtins::{Domain, IntSet, Partial, Scalar, Scalars, State, Value, scalar_at};
+use fz_store::{Domain, IntSet, Partial, Scalar, Scalars, State, Value, scalar_at};
 
 fn judged(holds: bool) -> State
     ensures { result ≡ judged holds }

@@ -13,7 +13,8 @@ use crate::constraints::of_ready;
 use crate::overview::Overview;
 use crate::points::state;
 use crate::whole::lie_inside;
-use fz_builtins::{ArgumentView, ConstraintParts, Model, Partial, State, item_at};
+use fz_kernel::ArgumentView;
+use fz_store::{ConstraintParts, Model, Partial, State, item_at};
 use std::alloc::{AllocError, Global};
 
 /// Whether a point of this state holds.

@@ -10,7 +10,7 @@ ghost use Rattle.fz_builtins.specs.of_store.Slots.{slot_term};
 ghost use Rattle.fz_builtins.specs.of_meaning.Steps.{open_terms};
 ghost use Rattle.fz_model.specs.Openings.{AreOpen, IsFlat, IsOpenIn, IsOpening, posted_with, terms_of};
 
-use fz_builtins::{Argument, ConstraintParts, Partial, Slot, item_at, part};
+use fz_store::{Argument, ConstraintParts, Partial, Slot, item_at, part};
 
 /// What a constraint waits for before it can give its defined variable a value.
 #[derive(Clone, Copy)]

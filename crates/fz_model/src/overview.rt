@@ -7,7 +7,7 @@ ghost use Rattle.fz_builtins.specs.of_store.Shown.{point_view};
 ghost use Rattle.fz_model.specs.Overviews.{IsOverview, others_from};
 ghost use Rattle.fz_model.specs.Whole.{is_domain};
 
-use fz_builtins::{Model, PointParts};
+use fz_store::{Model, PointParts};
 use std::alloc::{AllocError, Global};
 
 /// A model's declarations, prepared for `all_hold`.

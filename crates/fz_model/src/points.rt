@@ -9,7 +9,7 @@ ghost use Rattle.fz_builtins.specs.of_store.Shown.{IfConstraint, point_view};
 
 use crate::constraints::of_constraint;
 use crate::domains::{of_definition, of_domain, of_elements};
-use fz_builtins::{Model, Partial, PointParts, State};
+use fz_store::{Model, Partial, PointParts, State};
 use std::alloc::{AllocError, Global};
 
 /// The state of a point with its parts.

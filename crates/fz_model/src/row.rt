@@ -17,7 +17,8 @@ ghost use Rattle.fz_model.specs.KindsFit.{each_fits};
 use crate::only::{Opening, Spot, open_in_row, opening_of};
 use crate::unit::unit_value;
 use crate::value::left_value;
-use fz_builtins::{ArgumentView, ConstraintParts, Filled, Known, Partial, Posted, Value};
+use fz_kernel::ArgumentView;
+use fz_store::{ConstraintParts, Filled, Known, Partial, Posted, Value};
 use std::alloc::{AllocError, Global};
 
 /// What a constraint forces: the value that its row leaves to its defined variable, where that is

@@ -10,7 +10,7 @@ ghost use Rattle.fz_model.specs.Aimed.{GivesAny, GivesNone};
 ghost use Rattle.fz_model.specs.Forced.{IsFitting, IsForced, IsOnlyNumber};
 
 use crate::row::{by_any_result, by_row};
-use fz_builtins::{
+use fz_store::{
     Domain, Kind, Model, Partial, PointParts, Term, Value, Variable, kind_of, same_kind,
 };
 use std::alloc::{AllocError, Global};
@@ -51,7 +51,8 @@ pub fn forced_any(
     requires in_range { number < length (points model.now) }
     requires fits { IsPartial model.now partial.now }
     ensures given { IfOk result (λ o. IfSome o (λ r. (p : Point)
-        → slice_get (points model.now) number ≡ Some p → GivesAny model.now partial.now p r.0 r.1)) }
+        → slice_get (points model.now) number ≡ Some p
+        → GivesAny model.now partial.now p r.0 r.1)) }
     ensures nothing { IfOk result (λ o. IsNone o → (p : Point)
         → slice_get (points model.now) number ≡ Some p → GivesNone model.now partial.now p) }
 {

@@ -9,7 +9,8 @@ ghost use Rattle.fz_builtins.specs.of_meaning.declared.builtin.Builtin.TheVarian
 ghost use Rattle.fz_model.specs.Left.{HasUnit, IsLeft, IsReadAsNone, holds_with_element, products_leave};
 
 use crate::numbers::made_up;
-use fz_builtins::{ArgumentView, sum_of_products};
+use fz_kernel::ArgumentView;
+use fz_kernel::arrays::sum_of_products;
 
 /// The number that `int_lin_eq` leaves to the element of its second array at an index, counted from
 /// 0, which has no value and the coefficient 1 or -1. None where the other products have a partial

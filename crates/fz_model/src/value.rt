@@ -10,9 +10,9 @@ ghost use Rattle.fz_builtins.specs.Said.{IsSaid};
 ghost use Rattle.fz_model.specs.Left.{IsLeftIfComputed, IsPlaceOf};
 
 use crate::numbers::narrowed;
-use fz_builtins::{
-    ArgumentView, Builtin, Form, IntSet, Known, Outcome, Said, SetError, Value, of_builtin, said_of,
-};
+use fz_builtins::{Outcome, Said, of_builtin, said_of};
+use fz_kernel::ArgumentView;
+use fz_store::{Builtin, Form, IntSet, Known, SetError, Value};
 use std::alloc::{AllocError, Global};
 
 /// The value that a row leaves to the argument at an index that `defines_var` may name, by the

@@ -5,7 +5,7 @@ ghost use Rattle.fz_builtins.specs.of_store.Parts.{variable_view};
 ghost use Rattle.fz_model.specs.Whole.{lie_inside, lies_inside};
 
 use crate::domains::is_inside;
-use fz_builtins::{Value, Variable, kind_of, same_kind};
+use fz_store::{Value, Variable, kind_of, same_kind};
 
 /// Whether there is a value, it is of the variable's kind, and it lies in the variable's domain.
 #[inline]

@@ -22,8 +22,8 @@ use Rattle.fz_names.specs.declared.numbered.Place.TheVariants.{Free, Taken, Crow
 use Rattle.fz_names.specs.declared.numbered.Numbered.{Numbered}
 use Rattle.fz_names.specs.declared.numbered.Shape.{Shape}
 use Rattle.fz_names.specs.Naming.{has_text, stands_for, IsAmongTerms}
-use Rattle.fz_names.specs.Names.{entry_stands, is_among_terms, is_key}
-use Rattle.fz_names.specs.Numbered.{end_of, entry_as, entry_at, entry_of, entry_there, head_of, is_free, is_free_there, is_of, mark_of, marks_from, marks_of, number_of, place_at, seat_if, seat_there, unpacked, with_byte, AreKept, IsAmongOthers, IsLeft, IsListed, IsNumbered, IsTakenBy, StandsAt}
+use Rattle.fz_names.specs.Names.{citation_stands, is_among_terms, is_key}
+use Rattle.fz_names.specs.Numbered.{citation_as, citation_at, citation_of, citation_there, end_of, head_of, is_free, is_free_there, is_of, mark_of, marks_from, marks_of, number_of, place_at, seat_if, seat_there, unpacked, with_byte, AreKept, IsAmongOthers, IsLeft, IsListed, IsNumbered, IsTakenBy, StandsAt}
 use Rattle.fz_names.proofs.NameTable.{found_among, get_front, looked_up, got}
 
 -- equal texts, by their test
@@ -145,7 +145,7 @@ stands_more : (ks ls os ps : List Kept) (n m : Numbered) (x : List ℕ) (o : Opt
     → StandsAt ks os n x o → StandsAt ls ps m x o
 stands_more ks ls os ps n m x (Some Free) keep same free listed h = (same h.0, free refl h.1)
 stands_more ks ls os ps n m x (Some (Taken s k i)) keep same free listed h =
-    (h.0, keep k h.0 h.1, λ yes. listed (entry_of s i) (h.2 yes), λ no. same (h.3 no))
+    (h.0, keep k h.0 h.1, λ yes. listed (citation_of s i) (h.2 yes), λ no. same (h.3 no))
 stands_more ks ls os ps n m x _ keep same free listed h = same h
 
 -- a list with one more name at its end
@@ -234,16 +234,16 @@ module _ (ks os : List Kept) (n m : Numbered) (k : Kept) (keep : AreKept n.shape
       → place_at n.places.items (number_of k.bytes.now) ≡ Some Free
       → find (is_key k.bytes.now) ks ≡ None
       → slice_get m.seats.items (number_of k.bytes.now) ≡ Some (length ks)
-      → IsTakenBy m.shapes.items k.bytes.now k.entry (place_at m.places.items (number_of k.bytes.now))
+      → IsTakenBy m.shapes.items k.bytes.now k.citation (place_at m.places.items (number_of k.bytes.now))
       → IsNumbered (ks ++ k ∷ []) os m
   in_its_place seats free absent seat taken x = by_number (number_of x == number_of k.bytes.now) refl
     where
       here : number_of x ≡ number_of k.bytes.now → (o : Option Place)
-          → IsTakenBy m.shapes.items k.bytes.now k.entry o
+          → IsTakenBy m.shapes.items k.bytes.now k.citation o
           → StandsAt ks os n x (Some Free) → StandsAt (ks ++ k ∷ []) os m x o
       here number (Some (Taken s r i)) t none = (t.0.0, t.0.1, own, elsewhere)
         where
-          own : is_of t.0.0 x ≡ true → IsListed (ks ++ k ∷ []) m.seats.items x (entry_of s i)
+          own : is_of t.0.0 x ≡ true → IsListed (ks ++ k ∷ []) m.seats.items x (citation_of s i)
           own of_shape =
               let same : x ≡ k.bytes.now = same_names t.0.0 x k.bytes.now of_shape t.0.2 number in
               let yes : is_key x k ≡ true = (bytes_eq-Decides x k.bytes.now).1 same in
@@ -261,7 +261,7 @@ module _ (ks os : List Kept) (n m : Numbered) (k : Kept) (keep : AreKept n.shape
           → StandsAt (ks ++ k ∷ []) os m x (place_at m.places.items (number_of x))
       by_number true e =
           let number : number_of x ≡ number_of k.bytes.now = eqb-true (number_of x) (number_of k.bytes.now) e in
-          here number (place_at m.places.items (number_of x)) (subst (λ i. IsTakenBy m.shapes.items k.bytes.now k.entry (place_at m.places.items i)) (sym number) taken)
+          here number (place_at m.places.items (number_of x)) (subst (λ i. IsTakenBy m.shapes.items k.bytes.now k.citation (place_at m.places.items i)) (sym number) taken)
           (subst (StandsAt ks os n x) (ap (place_at n.places.items) number ∙ free) (was x))
       by_number false e =
           let apart = eqb-false (number_of x) (number_of k.bytes.now) e in
@@ -276,7 +276,7 @@ module _ (x : List ℕ) (ks os : List Kept) (n : Numbered) (h : IsNumbered ks os
   -- a name in its cell is in the list, and one that isn't is found among the others
   by_cell : (P : Option Citation → Type 0) → ((e : Citation) → IsListed ks n.seats.items x e → P (Some e))
       → (IsAmongOthers ks os x → P None)
-      → P (entry_there n.shapes.items n.places.items x)
+      → P (citation_there n.shapes.items n.places.items x)
   by_cell P there none = at_place (place_at n.places.items (number_of x)) (h x)
     where
       by_shape : (t : Shape) (e : Citation) (b : Bool) → is_of t x ≡ b
@@ -285,24 +285,24 @@ module _ (x : List ℕ) (ks os : List Kept) (n : Numbered) (h : IsNumbered ks os
       by_shape t e true is listed other = there e (listed is)
       by_shape t e false is listed other = none (other is)
 
-      at_place : (o : Option Place) → StandsAt ks os n x o → P (entry_at n.shapes.items x o)
+      at_place : (o : Option Place) → StandsAt ks os n x o → P (citation_at n.shapes.items x o)
       at_place (Some Free) s = none s.0
-      at_place (Some (Taken r i l)) s = subst (λ o. P (entry_as o x (entry_of r l))) (sym s.1) (by_shape s.0 (entry_of r l) (is_of s.0 x) refl s.2 s.3)
+      at_place (Some (Taken r i l)) s = subst (λ o. P (citation_as o x (citation_of r l))) (sym s.1) (by_shape s.0 (citation_of r l) (is_of s.0 x) refl s.2 s.3)
       at_place None s = none s
       at_place (Some Crowded) s = none s
 
-  pub there_found : (e : Citation) → entry_there n.shapes.items n.places.items x ≡ Some e
-      → option_map (λ k. k.entry) (find (is_key x) ks) ≡ Some e
-  there_found e = by_cell (λ o. o ≡ Some e → option_map (λ k. k.entry) (find (is_key x) ks) ≡ Some e) (λ f l is. ap (option_map (λ k. k.entry)) l.2 ∙ ap Some l.3 ∙ is) (λ same is. cc)
+  pub there_found : (e : Citation) → citation_there n.shapes.items n.places.items x ≡ Some e
+      → option_map (λ k. k.citation) (find (is_key x) ks) ≡ Some e
+  there_found e = by_cell (λ o. o ≡ Some e → option_map (λ k. k.citation) (find (is_key x) ks) ≡ Some e) (λ f l is. ap (option_map (λ k. k.citation)) l.2 ∙ ap Some l.3 ∙ is) (λ same is. cc)
 
-  pub elsewhere : entry_there n.shapes.items n.places.items x ≡ None → IsAmongOthers ks os x
+  pub elsewhere : citation_there n.shapes.items n.places.items x ≡ None → IsAmongOthers ks os x
   elsewhere = by_cell (λ o. o ≡ None → IsAmongOthers ks os x) (λ e l no. cc) (λ same no. same)
 
-  pub seated : is_some (entry_there n.shapes.items n.places.items x) ≡ true
+  pub seated : is_some (citation_there n.shapes.items n.places.items x) ≡ true
       → is_some (find (is_key x) ks) ≡ true
   seated = by_cell (λ o. is_some o ≡ true → is_some (find (is_key x) ks) ≡ true) (λ e l _. ap is_some l.2) (λ same no. cc)
 
-  pub unseated : is_some (entry_there n.shapes.items n.places.items x) ≡ false
+  pub unseated : is_some (citation_there n.shapes.items n.places.items x) ≡ false
       → IsAmongOthers ks os x
   unseated = by_cell (λ o. is_some o ≡ false → IsAmongOthers ks os x) (λ e l no. cc) (λ same no. same)
 
@@ -332,26 +332,26 @@ module _ (x : List ℕ) (ks os : List Kept) (n : Numbered) (h : IsNumbered ks os
 
 -- a name is declared where it is listed
 pub declared_as : (ts : List Term) (x : List ℕ) (ks : List Kept)
-    → is_some (lookup (has_text x) (map (entry_stands ts) ks)) ≡ is_some (find (is_key x) ks)
+    → is_some (lookup (has_text x) (map (citation_stands ts) ks)) ≡ is_some (find (is_key x) ks)
 declared_as ts x ks = grind (arith, looked_up ts x ks)
 
 pub none_stands : (ts : List Term) (x : List ℕ) (ks : List Kept)
-    → option_map (λ k. k.entry) (find (is_key x) ks) ≡ None
-    → lookup (has_text x) (map (entry_stands ts) ks) ≡ None
+    → option_map (λ k. k.citation) (find (is_key x) ks) ≡ None
+    → lookup (has_text x) (map (citation_stands ts) ks) ≡ None
 none_stands ts x ks none = grind (arith, looked_up ts x ks)
 
-module _ (ts : List Term) (x : List ℕ) (ks : List Kept) (e : Citation) (found : option_map (λ k. k.entry) (find (is_key x) ks) ≡ Some e) where
+module _ (ts : List Term) (x : List ℕ) (ks : List Kept) (e : Citation) (found : option_map (λ k. k.citation) (find (is_key x) ks) ≡ Some e) where
   -- it is what the name stands for
-  pub there_stands : lookup (has_text x) (map (entry_stands ts) ks) ≡ Some (stands_for ts e)
+  pub there_stands : lookup (has_text x) (map (citation_stands ts) ks) ≡ Some (stands_for ts e)
   there_stands = grind (arith, looked_up ts x ks)
 
   pub there_among : AllByRecursion (is_among_terms ts) ks → IsAmongTerms ts e
   there_among h = among (find (is_key x) ks) refl found
     where
-      among : (o : Option Kept) → o ≡ find (is_key x) ks → option_map (λ k. k.entry) o ≡ Some e
+      among : (o : Option Kept) → o ≡ find (is_key x) ks → option_map (λ k. k.citation) o ≡ Some e
           → IsAmongTerms ts e
       among None at is = cc
-      among (Some k) at is = let same : k.entry ≡ e = cc in subst (IsAmongTerms ts) same (found_among ts x ks k h at)
+      among (Some k) at is = let same : k.citation ≡ e = cc in subst (IsAmongTerms ts) same (found_among ts x ks k h at)
 
 -- what follows where a name is found
 pub ruleset of_found = (got, seat_found, no_seat)

@@ -15,14 +15,14 @@ is_key x k = bytes_eq x k.bytes.now
 abbrev pub same_key : Kept → Kept → Bool
 same_key a b = bytes_eq a.bytes.now b.bytes.now
 
-abbrev pub entry_stands : List Term → Kept → (List ℕ × Declared)
-entry_stands ts k = (k.bytes.now, stands_for ts k.entry)
+abbrev pub citation_stands : List Term → Kept → (List ℕ × Declared)
+citation_stands ts k = (k.bytes.now, stands_for ts k.citation)
 
 abbrev pub names_view : Inside → List (List ℕ × Declared)
-names_view n = map (entry_stands n.parameters.items) n.listed.items
+names_view n = map (citation_stands n.parameters.items) n.listed.items
 
 abbrev pub is_among_terms : List Term → Kept → Type 0
-is_among_terms ts k = IsAmongTerms ts k.entry
+is_among_terms ts k = IsAmongTerms ts k.citation
 
 abbrev pub AreAmongTerms : Inside → Type 0
 AreAmongTerms n = AllByRecursion (is_among_terms n.parameters.items) n.listed.items

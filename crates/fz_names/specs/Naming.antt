@@ -5,7 +5,7 @@ use Rattle.fz_meaning.specs.of_base.declared.value.Value.TheVariants.{Int}
 use Rattle.fz_meaning.specs.declared.term.Term.{Term}
 use Rattle.fz_meaning.specs.declared.term.Term.TheVariants.{Var, Fixed}
 use Rattle.fz_names.specs.declared.names.Citation.{Citation}
-use Rattle.fz_names.specs.declared.names.Citation.TheVariants as entries
+use Rattle.fz_names.specs.declared.names.Citation.TheVariants as citations
 use Rattle.fz_names.specs.declared.names.Standing.{Standing}
 use Rattle.fz_names.specs.declared.names.Standing.TheVariants as standings
 
@@ -21,17 +21,17 @@ has_text x k = bytes_eq x k
 abbrev pub no_term : Term
 no_term = Fixed (Int (pos 0))
 
--- what an entry stands for; the parameters' terms are these
+-- what a citation stands for; the parameters' terms are these
 abbrev pub stands_for : List Term → Citation → Declared
-stands_for ts (entries.Variable n) = Scalar (Var n)
-stands_for ts (entries.Parameter i) = Scalar (option_map_or (λ t. t) (slice_get ts i) no_term)
-stands_for ts (entries.Array i) = Array i
+stands_for ts (citations.Variable n) = Scalar (Var n)
+stands_for ts (citations.Parameter i) = Scalar (option_map_or (λ t. t) (slice_get ts i) no_term)
+stands_for ts (citations.Array i) = Array i
 
 -- a parameter's number is that of a term
 abbrev pub IsAmongTerms : List Term → Citation → Type 0
-IsAmongTerms ts (entries.Variable n) = ⊤
-IsAmongTerms ts (entries.Parameter i) = i < length ts
-IsAmongTerms ts (entries.Array i) = ⊤
+IsAmongTerms ts (citations.Variable n) = ⊤
+IsAmongTerms ts (citations.Parameter i) = i < length ts
+IsAmongTerms ts (citations.Array i) = ⊤
 
 -- what is said of a name
 abbrev pub standing_view : Standing → Declared

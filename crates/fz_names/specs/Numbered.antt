@@ -3,7 +3,7 @@
 use Rattle.std.specs.Prelude.{◌≡◌, ℕ, zero, suc, ◌-◌, ◌+◌, ◌*◌, ◌/◌, ◌%◌, ◌^◌, ◌==◌, ltb, ◌&&◌, not, if◌then◌else◌, Bool, true, false, List, [], ◌∷◌, Option, Some, None, bytes_eq, take, slice_get, drop, length, option_map, ⊤}
 use Rattle.std.specs.List.{find, fold}
 use Rattle.fz_names.specs.declared.names.Citation.{Citation}
-use Rattle.fz_names.specs.declared.names.Citation.TheVariants as entries
+use Rattle.fz_names.specs.declared.names.Citation.TheVariants as citations
 use Rattle.fz_names.specs.declared.names.Kept.{Kept}
 use Rattle.fz_names.specs.Names.{is_key}
 use Rattle.fz_names.specs.declared.numbered.Numbered.{Numbered}
@@ -88,23 +88,23 @@ IsShapeAt ss x k = (s : Shape) × (slice_get ss k ≡ Some s) × (is_of s x ≡ 
 abbrev pub AreKept : List Shape → List Shape → Type 0
 AreKept ss ts = (k : ℕ) (s : Shape) → slice_get ss k ≡ Some s → slice_get ts k ≡ Some s
 
--- the entry of a sort and a number
-abbrev pub entry_of : Sort → ℕ → Citation
-entry_of sorts.Variable n = entries.Variable n
-entry_of sorts.Parameter n = entries.Parameter n
-entry_of sorts.Array n = entries.Array n
+-- the citation of a sort and a number
+abbrev pub citation_of : Sort → ℕ → Citation
+citation_of sorts.Variable n = citations.Variable n
+citation_of sorts.Parameter n = citations.Parameter n
+citation_of sorts.Array n = citations.Array n
 
--- the cell is taken by the name with this entry, or is crowded
+-- the cell is taken by the name with this citation, or is crowded
 abbrev pub IsPlaceOf : List Shape → List ℕ → Citation → Place → Type 0
 IsPlaceOf ss x e Free = ⊥
-IsPlaceOf ss x e (Taken s k n) = IsShapeAt ss x k × (entry_of s n ≡ e)
+IsPlaceOf ss x e (Taken s k n) = IsShapeAt ss x k × (citation_of s n ≡ e)
 IsPlaceOf ss x e Crowded = ⊤
 
--- there is a cell, and it is taken by the name with this entry
+-- there is a cell, and it is taken by the name with this citation
 abbrev pub IsTakenBy : List Shape → List ℕ → Citation → Option Place → Type 0
 IsTakenBy ss x e None = ⊥
 IsTakenBy ss x e (Some Free) = ⊥
-IsTakenBy ss x e (Some (Taken s k n)) = IsShapeAt ss x k × (entry_of s n ≡ e)
+IsTakenBy ss x e (Some (Taken s k n)) = IsShapeAt ss x k × (citation_of s n ≡ e)
 IsTakenBy ss x e (Some Crowded) = ⊥
 
 -- what a name that didn't get its cell leaves in it: what was there, or that it is crowded
@@ -114,21 +114,21 @@ IsLeft (Some Free) q = q ≡ Some Crowded
 IsLeft (Some (Taken s k n)) q = q ≡ Some (Taken s k n)
 IsLeft (Some Crowded) q = q ≡ Some Crowded
 
--- the entry, where the name has that shape
-abbrev pub entry_as : Option Shape → List ℕ → Citation → Option Citation
-entry_as None x e = None
-entry_as (Some s) x e = if is_of s x then Some e else None
+-- the citation, where the name has that shape
+abbrev pub citation_as : Option Shape → List ℕ → Citation → Option Citation
+citation_as None x e = None
+citation_as (Some s) x e = if is_of s x then Some e else None
 
--- the entry that a cell has for a name
-abbrev pub entry_at : List Shape → List ℕ → Option Place → Option Citation
-entry_at ss x None = None
-entry_at ss x (Some Free) = None
-entry_at ss x (Some (Taken s k n)) = entry_as (slice_get ss k) x (entry_of s n)
-entry_at ss x (Some Crowded) = None
+-- the citation that a cell has for a name
+abbrev pub citation_at : List Shape → List ℕ → Option Place → Option Citation
+citation_at ss x None = None
+citation_at ss x (Some Free) = None
+citation_at ss x (Some (Taken s k n)) = citation_as (slice_get ss k) x (citation_of s n)
+citation_at ss x (Some Crowded) = None
 
--- the entry of a name, where its cell has it
-abbrev pub entry_there : List Shape → List ℕ → List ℕ → Option Citation
-entry_there ss ps x = entry_at ss x (place_at ps (number_of x))
+-- the citation of a name, where its cell has it
+abbrev pub citation_there : List Shape → List ℕ → List ℕ → Option Citation
+citation_there ss ps x = citation_at ss x (place_at ps (number_of x))
 
 abbrev pub seat_if : Option Citation → Option ℕ → Option ℕ
 seat_if None j = None
@@ -136,7 +136,7 @@ seat_if (Some e) j = j
 
 -- its index in the list of names, where its cell has it
 abbrev pub seat_there : List Shape → List ℕ → List ℕ → List ℕ → Option ℕ
-seat_there ss ps js x = seat_if (entry_there ss ps x) (slice_get js (number_of x))
+seat_there ss ps js x = seat_if (citation_there ss ps x) (slice_get js (number_of x))
 
 abbrev pub is_free : Option Place → Bool
 is_free None = false
@@ -148,9 +148,9 @@ is_free (Some Crowded) = false
 abbrev pub is_free_there : List ℕ → List ℕ → Bool
 is_free_there ps x = is_free (place_at ps (number_of x))
 
--- a name is in the list with that entry, at the index that its cell has
+-- a name is in the list with that citation, at the index that its cell has
 abbrev pub IsListed : List Kept → List ℕ → List ℕ → Citation → Type 0
-IsListed ks js x e = (k : Kept) × (j : ℕ) × (find (is_key x) ks ≡ Some k) × (k.entry ≡ e)
+IsListed ks js x e = (k : Kept) × (j : ℕ) × (find (is_key x) ks ≡ Some k) × (k.citation ≡ e)
     × (slice_get js (number_of x) ≡ Some j) × (slice_get ks j ≡ Some k)
 
 -- a name is found among the others (the hash table) as in the list
@@ -163,7 +163,7 @@ abbrev pub StandsAt : List Kept → List Kept → Numbered → List ℕ → Opti
 StandsAt ks os n x None = IsAmongOthers ks os x
 StandsAt ks os n x (Some Free) = IsAmongOthers ks os x × (find (is_key x) ks ≡ None)
 StandsAt ks os n x (Some (Taken s k i)) = (t : Shape) × (slice_get n.shapes.items k ≡ Some t)
-    × (is_of t x ≡ true → IsListed ks n.seats.items x (entry_of s i))
+    × (is_of t x ≡ true → IsListed ks n.seats.items x (citation_of s i))
     × (is_of t x ≡ false → IsAmongOthers ks os x)
 StandsAt ks os n x (Some Crowded) = IsAmongOthers ks os x
 

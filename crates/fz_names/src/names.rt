@@ -61,12 +61,12 @@ pub(crate) enum Citation {
     Array(usize),
 }
 
-/// A declared name with its entry, side by side, so that a look-up that has read the name has read
-/// the entry too. Only the name is hashed and compared.
+/// A declared name with its citation, side by side, so that a look-up that has read the name has
+/// read the citation too. Only the name is hashed and compared.
 #[derive(Clone, Copy)]
 pub(crate) struct Kept<'a> {
     bytes: &'a [u8],
-    entry: Citation,
+    citation: Citation,
 }
 
 impl PartialEq for Kept<'_> {
@@ -122,7 +122,7 @@ type Table<'a> = IndexSet<Kept<'a>>;
 /// for.
 #[derive(Drop)]
 pub struct Names<'a> {
-    /// all of them with their entries, in source order
+    /// all of them with their citations, in source order
     listed: Vec<Kept<'a>>,
     /// those that are found by number
     numbered: Numbered<'a>,
@@ -152,13 +152,13 @@ impl<'a> std::marker::Model for Names<'a> {
         × IsNumbered n.listed.items n.others.keys n.numbered };
 }
 
-/// What an entry stands for. The parameters' values are these.
+/// What a citation stands for. The parameters' values are these.
 #[inline]
-fn standing_of(parameters: &[Term], entry: Citation) -> Standing<'_>
-    requires within { IsAmongTerms parameters.now entry }
-    ensures stands { standing_view result ≡ stands_for parameters.now entry }
+fn standing_of(parameters: &[Term], citation: Citation) -> Standing<'_>
+    requires within { IsAmongTerms parameters.now citation }
+    ensures stands { standing_view result ≡ stands_for parameters.now citation }
 {
-    match entry {
+    match citation {
         Citation::Variable(number) => Standing::Variable(number),
         Citation::Parameter(number) => Standing::Parameter(&parameters[number]),
         Citation::Array(number) => Standing::Array(number),
@@ -171,35 +171,38 @@ fn put<'a>(
     others: &mut Table<'a>,
     numbered: &mut Numbered<'a>,
     name: &'a [u8],
-    entry: Citation,
+    citation: Citation,
 ) -> Result<(), AllocError>
     requires new { list_any (is_key name.now) listed.old.items ≡ false }
     requires distinct { IsDistinct same_key listed.old.items }
     requires numbered { IsNumbered listed.old.items others.old.keys numbered.old }
     ensures pushed { OnOk result (listed.new.items ≡ listed.old.items
-        ++ record { bytes = name.entry; entry = entry } ∷ []) }
+        ++ record { bytes = name.entry; citation = citation } ∷ []) }
     ensures unchanged { OnErr result (listed.new.items ≡ listed.old.items) }
     ensures distinct { IsDistinct same_key listed.new.items }
     ensures numbered { IsNumbered listed.new.items others.new.keys numbered.new }
 {
     listed.reserve(1)?;
-    let kept = Kept { bytes: name, entry };
-    if !numbered.note(name, entry, listed.len()) {
+    let kept = Kept {
+        bytes: name,
+        citation,
+    };
+    if !numbered.note(name, citation, listed.len()) {
         let _ = others.insert(kept)?;
     }
     listed.push_reserved(kept);
     Ok(())
 }
 
-/// The entry of a name in the hash table, where it is there.
-fn entry_among(others: &Table<'_>, name: &[u8]) -> Option<Citation>
-    ensures { result ≡ option_map (λ k. k.entry) (find (is_key name.now) others.now.keys) }
+/// The citation of a name in the hash table, where it is there.
+fn citation_among(others: &Table<'_>, name: &[u8]) -> Option<Citation>
+    ensures { result ≡ option_map (λ k. k.citation) (find (is_key name.now) others.now.keys) }
 {
     let kept = others.get(Text { bytes: name })?;
-    Some(kept.entry)
+    Some(kept.citation)
 }
 
-/// A declared name with its entry.
+/// A declared name with its citation.
 #[tactic(auto, using(crate::proofs::Noted::of_found))]
 fn found<'t, 'a>(
     listed: &'t [Kept<'a>],
@@ -247,23 +250,23 @@ impl<'a> Names<'a> {
     pub fn get(&self, name: &[u8]) -> Option<Standing<'_>>
         ensures stands { option_map standing_view result ≡ lookup (has_text name.now) self.now }
     {
-        if let Some(entry) = self.numbered.get(name) {
-            return Some(standing_of(&self.parameters, entry));
+        if let Some(citation) = self.numbered.get(name) {
+            return Some(standing_of(&self.parameters, citation));
         }
-        let entry = entry_among(&self.others, name)?;
-        Some(standing_of(&self.parameters, entry))
+        let citation = citation_among(&self.others, name)?;
+        Some(standing_of(&self.parameters, citation))
     }
 
     /// What a name stands for, where it is declared, with its text in the source.
     #[inline]
-    #[tactic(auto, using(crate::proofs::NameTable::of_entry))]
+    #[tactic(auto, using(crate::proofs::NameTable::of_citation))]
     pub fn look_up(&self, name: &[u8]) -> Option<(&'a [u8], Standing<'_>)>
         ensures stands { option_map (λ f. standing_view f.1) result
             ≡ lookup (has_text name.now) self.now }
         ensures text { IfSome result (λ f. f.0.now ≡ name.now) }
     {
         let kept = found(&self.listed, &self.others, &self.numbered, name)?;
-        Some((kept.bytes, standing_of(&self.parameters, kept.entry)))
+        Some((kept.bytes, standing_of(&self.parameters, kept.citation)))
     }
 
     /// Appends the name of a variable.

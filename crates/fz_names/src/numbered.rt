@@ -5,7 +5,7 @@
 
 ghost use Rattle.std.specs.Prelude.{◌≡◌, ◌≢◌, ℕ, IfOk, IfSome, IsFalse, IsTrue, Some, replicate, slice_get, true};
 ghost use Rattle.fz_names.specs.declared.numbered.Place.TheVariants.{Crowded, Free};
-ghost use Rattle.fz_names.specs.Numbered.{entry_of, entry_there, head_of, is_free, is_free_there, is_of, mark_of, marks_of, number_of, place_at, seat_there, unpacked, with_byte, AreKept, ArePackedOf, IsLeft, IsPlaceOf, IsShapeAt, IsTakenBy};
+ghost use Rattle.fz_names.specs.Numbered.{citation_of, citation_there, head_of, is_free, is_free_there, is_of, mark_of, marks_of, number_of, place_at, seat_there, unpacked, with_byte, AreKept, ArePackedOf, IsLeft, IsPlaceOf, IsShapeAt, IsTakenBy};
 
 use crate::names::Citation;
 use fz_meaning::same_text;
@@ -19,7 +19,7 @@ const LAST: usize = 8;
 /// declared. A name of one more shape goes to the hash table.
 const SHAPES: u32 = 64;
 
-/// Which list the number of an entry is an index of.
+/// Which list the number of a citation is an index of.
 #[derive(Clone, Copy)]
 pub(crate) enum Sort {
     Variable,
@@ -32,8 +32,8 @@ pub(crate) enum Sort {
 pub(crate) enum Place {
     /// no name with this number is declared
     Free,
-    /// the entry of the first such name, as its sort and its number, with the number of the name's
-    /// shape between them
+    /// the citation of the first such name, as its sort and its number, with the number of the
+    /// name's shape between them
     Taken(Sort, u32, u32),
     /// the first such name is in the hash table, and so is each later one
     Crowded,
@@ -104,21 +104,21 @@ fn ending_of(name: &[u8]) -> Ending
     Ending { number, marks }
 }
 
-/// The sort and the number of an entry.
-fn parts_of(entry: Citation) -> (Sort, usize)
-    ensures { entry_of result.0 result.1 ≡ entry }
+/// The sort and the number of a citation.
+fn parts_of(citation: Citation) -> (Sort, usize)
+    ensures { citation_of result.0 result.1 ≡ citation }
 {
-    match entry {
+    match citation {
         Citation::Variable(number) => (Sort::Variable, number),
         Citation::Parameter(number) => (Sort::Parameter, number),
         Citation::Array(number) => (Sort::Array, number),
     }
 }
 
-/// The entry of a sort and a number.
+/// The citation of a sort and a number.
 #[inline(always)]
-fn entry_of(sort: Sort, number: usize) -> Citation
-    ensures { result ≡ entry_of sort number }
+fn citation_of(sort: Sort, number: usize) -> Citation
+    ensures { result ≡ citation_of sort number }
 {
     match sort {
         Sort::Variable => Citation::Variable(number),
@@ -180,7 +180,7 @@ const FREE: u32 = 0;
 /// The bits of a crowded cell: no sort, and not those of a free one.
 const CROWDED: u32 = 4;
 
-/// A cell has 24 bits for the number of an entry.
+/// A cell has 24 bits for the number of a citation.
 const NUMBERS: u32 = 1 << 24;
 
 /// A cell in 32 bits, so that the cells of a large model stay in a near cache: the number is in the
@@ -221,13 +221,13 @@ fn place_of<'a>(
     shapes: &mut Vec<Shape<'a>>,
     name: &'a [u8],
     ending: &Ending,
-    entry: Citation,
+    citation: Citation,
 ) -> u32
     requires marks { ending.now.marks ≡ marks_of name.now }
     ensures kept { AreKept shapes.old.items shapes.new.items }
-    ensures place { IsPlaceOf shapes.new.items name.now entry (unpacked result) }
+    ensures place { IsPlaceOf shapes.new.items name.now citation (unpacked result) }
 {
-    let (sort, number) = parts_of(entry);
+    let (sort, number) = parts_of(citation);
     let Ok(number) = u32::try_from(number) else {
         return CROWDED;
     };
@@ -263,10 +263,10 @@ impl<'a> Numbered<'a> {
         })
     }
 
-    /// The entry of a name, where its cell has it.
+    /// The citation of a name, where its cell has it.
     #[inline(always)]
     pub(crate) fn get(&self, name: &[u8]) -> Option<Citation>
-        ensures { result ≡ entry_there self.now.shapes.items self.now.places.items name.now }
+        ensures { result ≡ citation_there self.now.shapes.items self.now.places.items name.now }
     {
         let ending = ending_of(name);
         let Place::Taken(sort, shape, number) = unpacked(*self.places.get(ending.number)?) else {
@@ -275,7 +275,7 @@ impl<'a> Numbered<'a> {
         if !self.shapes.get(shape as usize)?.is_of(name, &ending) {
             return None;
         }
-        Some(entry_of(sort, number as usize))
+        Some(citation_of(sort, number as usize))
     }
 
     /// The index of a name in the list of all declared names, where its cell has it.
@@ -308,7 +308,7 @@ impl<'a> Numbered<'a> {
 
     /// Gives a name the cell of its number, where there is one and it is free, and tells whether it
     /// got it. The seat is the name's index in the list of all declared names.
-    pub(crate) fn note(&mut self, name: &'a [u8], entry: Citation, seat: usize) -> bool
+    pub(crate) fn note(&mut self, name: &'a [u8], citation: Citation, seat: usize) -> bool
         ensures others { (i : ℕ) → i ≢ number_of name.now
             → slice_get self.new.places.items i ≡ slice_get self.old.places.items i }
         ensures other_seats { (i : ℕ) → i ≢ number_of name.now
@@ -316,7 +316,7 @@ impl<'a> Numbered<'a> {
         ensures kept { AreKept self.old.shapes.items self.new.shapes.items }
         ensures free { IsTrue result → place_at self.old.places.items (number_of name.now)
             ≡ Some Free }
-        ensures taken { IsTrue result → IsTakenBy self.new.shapes.items name.now entry
+        ensures taken { IsTrue result → IsTakenBy self.new.shapes.items name.now citation
             (place_at self.new.places.items (number_of name.now)) }
         ensures seat { IsTrue result → slice_get self.new.seats.items (number_of name.now)
             ≡ Some seat }
@@ -329,7 +329,7 @@ impl<'a> Numbered<'a> {
             return false;
         }
         let place = if ending.number < self.seats.len() {
-            place_of(&mut self.shapes, name, &ending, entry)
+            place_of(&mut self.shapes, name, &ending, citation)
         } else {
             CROWDED
         };

@@ -5,9 +5,9 @@ use Rattle.std.specs.Int.{w64, w128}
 use Rattle.std.proofs.Math.Nat.{mod-lt}
 use Rattle.std.proofs.lemmas.Bool.{eqb-true}
 use Rattle.std.proofs.lemmas.Int.{ints, to_z-of_z, to_z_pos}
-use Rattle.fz_meaning.specs.of_syntax.Sets.{at_least_none, count_between}
-use Rattle.fz_meaning.specs.of_syntax.View.{bare_basic, basic_list}
-use Rattle.fz_meaning.specs.of_syntax.declared.NoteBasic.{NoteBasic}
+use Rattle.fz_meaning.specs.of_base.Sets.{at_least_none, count_between}
+use Rattle.fz_tree.specs.View.{bare_basic, basic_list}
+use Rattle.fz_tree.specs.declared.tree.NoteBasic.{NoteBasic}
 use Rattle.fz_places.specs.Elements.{index_between, index_in, indices_in}
 
 -- one index set before others

@@ -1,10 +1,10 @@
 -- What annotations say (this project's profile).
 use Rattle.std.specs.Prelude.{ℕ, cond, List, Option, Some, None, bytes_eq}
-use Rattle.fz_meaning.specs.of_syntax.Tree.{Note, NoteArg}
-use Rattle.fz_meaning.specs.of_syntax.Tree.Note.{Called}
-use Rattle.fz_meaning.specs.of_syntax.Tree.NoteArgs.{NoMoreArgs, MoreArgs}
-use Rattle.fz_meaning.specs.of_syntax.Tree.NoteArg.{OneBasic}
-use Rattle.fz_meaning.specs.of_syntax.Tree.NoteBasic.{NoteString}
+use Rattle.fz_tree.specs.Tree.{Note, NoteArg}
+use Rattle.fz_tree.specs.Tree.Note.{Called}
+use Rattle.fz_tree.specs.Tree.NoteArgs.{NoMoreArgs, MoreArgs}
+use Rattle.fz_tree.specs.Tree.NoteArg.{OneBasic}
+use Rattle.fz_tree.specs.Tree.NoteBasic.{NoteString}
 
 -- the argument of an annotation of this name, where it has exactly one
 abbrev pub argument_of : List ℕ → Note → Option NoteArg

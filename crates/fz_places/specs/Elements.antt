@@ -1,19 +1,19 @@
 -- The element of an array that a name is, with its indices (this project's profile; MiniZinc
 -- Handbook, FlatZinc, "Annotations"). An array that is printed has the annotation
--- `output_array([S1,S2,..])`, with a range for each of its index sets. Its elements are in the order
--- of their indices, of which the last runs fastest.
+-- `output_array([S1,S2,..])`, with a range for each of its index sets. Its elements are in the
+-- order of their indices, of which the last runs fastest.
 use Rattle.std.specs.Prelude.{ℕ, ℤ, pos, ◌+ℤ◌, ◌/◌, ◌%◌, ◌==◌, Bool, false, cond, List, [], ◌∷◌, Option, Some, None, bytes_eq, codes, option_map}
 use Rattle.std.specs.List.{position_from}
 use Rattle.std.specs.Option.{option_and_then}
-use Rattle.fz_meaning.specs.of_syntax.Sets.{count_between}
+use Rattle.fz_meaning.specs.of_base.Sets.{count_between}
 use Rattle.fz_meaning.specs.Meaning.{first_some}
-use Rattle.fz_meaning.specs.of_syntax.Tree.{Basic, Decl, Expr, NoteArg, NoteBasic, NoteBasics}
-use Rattle.fz_meaning.specs.of_syntax.Tree.Literal.{Range}
-use Rattle.fz_meaning.specs.of_syntax.Tree.Basic.{Lit, Named}
-use Rattle.fz_meaning.specs.of_syntax.Tree.Expr.{Several}
-use Rattle.fz_meaning.specs.of_syntax.Tree.NoteArg.{ListOf, OneBasic}
-use Rattle.fz_meaning.specs.of_syntax.Tree.NoteBasics.{NoMoreBasics, MoreBasics}
-use Rattle.fz_meaning.specs.of_syntax.Tree.NoteBasic.{NoteLiteral}
+use Rattle.fz_tree.specs.Tree.{Basic, Decl, Expr, NoteArg, NoteBasic, NoteBasics}
+use Rattle.fz_tree.specs.Tree.Literal.{Range}
+use Rattle.fz_tree.specs.Tree.Basic.{Lit, Named}
+use Rattle.fz_tree.specs.Tree.Expr.{Several}
+use Rattle.fz_tree.specs.Tree.NoteArg.{ListOf, OneBasic}
+use Rattle.fz_tree.specs.Tree.NoteBasics.{NoMoreBasics, MoreBasics}
+use Rattle.fz_tree.specs.Tree.NoteBasic.{NoteLiteral}
 use Rattle.fz_places.specs.Annotations.{argument_of}
 use Rattle.fz_places.specs.declared.element.Element.{Element}
 

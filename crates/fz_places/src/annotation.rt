@@ -2,9 +2,9 @@
 
 ghost use Rattle.std.specs.Prelude.{◌≡◌, option_map};
 ghost use Rattle.std.specs.Option.{option_and_then};
-ghost use Rattle.fz_meaning.specs.of_syntax.Tree.NoteArg.{OneBasic};
+ghost use Rattle.fz_tree.specs.Tree.NoteArg.{OneBasic};
 ghost use Rattle.fz_meaning.specs.Meaning.{first_some};
-ghost use Rattle.fz_meaning.specs.of_syntax.View.{bare_arg, bare_basic, bare_note, bare_notes};
+ghost use Rattle.fz_tree.specs.View.{bare_arg, bare_basic, bare_note, bare_notes};
 ghost use Rattle.fz_places.specs.Annotations.{argument_of, text};
 
 use fz_tree::{Note, NoteArg, NoteBasic};

@@ -4,9 +4,9 @@ ghost use Rattle.std.specs.Prelude.{◌≡◌, FitsSigned, IfOk, IfSome, map, op
 ghost use Rattle.std.specs.Int.{w64};
 ghost use Rattle.std.specs.List.{position_from};
 ghost use Rattle.std.specs.Option.{option_and_then};
-ghost use Rattle.fz_meaning.specs.of_syntax.Sets.{count_between};
+ghost use Rattle.fz_meaning.specs.of_base.Sets.{count_between};
 ghost use Rattle.fz_meaning.specs.Meaning.{first_some};
-ghost use Rattle.fz_meaning.specs.of_syntax.View.{bare_arg, bare_basic, bare_decl, bare_expression, bare_expressions, bare_value, basic_list};
+ghost use Rattle.fz_tree.specs.View.{bare_arg, bare_basic, bare_decl, bare_expression, bare_expressions, bare_value, basic_list};
 ghost use Rattle.fz_places.specs.Elements.{element_in, element_view, elements_of, index_between, index_in, indices_at, indices_in, indices_of, is_name, listed, range_of};
 
 use crate::annotation::argument_of;
@@ -38,7 +38,8 @@ fn range_of(set: &NoteBasic<'_>) -> Option<(i64, i64)>
 
 /// The elements of a list.
 fn listed<'t, 'a>(arg: &'t NoteArg<'a>) -> Option<&'t [NoteBasic<'a>]>
-    ensures { option_map (λ s. basic_list (map bare_basic s.now)) result ≡ listed (bare_arg arg.now) }
+    ensures { option_map (λ s. basic_list (map bare_basic s.now)) result
+        ≡ listed (bare_arg arg.now) }
 {
     match arg {
         NoteArg::List(basics) => Some(basics),
@@ -133,8 +134,8 @@ fn place_in(value: &Option<Expr<'_>>, name: &[u8]) -> Option<usize>
     }
 }
 
-/// The indices of the element at a place, from 0, of the array that is declared, by the index sets of
-/// its annotation.
+/// The indices of the element at a place, from 0, of the array that is declared, by the index sets
+/// of its annotation.
 pub fn indices_of(
     alloc: Global,
     decl: &Decl<'_>,

@@ -167,12 +167,7 @@ fn is_loop(segment: &Segment<'_>) -> bool
 fn has_equality(text: &[u8]) -> bool
     ensures { result ≡ list_any (λ b. b == 61) text.now }
 {
-    for byte in text {
-        if *byte == b'=' {
-            return true;
-        }
-    }
-    false
+    text.iter().any(|byte| *byte == b'=')
 }
 
 /// Whether a segment is in the first file or in one beside it. One without a file is in none.
@@ -186,12 +181,14 @@ fn is_own(first: &[u8], segment: &Segment<'_>) -> bool
 fn has_alike(segments: &[Segment<'_>], file: &[u8]) -> bool
     ensures { result ≡ list_any (is_alike file.now) segments.now }
 {
-    for segment in segments {
-        if name_of(segment.file) == name_of(file) && segment.file != file {
-            return true;
-        }
-    }
-    false
+    segments.iter().any(|segment| is_alike(segment, file))
+}
+
+/// Whether a segment is in another file with the name of this one.
+fn is_alike(segment: &Segment<'_>, file: &[u8]) -> bool
+    ensures { result ≡ is_alike file.now segment.now }
+{
+    name_of(segment.file) == name_of(file) && segment.file != file
 }
 
 /// The innermost segment in the model's own files that is no loop variable.

@@ -9,7 +9,7 @@ use Rattle.fz_builtins.proofs.of_scheduling.Windowed.{one_window}
 use Rattle.fz_reasons.proofs.Lists.{alone_is, indexed_fails, one_fails}
 use Rattle.fz_builtins.specs.of_meaning.Relations.{◌=ℤ◌, are_places, as_places, is_natural, lies_between, load_of, loads_are, products, total, windows, ◌=ˢ◌, element_at, marks, slides_between}
 use Rattle.std.specs.Option.{option_map_or}
-use Rattle.fz_builtins.specs.of_meaning.of_syntax.Sets.{NumberSet}
+use Rattle.fz_builtins.specs.of_meaning.of_base.Sets.{NumberSet}
 use Rattle.fz_reasons.specs.Rows.{Argument, Builtin, Partial, int_at, ints_at, row_at, row_outcome, set_at, sets_at, sum_outcome}
 use Rattle.fz_builtins.specs.of_meaning.declared.builtin.Builtin.TheVariants as builtin
 use Rattle.fz_builtins.specs.declared.outcome.Outcome.TheVariants.{Truth}

@@ -4,7 +4,7 @@ use Rattle.std.specs.List.{list_any}
 use Rattle.std.proofs.lemmas.Bool.{false_from_ne_true, not-true, true_from_ne_false}
 use Rattle.std.specs.FinSet as sets
 use Rattle.std.proofs.lemmas.Int.{ints}
-use Rattle.fz_builtins.specs.of_meaning.of_syntax.Sets.{NumberSet}
+use Rattle.fz_builtins.specs.of_meaning.of_base.Sets.{NumberSet}
 use Rattle.fz_builtins.specs.of_meaning.of_base.Elements.{LiesWithin, Has64Bits}
 use Rattle.fz_builtins.proofs.of_globals.NoGaps.{gap, some_element, element_some}
 use Rattle.fz_builtins.specs.of_meaning.Relations.{is_convex}

@@ -3,13 +3,13 @@
 use Rattle.std.proofs.Common.{◌≡◌, ℕ, suc, zero, ◌≤◌, ℤ, pos, negsuc, ◌+ℤ◌, ◌-ℤ◌, false, List, length, ◌⊎◌, inl, inr, Option, Some, None, slice_get, refl, sym, ap, ◌∙◌, arith, Bool, true, ◌&&◌, true≢false}
 use Rattle.std.proofs.lemmas.Int.{ints}
 use Rattle.std.proofs.lemmas.Option.{slice_get_cases}
-use Rattle.fz_builtins.specs.of_meaning.of_syntax.Ranges.{is_between}
+use Rattle.fz_builtins.specs.of_meaning.of_base.Ranges.{is_between}
 use Rattle.fz_builtins.proofs.of_meaning.of_base.Covers.{and-false}
 use Rattle.fz_builtins.specs.of_meaning.Relations.{element_at, ◌=ᴮ◌, flags_are, indices_from, is_flagged}
 use Rattle.fz_builtins.proofs.of_kernel.Passed.{element_is, no_element}
 use Rattle.std.specs.Option.{option_map_or}
 use Rattle.std.specs.FinSet.{contains, is_subset}
-use Rattle.fz_builtins.specs.of_meaning.of_syntax.Sets.{NumberSet}
+use Rattle.fz_builtins.specs.of_meaning.of_base.Sets.{NumberSet}
 use Rattle.fz_builtins.proofs.of_meaning.of_base.Numbers.{contains-numbers_between}
 use Rattle.fz_reasons.proofs.Lists.{indexed_fails}
 use Rattle.fz_reasons.proofs.Misplaced.{not_within, turned}

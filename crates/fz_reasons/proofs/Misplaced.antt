@@ -3,7 +3,7 @@ use Rattle.std.proofs.Common.{◌≡◌, ℤ, Bool, true, false, not, ◌&&◌, 
 use Rattle.std.specs.FinSet.{contains, difference, empty, intersection, is_subset, union, contains-difference, contains-empty, contains-intersection, contains-union, is_subset-contains}
 use Rattle.std.specs.Cmp.{int_cmp_total}
 use Rattle.std.proofs.lemmas.Bool.{false_from_ne_true}
-use Rattle.fz_builtins.specs.of_meaning.of_syntax.Sets.{NumberSet, symmetric_difference}
+use Rattle.fz_builtins.specs.of_meaning.of_base.Sets.{NumberSet, symmetric_difference}
 use Rattle.fz_builtins.proofs.of_meaning.of_base.Covers.{and-false}
 use Rattle.fz_builtins.specs.of_meaning.Relations.{◌=ᴮ◌, ◌=ˢ◌, are_disjoint}
 

@@ -7,7 +7,7 @@ use Rattle.std.proofs.lemmas.Option.{none-some, same_Some}
 use Rattle.std.proofs.lemmas.Int.{ints}
 use Rattle.fz_builtins.proofs.of_meaning.of_base.Covers.{and-false, or-false}
 use Rattle.fz_builtins.specs.of_meaning.Relations.{◌=ℤ◌, element_at, is_before, is_word, lies_between, run, step, as_number, as_places, is_same_list, leads_back, precedes, precedes_in_sets, refer_back, rises_by_one}
-use Rattle.fz_builtins.specs.of_meaning.of_syntax.Sets.{NumberSet}
+use Rattle.fz_builtins.specs.of_meaning.of_base.Sets.{NumberSet}
 use Rattle.fz_reasons.specs.Elements.{comes_before, has_step, IsEarly, IsOneWay, agree, differ, Difference, Early, OneWay, NoStep, NearRow}
 use Rattle.fz_reasons.proofs.Lists.{indexed_fails, neighbours_fail, comes_too_early}
 use Rattle.std.specs.Int.{int_max}

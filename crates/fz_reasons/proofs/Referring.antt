@@ -7,8 +7,8 @@ use Rattle.std.specs.Cmp.{int_cmp_total}
 use Rattle.std.specs.FinSet.{contains, from_list, is_subset, contains-empty, contains-union}
 use Rattle.std.proofs.lemmas.Int.{ints}
 use Rattle.std.proofs.lemmas.Option.{none-some, same_Some}
-use Rattle.fz_builtins.specs.of_meaning.of_syntax.Ranges.{is_between}
-use Rattle.fz_builtins.specs.of_meaning.of_syntax.Sets.{NumberSet}
+use Rattle.fz_builtins.specs.of_meaning.of_base.Ranges.{is_between}
+use Rattle.fz_builtins.specs.of_meaning.of_base.Sets.{NumberSet}
 use Rattle.fz_builtins.proofs.of_meaning.of_base.Numbers.{contains-numbers_between}
 use Rattle.fz_builtins.proofs.of_meaning.of_base.Covers.{and-false}
 use Rattle.fz_builtins.specs.of_meaning.Relations.{◌=ᴮ◌, ◌=ˢ◌, chosen, element_at, has_only, indices_from, is_among, lies_between, precedes_in_sets, refer_back, union_of}

@@ -6,7 +6,7 @@ use Rattle.std.specs.Ordering.{int_cmp}
 use Rattle.std.specs.FinSet as sets
 use Rattle.std.specs.Option.{option_map_or}
 use Rattle.fz_builtins.specs.of_meaning.Relations.{◌=ℤ◌, Span, are_apart, count_of, element_at, has_only, is_among, lies_between, load_of, run, step, used_at}
-use Rattle.fz_builtins.specs.of_meaning.of_syntax.Sets.{NumberSet}
+use Rattle.fz_builtins.specs.of_meaning.of_base.Sets.{NumberSet}
 pub use Rattle.fz_reasons.specs.declared.reason.Relation.{Relation}
 pub use Rattle.fz_reasons.specs.declared.reason.Relation.TheVariants.{Equal, NotEqual, AtMost, Below, AtLeast, Above}
 pub use Rattle.fz_reasons.specs.declared.reason.Sides.{Sides}

@@ -6,7 +6,7 @@ use Rattle.std.specs.List.{filter, list_any, zip}
 use Rattle.std.specs.Option.{option_map_or}
 use Rattle.std.specs.FinSet as sets
 use Rattle.fz_builtins.specs.of_meaning.of_base.declared.value.Value.TheVariants.{Int, Bool as Truth}
-use Rattle.fz_builtins.specs.of_meaning.of_syntax.Sets.{NumberSet}
+use Rattle.fz_builtins.specs.of_meaning.of_base.Sets.{NumberSet}
 use Rattle.fz_reasons.specs.Rows.{Argument, Builtin, Partial, bool_at, bools_at, bools_of, int_at, ints_at, ints_of, row_at, row_outcome, set_at, sets_at, slots_at}
 use Rattle.fz_builtins.specs.of_meaning.declared.builtin.Builtin.TheVariants as builtin
 use Rattle.fz_builtins.specs.of_meaning.declared.kind.Kind.TheVariants.{Int as IntKind, Bool as BoolKind}

@@ -11,7 +11,9 @@ use crate::loads::{other_load, other_run, other_total};
 use crate::places::{lies_between, no_index};
 use crate::readings::number_count;
 use crate::rings::{ring_of_moved, short_ring};
-use fz_builtins::{ArgumentView, Builtin, Wide, leaves};
+use fz_builtins::leaves;
+use fz_kernel::ArgumentView;
+use fz_store::{Builtin, Wide};
 
 /// Why a row over a tour, bins with given loads, a knapsack or runs of neighbours fails. None of
 /// another row.

@@ -4,7 +4,7 @@ use crate::arrangement::{Arrangement, BinLoad, NoIndex, Ring, Run, Total};
 use crate::element_words::{meet_in_bin, say_named};
 use crate::rings::follow;
 use crate::teller::{Teller, from_one};
-use fz_builtins::Builtin;
+use fz_store::Builtin;
 use std::alloc::AllocError;
 
 /// The most positions of a ring that are listed.

@@ -10,7 +10,10 @@ ghost use Rattle.fz_reasons.specs.Reasons.{Says, numbers_at};
 use crate::places::lies_between;
 use crate::readings::numbers_in;
 use crate::reason::{ElementKind, NearRow, NoStep, Reason};
-use fz_builtins::{ArgumentView, Builtin, Elements, is_bool_row, is_int_row, next_state};
+use fz_globals::tables::{is_bool_row, is_int_row};
+use fz_kernel::{ArgumentView, Elements};
+use fz_scheduling::words::next_state;
+use fz_store::Builtin;
 use std::alloc::{AllocError, Global};
 
 /// The symbol that has no step or the state in which the automaton ends; or the row of the table
@@ -51,8 +54,8 @@ fn near_row(
     Ok(nearest(&list, &table))
 }
 
-/// The beginning where that is no state, the first symbol that leads to no state, or the state at the
-/// end where that isn't one of the last.
+/// The beginning where that is no state, the first symbol that leads to no state, or the state at
+/// the end where that isn't one of the last.
 #[tactic(auto, unfolding(crate::specs::Reasons::Says))]
 fn by_automaton(view: &ArgumentView<'_, '_>) -> Option<Reason>
     ensures { IfSome result (Says FznRegular (assigned view.now) (arguments_of view.now)) }

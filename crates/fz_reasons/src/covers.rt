@@ -9,9 +9,10 @@ ghost use Rattle.fz_reasons.specs.Reasons.{Counts, Says};
 ghost use Rattle.fz_reasons.specs.declared.reason.Relation.TheVariants.{Equal};
 
 use crate::reason::{Count, Element, Reason, Relation, Sides};
-use fz_builtins::{
-    ArgumentView, Builtin, Elements, count_of, is_listed, is_truth_listed, number_of_truth,
-};
+use fz_globals::counts::{count_of, is_listed, is_truth_listed};
+use fz_kernel::numbers::number_of_truth;
+use fz_kernel::{ArgumentView, Elements};
+use fz_store::Builtin;
 
 /// A value that comes too often or too seldom, one that isn't in the cover, or one that isn't
 /// listed.

@@ -8,7 +8,9 @@ use crate::reason::{
 };
 use crate::teller::{Teller, from_one};
 use crate::words::{say_count, sign};
-use fz_builtins::{Builtin, place_from, runs_at};
+use fz_globals::place_from;
+use fz_scheduling::runs_at;
+use fz_store::Builtin;
 use std::alloc::AllocError;
 
 /// The most tasks that are listed.

@@ -8,7 +8,9 @@ ghost use Rattle.fz_builtins.specs.Readings.{truths};
 ghost use Rattle.fz_reasons.specs.Reasons.{Says};
 
 use crate::reason::Reason;
-use fz_builtins::{ArgumentView, Builtin, any_false, any_true, odd_number_true};
+use fz_kernel::ArgumentView;
+use fz_kernel::arrays::{any_false, any_true, odd_number_true};
+use fz_store::Builtin;
 
 /// That no literal of a clause is true, or that an even number of elements are.
 #[tactic(auto, unfolding(crate::specs::Reasons::Says))]

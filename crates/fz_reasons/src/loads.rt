@@ -9,7 +9,11 @@ ghost use Rattle.fz_reasons.specs.Arranged.{HasOtherLoad, IsOtherRun, IsOtherTot
 use crate::arrangement::{BinLoad, Run, Total};
 use crate::places::lies_between;
 use crate::readings::number_count;
-use fz_builtins::{Elements, IntSet, load_of, sum_of_products, term_at};
+use fz_kernel::Elements;
+use fz_kernel::arrays::sum_of_products;
+use fz_scheduling::bins::load_of;
+use fz_scheduling::slides::term_at;
+use fz_store::IntSet;
 
 /// The first bin, from `first` on, that has another load than the one that is given for it.
 pub(crate) fn other_load(

@@ -12,9 +12,11 @@ ghost use Rattle.fz_reasons.specs.Reasons.{IsMisplaced, Says, in_sets, is_mispla
 
 use crate::places::{last_index, lies_between};
 use crate::reason::{Member, Reason};
-use fz_builtins::{
-    ArgumentView, Builtin, Elements, IntSet, has, index_at, place_from, same_set, set_element,
-};
+use fz_globals::{has, index_at, place_from};
+use fz_kernel::arrays::set_element;
+use fz_kernel::sets::same_set;
+use fz_kernel::{ArgumentView, Elements};
+use fz_store::{Builtin, IntSet};
 use std::alloc::{AllocError, Global};
 
 /// A number that is in one set and not in another, or that isn't in the set; or that two sets are

@@ -11,7 +11,8 @@ ghost use Rattle.fz_reasons.specs.declared.reason.Quantity.TheVariants as of;
 use crate::arranged::adds_up;
 use crate::reason::{Negative, Quantity};
 use crate::tasks::stretch_at;
-use fz_builtins::{ArgumentView, Builtin};
+use fz_kernel::ArgumentView;
+use fz_store::Builtin;
 
 /// The first quantity that is below 0 and must not be.
 pub(crate) fn by_negative(builtin: Builtin, view: &ArgumentView<'_, '_>) -> Option<Negative>

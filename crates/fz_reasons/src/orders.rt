@@ -7,7 +7,11 @@ ghost use Rattle.fz_reasons.specs.Reasons.{ComesEarly, Says, numbers_at};
 
 use crate::readings::{element_kind, numbers_in};
 use crate::reason::{Difference, Early, ElementKind, Reason};
-use fz_builtins::{ArgumentView, Builtin, Elements, has_only, numbers_in_order, numbers_of};
+use fz_globals::numbers_in_order;
+use fz_globals::precedence::has_only;
+use fz_kernel::arrays::numbers_of;
+use fz_kernel::{ArgumentView, Elements};
+use fz_store::Builtin;
 use std::alloc::{AllocError, Global};
 
 /// Where two lists first differ, or where a value comes too early.

@@ -8,7 +8,9 @@ ghost use Rattle.fz_reasons.specs.Reasons.{Says, neighbours_of};
 
 use crate::readings::{element_kind, numbers_in};
 use crate::reason::{Clash, Neighbours, Reason, Relation, Sides};
-use fz_builtins::{ArgumentView, Builtin, Elements, are_disjoint};
+use fz_globals::partition::are_disjoint;
+use fz_kernel::{ArgumentView, Elements};
+use fz_store::Builtin;
 use std::alloc::{AllocError, Global};
 
 /// Two elements that are equal, two sets that have an element in common, or two neighbours that

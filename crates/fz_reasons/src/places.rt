@@ -6,7 +6,7 @@ ghost use Rattle.fz_builtins.specs.of_kernel.Views.{ints};
 ghost use Rattle.fz_reasons.specs.Arranged.{IsNoIndex};
 
 use crate::arrangement::NoIndex;
-use fz_builtins::Elements;
+use fz_kernel::Elements;
 
 /// The first element that isn't one of `count` numbers from `first` on.
 pub(crate) fn no_index(elements: &Elements, first: i64, count: usize) -> Option<NoIndex>

@@ -5,7 +5,9 @@ ghost use Rattle.fz_builtins.specs.of_kernel.Views.{ints, slots_of, under};
 ghost use Rattle.fz_reasons.specs.Reasons.{element_kind, numbers_of};
 
 use crate::reason::ElementKind;
-use fz_builtins::{Builtin, Elements, number_of_truth};
+use fz_kernel::Elements;
+use fz_kernel::numbers::number_of_truth;
+use fz_store::Builtin;
 use std::alloc::{AllocError, Global};
 
 /// How many numbers there are.

@@ -7,7 +7,9 @@ ghost use Rattle.fz_builtins.specs.Said.{is_result};
 ghost use Rattle.fz_reasons.specs.Reasons.{Says};
 
 use crate::reason::{OtherNumber, OtherTruth, Reason};
-use fz_builtins::{ArgumentView, Builtin, Said, SetError, said_of};
+use fz_builtins::{Said, said_of};
+use fz_kernel::ArgumentView;
+use fz_store::{Builtin, SetError};
 use std::alloc::{AllocError, Global};
 
 /// The result of a row that has one, a number or a Boolean, where the argument has another value.

@@ -8,7 +8,9 @@ ghost use Rattle.fz_reasons.specs.Arranged.{ComesBack, IsShortRing, LeavesOut};
 use crate::arrangement::Ring;
 use crate::readings::number_count;
 use crate::tours::as_place;
-use fz_builtins::{Elements, count_moved, first_moved, int_element_at};
+use fz_globals::tours::{count_moved, first_moved};
+use fz_kernel::Elements;
+use fz_kernel::arrays::int_element_at;
 
 /// The position that follows a position; none where that is no position.
 #[tactic(auto, using(crate::proofs::Touring::not_followed))]

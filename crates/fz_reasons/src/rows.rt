@@ -23,7 +23,9 @@ use crate::results::by_result;
 use crate::sides::unlike;
 use crate::tasks::by_tasks;
 use crate::tours::by_tour;
-use fz_builtins::{ArgumentView, Builtin, Form, Known, Outcome, Readiness, control, of_builtin};
+use fz_builtins::{Outcome, control, of_builtin};
+use fz_kernel::{ArgumentView, Readiness};
+use fz_store::{Builtin, Form, Known};
 use std::alloc::{AllocError, Global};
 
 /// Why the row of a builtin fails at the values that the argument view gives; none where it holds,
@@ -82,8 +84,8 @@ fn by_numbers(builtin: Builtin, view: &ArgumentView<'_, '_>) -> Option<Reason>
     by_tasks(builtin, view)
 }
 
-/// Whether the row of a builtin holds at the values that the argument view gives; it doesn't where a
-/// number of it can't be computed.
+/// Whether the row of a builtin holds at the values that the argument view gives; it doesn't where
+/// a number of it can't be computed.
 pub(crate) fn holds(
     alloc: Global,
     builtin: Builtin,

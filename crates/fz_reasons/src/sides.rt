@@ -7,10 +7,11 @@ ghost use Rattle.fz_reasons.specs.Compared.{comparison, leave, operands, sides};
 ghost use Rattle.fz_reasons.specs.Reasons.{Unlike};
 
 use crate::reason::{Operands, Relation, Sides};
-use fz_builtins::{
-    ArgumentView, Builtin, all_true, any_true, count_of, number_of_truth, sum_of_products,
-    sum_where_true,
-};
+use fz_globals::counts::count_of;
+use fz_kernel::ArgumentView;
+use fz_kernel::arrays::{all_true, any_true, sum_of_products, sum_where_true};
+use fz_kernel::numbers::number_of_truth;
+use fz_store::Builtin;
 
 /// The numbers that a row compares, and how; none of a row that compares no two numbers, and where
 /// a sum leaves 128 bits.

@@ -1,7 +1,7 @@
 //! A sum of products in words, first with the names of variables and then with their values.
 
 use crate::teller::Teller;
-use fz_builtins::Elements;
+use fz_kernel::Elements;
 use std::alloc::{AllocError, Global};
 
 /// The most products that are listed.

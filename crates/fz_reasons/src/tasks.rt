@@ -8,7 +8,11 @@ ghost use Rattle.fz_reasons.specs.Elements.{AreBoxes, BothLast, IsBin, IsLoad, I
 ghost use Rattle.fz_reasons.specs.Reasons.{Says};
 
 use crate::reason::{Boxes, Load, Overlap, Reason, Relation, Sides, Stretch};
-use fz_builtins::{ArgumentView, Builtin, Elements, load_of, sum, used_at};
+use fz_kernel::numbers::sum;
+use fz_kernel::{ArgumentView, Elements};
+use fz_scheduling::bins::load_of;
+use fz_scheduling::tasks::used_at;
+use fz_store::Builtin;
 
 /// Two tasks or boxes that overlap, a time at which more is used than there is, or a bin in which
 /// lies more than there is room for.

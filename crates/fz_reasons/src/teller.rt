@@ -1,9 +1,8 @@
 //! How a reason is put into words: what is said grows, with the names of variables in it.
 
 use crate::told::{Piece, Told, Who};
-use fz_builtins::{
-    Argument, ArgumentView, Builtin, ConstraintParts, Elements, Partial, Slot, part,
-};
+use fz_kernel::{ArgumentView, Elements};
+use fz_store::{Argument, Builtin, ConstraintParts, Partial, Slot, part};
 use std::alloc::{AllocError, Global};
 
 /// The most variables that are in a reason: no list of them is shown that is as long.

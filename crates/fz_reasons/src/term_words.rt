@@ -3,7 +3,9 @@
 
 use crate::sum_words::say_term;
 use crate::teller::{Teller, from_one};
-use fz_builtins::{Builtin, Said, SetError, place_from, said_of};
+use fz_builtins::{Said, said_of};
+use fz_globals::place_from;
+use fz_store::{Builtin, SetError};
 use std::alloc::AllocError;
 
 /// The result of a row by its other arguments: the argument that has to be it, and the value, if

@@ -11,7 +11,11 @@ ghost use Rattle.fz_reasons.specs.Elements.{IsInNoSet, IsNoIndexOf, IsNotBack, I
 ghost use Rattle.fz_reasons.specs.Reasons.{LeadsOneWay, Says};
 
 use crate::reason::{OneWay, Reason};
-use fz_builtins::{ArgumentView, Builtin, Elements, IntSet, index_at, int_element_at, is_held};
+use fz_globals::channels::is_held;
+use fz_globals::index_at;
+use fz_kernel::arrays::int_element_at;
+use fz_kernel::{ArgumentView, Elements};
+use fz_store::{Builtin, IntSet};
 use std::alloc::{AllocError, Global};
 
 /// An index that the other list doesn't lead back to.

@@ -11,7 +11,8 @@ use crate::sum_words::say_sum;
 use crate::teller::Teller;
 use crate::term_words::{result_of, say_front, say_result};
 use crate::told::Told;
-use fz_builtins::{Builtin, Form, Known, Model, Partial, PointParts, Readiness};
+use fz_kernel::Readiness;
+use fz_store::{Builtin, Form, Known, Model, Partial, PointParts};
 use std::alloc::{AllocError, Global};
 
 /// Why the constraint at a point fails, in words; none of another point, and none where there is no

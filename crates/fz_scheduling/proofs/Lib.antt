@@ -1,7 +1,6 @@
 pub mod Before
 pub mod Chosen
 pub mod Followed
-pub mod Laden
 pub mod Terms
 pub mod Weighed
 pub mod Windowed

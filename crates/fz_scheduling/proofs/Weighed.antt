@@ -2,7 +2,7 @@
 use Rattle.std.proofs.Common.{◌≡◌, ℤ, true, false, ◌&&◌, List, map, sym, ap, ◌∙◌}
 use Rattle.std.specs.List.{filter, zip}
 use Rattle.std.specs.FinSet as sets
-use Rattle.fz_kernel.specs.of_meaning.of_syntax.Sets.{NumberSet}
+use Rattle.fz_kernel.specs.of_meaning.of_base.Sets.{NumberSet}
 use Rattle.fz_kernel.proofs.of_meaning.of_base.Covers.{and-false}
 use Rattle.fz_kernel.specs.of_meaning.Relations.{◌=ℤ◌, all_different, is_weight_of, total}
 

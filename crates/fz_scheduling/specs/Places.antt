@@ -1,14 +1,14 @@
 -- What is at an index of an array. All but `number_at`, `span_at` and `terms` serves private
 -- functions only.
 use Rattle.std.specs.Prelude.{ℕ, ℤ, pos, Bool, ◌&&◌, ◌||◌, List, Option, None, Some, get_or, int_le}
-use Rattle.fz_kernel.specs.of_meaning.of_syntax.Sets.{NumberSet}
+use Rattle.fz_kernel.specs.of_meaning.of_base.Sets.{NumberSet}
 use Rattle.fz_kernel.specs.of_meaning.Relations.{◌=ℤ◌, Span, Box, marks, are_apart, is_empty_span, lie_apart, has_no_area, used_at}
 
 -- the number at an index, and 0 past the end
 abbrev pub number_at : List ℤ → ℕ → ℤ
 number_at xs i = get_or xs i (pos 0)
 
--- what is added up along a list: its elements, or 1 for each that is in the set and 0 for the others
+-- what is added up along a list: its elements, or 1 for each that is in the set and 0 for others
 abbrev pub terms : Option NumberSet → List ℤ → List ℤ
 terms None xs = xs
 terms (Some s) xs = marks s xs

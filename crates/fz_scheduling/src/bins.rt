@@ -72,12 +72,11 @@ fn last_from(first: i64, count: usize) -> i128
 fn loads_are(first: i64, bins: &Elements, weights: &Elements, loads: &Elements) -> bool
     ensures { result ≡ loads_are first (ints bins.now) (ints weights.now) (ints loads.now) }
 {
-    for place in 0..number_count(loads) {
-        if !has_load(first, bins, weights, loads, place) {
-            return false;
-        }
-    }
-    true
+    all_between(
+        0,
+        number_count(loads),
+        |place| has_load(first, bins, weights, loads, place),
+    )
 }
 
 // Whether the load at an index is that of the bin that it is given for.

@@ -6,8 +6,9 @@ ghost use Rattle.fz_kernel.specs.Views.{ints};
 ghost use Rattle.fz_scheduling.specs.Places.{number_at, terms};
 
 use crate::reading::{number_at, number_count};
+use fz_kernel::Elements;
 use fz_kernel::numbers::number_of_truth;
-use fz_kernel::{Elements, IntSet};
+use fz_store::IntSet;
 
 /// Whether the sum of each run of `width` neighbours lies from `low` to `high`; false where the
 /// width is negative. There are runs of none in any list, and their sum is 0. Where there is a set

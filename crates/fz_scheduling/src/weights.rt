@@ -7,8 +7,9 @@ ghost use Rattle.fz_kernel.specs.of_meaning.Relations.{◌=ℤ◌, is_weight_of,
 ghost use Rattle.fz_kernel.specs.Views.{ints};
 
 use crate::reading::{common_places, number_at};
+use fz_kernel::Elements;
 use fz_kernel::arrays::{all_elements_different, numbers_of};
-use fz_kernel::{Elements, IntSet, SetError};
+use fz_store::{IntSet, SetError};
 use std::alloc::Global;
 
 /// The sum of the weights of the things that are in the set; none where two things are equal, or

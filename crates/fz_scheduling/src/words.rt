@@ -4,9 +4,10 @@ ghost use Rattle.fz_kernel.specs.of_meaning.Relations.{is_word, lies_between, ru
 ghost use Rattle.fz_kernel.specs.Views.{ints};
 
 use crate::reading::{number_at, number_count};
+use fz_kernel::Elements;
 use fz_kernel::arrays::int_element_at;
 use fz_kernel::numbers::product;
-use fz_kernel::{Elements, IntSet};
+use fz_store::IntSet;
 
 /// Whether the word leads from the first state to a final one. The transitions are written row by
 /// row, one row for each state.

@@ -1,5 +1,5 @@
--- Bounds that become narrower and lose no solution, until a point holds nowhere inside them (private
--- functions only).
+-- Bounds that become narrower and lose no solution, until a point holds nowhere inside them
+-- (private functions only).
 use Rattle.fz_bounds.specs.Bounds.{IsInside, Ranges}
 use Rattle.fz_bounds.specs.of_model.Meaning.{Assignment, Model, Partial, whole}
 use Rattle.fz_bounds.specs.of_model.Openings.{HasEach}

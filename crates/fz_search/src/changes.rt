@@ -3,7 +3,9 @@
 use crate::conflict::Deduction;
 use crate::stop::Stop;
 use crate::work::Work;
-use fz_bounds::{Domain, Ends, Value, number_as};
+use fz_bounds::number_as;
+use fz_index::Ends;
+use fz_store::{Domain, Value};
 use std::alloc::AllocError;
 
 /// The number that a value is read as, where it is no set.

@@ -1,7 +1,7 @@
 //! Contradictions that a search meets.
 
 use crate::work::Work;
-use fz_bounds::{Ends, Search};
+use fz_index::{Ends, Search};
 use std::alloc::AllocError;
 
 /// The point of a deduction that is only supposed.

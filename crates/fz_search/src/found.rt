@@ -1,6 +1,7 @@
 //! What a search is asked, and what it comes to.
 
-use fz_bounds::{Model, Partial, Refutation, Search};
+use fz_index::{Refutation, Search};
+use fz_store::{Model, Partial};
 use std::alloc::Global;
 
 /// What is searched: values for the variables of a model that have none.

@@ -3,7 +3,9 @@
 use crate::stop::Stop;
 use crate::subsets::{subset, subsets_of};
 use crate::work::Work;
-use fz_bounds::{End, Kind, State, Value, number_as};
+use fz_bounds::number_as;
+use fz_index::End;
+use fz_store::{Kind, State, Value};
 
 /// At most this many numbers are tried for one variable.
 const MOST_VALUES: i64 = 1000;

@@ -23,5 +23,4 @@ mod subsets;
 mod work;
 
 pub use found::Found;
-pub use fz_bounds::{Model, Overview, Partial};
 pub use searching::search;

@@ -2,7 +2,9 @@
 
 use crate::stop::Stop;
 use crate::work::Work;
-use fz_bounds::{Ends, Outlook, Product, Range, Relation, Row, Sums, Value};
+use fz_bounds::{Outlook, Range};
+use fz_index::{Ends, Product, Relation, Row, Sums};
+use fz_store::Value;
 
 /// The number in 64 bits, or the nearest.
 fn nearest(number: i128) -> i64 {

@@ -3,7 +3,7 @@
 use crate::stop::Stop;
 use crate::subsets::{subset, subsets_of};
 use crate::work::Work;
-use fz_bounds::{Kind, State, Value};
+use fz_store::{Kind, State, Value};
 
 impl<'m, 'a> Work<'m, 'a> {
     /// Visits a point that is no linear row.

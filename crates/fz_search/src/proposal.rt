@@ -5,7 +5,8 @@ ghost use Rattle.fz_bounds.specs.of_model.Meaning.{IsPartial};
 ghost use Rattle.fz_bounds.specs.of_model.Steps.{kind_at};
 ghost use Rattle.fz_bounds.specs.of_model.Relations.{kind_of};
 
-use fz_bounds::{Model, Partial, State, Value, forced_any, kind_of, same_kind, state};
+use fz_model::{forced_any, state};
+use fz_store::{Model, Partial, State, Value, kind_of, same_kind};
 use std::alloc::{AllocError, Global};
 
 /// Whether a value is of the kind of the variable of a number.

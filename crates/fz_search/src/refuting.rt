@@ -7,7 +7,8 @@ ghost use Rattle.fz_search.specs.Refuted.{HaveNoSolution, HoldAll, KeepSolutions
 
 use crate::conflict::{Conflict, Deduction, NO_POINT};
 use crate::found::{Found, Task};
-use fz_bounds::{Bounds, Left, Narrower, Narrowing, Refutation, Tightened, cannot_hold};
+use fz_bounds::{Bounds, Tightened, cannot_hold};
+use fz_index::{Left, Narrower, Narrowing, Refutation};
 use std::alloc::AllocError;
 
 /// At most so many variables are told of a point.
@@ -151,7 +152,8 @@ pub(crate) fn learned(
     conflict: &Conflict,
 ) -> Result<Option<Found>, AllocError>
     requires inside { HoldAll task.now.model.now task.now.filling.now bounds.old }
-    ensures found { IfOk result (λ o. IfSome o (IsFoundFor task.now.model.now task.now.filling.now)) }
+    ensures found { IfOk result
+        (λ o. IfSome o (IsFoundFor task.now.model.now task.now.filling.now)) }
     ensures inside { IfOk result (λ _. HoldAll task.now.model.now task.now.filling.now bounds.new) }
 {
     if let Some(guess) = conflict.guess {

@@ -10,10 +10,9 @@ use crate::proposal::copied;
 use crate::refuting::learned;
 use crate::stop::Stop;
 use crate::work::{Budget, Work};
-use fz_bounds::{
-    Bounds, Domain, End, Ends, Goal, Kind, Model, Narrowing, Partial, PointParts, Scalars, Search,
-    Slot, Term, Visit, known_of,
-};
+use fz_bounds::Bounds;
+use fz_index::{End, Ends, Narrowing, Search, Visit, known_of};
+use fz_store::{Domain, Goal, Kind, Model, Partial, PointParts, Scalars, Slot, Term};
 use std::alloc::{AllocError, Global};
 
 /// At most so many numbers are lost on one way.
@@ -205,7 +204,8 @@ fn attempt(
     budget: &mut Budget,
 ) -> Result<Option<Found>, AllocError>
     requires inside { HoldAll task.now.model.now task.now.filling.now bounds.old }
-    ensures found { IfOk result (λ o. IfSome o (IsFoundFor task.now.model.now task.now.filling.now)) }
+    ensures found { IfOk result (λ o. IfSome o
+        (IsFoundFor task.now.model.now task.now.filling.now)) }
     ensures inside { IfOk result (λ _. HoldAll task.now.model.now task.now.filling.now bounds.new) }
 {
     match gone(task, way, bounds, budget)? {

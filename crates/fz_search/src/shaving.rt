@@ -1,8 +1,10 @@
-//! Shaving: numbers at the ends of a variable's bounds with which a point can't hold are taken away.
+//! Shaving: numbers at the ends of a variable's bounds by which a point can't hold are taken away.
 
 use crate::stop::Stop;
 use crate::work::Work;
-use fz_bounds::{End, Kind, Tightened};
+use fz_bounds::Tightened;
+use fz_index::End;
+use fz_store::Kind;
 
 /// At most so many stretches of numbers are tried at one end.
 const MOST_STRETCHES: usize = 130;

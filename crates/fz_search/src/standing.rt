@@ -1,6 +1,8 @@
 //! What is known of the points of a model so far.
 
-use fz_bounds::{Bounds, Ends, Partial, Product, Sums};
+use fz_bounds::Bounds;
+use fz_index::{Ends, Product, Sums};
+use fz_store::Partial;
 
 /// All numbers.
 const ALL: Ends = Ends {

@@ -1,7 +1,7 @@
 //! The subsets of a domain with few numbers.
 
 use crate::work::Work;
-use fz_bounds::{Domain, IntSet, Value};
+use fz_store::{Domain, IntSet, Value};
 use std::alloc::{AllocError, Global};
 
 /// All subsets of at most this many numbers are tried.

@@ -5,7 +5,9 @@ use crate::found::Task;
 use crate::proposal::Proposal;
 use crate::standing::{NOTHING, Standing, ends_in, standing_of};
 use crate::stop::Stop;
-use fz_bounds::{Bounds, Domain, Ends, Kind, Model, Search, Visit};
+use fz_bounds::Bounds;
+use fz_index::{Ends, Search, Visit};
+use fz_store::{Domain, Kind, Model};
 use std::alloc::{AllocError, Global};
 use std::collections::VecDeque;
 

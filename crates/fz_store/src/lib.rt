@@ -17,8 +17,8 @@ mod values;
 
 pub use found::{Found, Scalars, What};
 pub use fz_names::{
-    Builtin, ConstraintItems, DeclItems, Domain, Filled, Form, IntSet, Kind, Known, Matrix,
-    ModelError, Names, Offer, PredicateItems, SetError, Shape, Standing, State, Term, Value, Wide,
+    Builtin, Domain, Filled, Form, IntSet, Kind, Known, Matrix,
+    ModelError, Names, SetError, Shape, Standing, State, Term, Value, Wide,
     same_text,
 };
 pub use model::{Model, assembled};

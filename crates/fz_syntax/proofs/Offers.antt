@@ -28,7 +28,8 @@ use Rattle.fz_syntax.specs.Placed.{PlacedToken, placed_predicate, placed_decl, p
 use Rattle.fz_syntax.specs.Reading.{Fault, Read, Reader, ◌>>=◌, next_passes, many_upto, many_at, any_number, solve_at, tree_at, tree_of, ended, whole}
 use Rattle.fz_syntax.specs.Outcome.{Fails, IsErrorOf, IsWhole}
 use Rattle.fz_syntax.specs.Walk.{ahead, lexemes, Walk}
-use Rattle.fz_syntax.specs.Offering.{bare_all, placed_all, IsTextOfAllWithin, IsRefusedWithin, IsRefusedAt, IsRefusedBy, by_lexer, by_grammar, Part, kind_before, from_solve, from_predicates, all_items, IsLeft, IsWithin, Kind, Leaves, Took, TookAll, TookOne, changed}
+use Rattle.fz_syntax.specs.Offering.{placed_all, IsTextOfAllWithin, IsRefusedWithin, IsRefusedAt, IsRefusedBy, by_lexer, by_grammar, Part, kind_before, from_solve, from_predicates, all_items, IsLeft, IsWithin, Kind, Leaves, Took, TookAll, TookOne, changed}
+use Rattle.fz_tree.specs.View.{bare_all}
 use Rattle.fz_syntax.proofs.Lists.{Shrinks, put_first, many_step, many_ends, many_fails}
 use Rattle.fz_syntax.proofs.Separated.{fails_bind, fails_like}
 use Rattle.fz_syntax.proofs.Walks.{walk_none, walk_still, walk_then}

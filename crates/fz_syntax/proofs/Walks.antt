@@ -35,6 +35,7 @@ use Rattle.fz_syntax.specs.Placed.{PlacedToken, AgreeWith, unplaced, plain, plac
 use Rattle.fz_syntax.specs.Walk.{ahead, lexemes, start_of, end_of, Consumed, Passed, Walk, Passes, Walks, placed_listed}
 use Rattle.fz_syntax.proofs.Laws.{Takes, marked_tokens, worded_tokens, mark_takes, word_takes}
 use Rattle.fz_syntax.proofs.PrintedLaws.{array_tokens}
+use Rattle.fz_syntax.proofs.Separated.{fails_bind, fails_from}
 
 -- ---- tokens that were taken
 
@@ -403,3 +404,8 @@ pub note_list_walk : {p q r : Parser} (bs : List NoteBasic) → Walk p q (placed
     → Walk q r (placed_separated placed_note_basic bs ++ placed_mark CloseBracket)
     → Walk p r (placed_between OpenBracket CloseBracket (placed_parts (map placed_note_basic bs)))
 note_list_walk {p} {q} {r} bs opened w = subst (λ s. Walk p r (placed_between OpenBracket CloseBracket s)) (sym (parts_are placed_note_basic bs)) (walk_then opened w)
+
+-- what a step of the parser cites, and what one of several steps does
+pub ruleset step = (passed_then, passed_none, passed, walk_none, fails_from)
+
+pub ruleset steps = (passed_then, passed_none, passed, walk_none, fails_from, fails_bind)

@@ -1,7 +1,8 @@
 -- The items of a model as they are offered, one after another, each kind in its turn. A reader need
--- believe only what is above `Part`. The rest says what is left to be offered: `PredicateItems::new`
--- promises that what is left then is all of the text, each call that with the item that it offers
--- what is left behind it was left before, and the last one that nothing is left.
+-- believe only what is above `Part`. The rest says what is left to be offered:
+-- `PredicateItems::new` promises that what is left then is all of the text, each call that with the
+-- item that it offers what is left behind it was left before, and the last one that nothing is
+-- left.
 use Rattle.std.specs.Prelude.{◌≡◌, ◌<◌, ◌≤◌, ℕ, List, [], ◌∷◌, ◌++◌, map, length, codes, Bool, None, Result, Ok, Err}
 use Rattle.std.specs.List.{flat_map}
 use Rattle.fz_tree.specs.of_lex.View.{IsLexicalFaultWithin, IsPlacedWithin}
@@ -19,41 +20,17 @@ use Rattle.fz_syntax.specs.declared.parser.cursor.Parser.{Parser}
 use Rattle.fz_syntax.specs.declared.reader.Offer.{Offer}
 use Rattle.fz_syntax.specs.declared.reader.Offer.TheVariants.{Item, End}
 use Rattle.fz_syntax.specs.declared.reader.Rest.{Rest}
-use Rattle.fz_tree.specs.declared.tree.Ast.{Ast}
 use Rattle.fz_tree.specs.declared.tree.Predicate.{Predicate}
 use Rattle.fz_tree.specs.declared.tree.Decl.{Decl}
 use Rattle.fz_tree.specs.declared.tree.Constraint.{Constraint}
 use Rattle.fz_tree.specs.declared.tree.Solve.{Solve}
-use Rattle.fz_tree.specs.View.{bare_predicate, bare_decl, bare_constraint, bare_solve}
+use Rattle.fz_tree.specs.View.{TreeItems, bare_all, bare_predicate, bare_decl, bare_constraint, bare_solve}
 use Rattle.fz_syntax.specs.Placed.{PlacedToken, ArePlacedIn, placed_predicate, placed_decl, placed_constraint, placed_solve}
 use Rattle.fz_tree.specs.Text.{IsTextOfTreeWithin}
 use Rattle.fz_syntax.specs.Spots.{Stand, spots_from}
 use Rattle.fz_syntax.specs.Reading.{Fault, Read, Reader, ◌>>=◌, many_at, any_number, is_word, begins_decl, predicate_at, decl_at, constraint_at, solve_at, whole}
 use Rattle.fz_tree.specs.Refusals.{IsRefusalWithin}
 use Rattle.fz_syntax.specs.Walk.{ahead, lexemes, Walk}
-
--- The items of a tree, those of each kind in source order.
-pub record TreeItems : Type 0 where
-  pub predicates : List Predicate
-  pub decls : List Decl
-  pub constraints : List Constraint
-  pub solve : Solve
-
-abbrev pub items_of_tree : Ast → TreeItems
-items_of_tree a = record {
-  predicates = a.predicates.items;
-  decls = a.decls.items;
-  constraints = a.constraints.items;
-  solve = a.solve;
-}
-
-abbrev pub bare_all : TreeItems → tree.Tree
-bare_all t = record {
-  predicates = map bare_predicate t.predicates;
-  decls = map bare_decl t.decls;
-  constraints = map bare_constraint t.constraints;
-  solve = bare_solve t.solve;
-}
 
 abbrev pub placed_all : TreeItems → List PlacedToken
 placed_all t = flat_map placed_predicate t.predicates ++ flat_map placed_decl t.decls

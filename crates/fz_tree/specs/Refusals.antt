@@ -27,8 +27,10 @@ IsValue view (Err _) value = ⊥
 -- order is this project's profile.)
 abbrev pub IsRefusalWithin : Limits → List ℕ → SyntaxError → Type 0
 IsRefusalWithin limits source errors.TooLong = limits.bytes < length source
-IsRefusalWithin limits source (errors.BadByte span) = IsLexicalFaultWithin limits source (errors.BadByte span)
-IsRefusalWithin limits source (errors.TooLarge span) = IsLexicalFaultWithin limits source (errors.TooLarge span)
+IsRefusalWithin limits source (errors.BadByte span) =
+    IsLexicalFaultWithin limits source (errors.BadByte span)
+IsRefusalWithin limits source (errors.TooLarge span) =
+    IsLexicalFaultWithin limits source (errors.TooLarge span)
 IsRefusalWithin limits source (errors.Float span) =
     (tokens : List SpannedToken) × LexesWithin limits source tokens
 IsRefusalWithin limits source (errors.Syntax span) =

@@ -175,3 +175,28 @@ bare_printed p = record { name = bare_name p.name; value = bare_printed_value p.
 -- the plain items of printed items
 abbrev pub bare_items : List Printed → List tree.Printed
 bare_items items = map bare_printed items
+
+-- ---- a tree by its items
+
+-- The items of a tree, those of each kind in source order.
+pub record TreeItems : Type 0 where
+  pub predicates : List Predicate
+  pub decls : List Decl
+  pub constraints : List Constraint
+  pub solve : Solve
+
+abbrev pub items_of_tree : Ast → TreeItems
+items_of_tree a = record {
+  predicates = a.predicates.items;
+  decls = a.decls.items;
+  constraints = a.constraints.items;
+  solve = a.solve;
+}
+
+abbrev pub bare_all : TreeItems → tree.Tree
+bare_all t = record {
+  predicates = map bare_predicate t.predicates;
+  decls = map bare_decl t.decls;
+  constraints = map bare_constraint t.constraints;
+  solve = bare_solve t.solve;
+}

@@ -146,8 +146,8 @@ pub(crate) fn expected_at(
     Ok(None)
 }
 
-/// A fault that has a name of its own, by what was expected, what is there, and how many tokens come
-/// before.
+/// A fault that has a name of its own, by what was expected, what is there, and how many tokens
+/// come before.
 fn named(symbol: Symbol, token: Option<Token<'_>>, before: usize) -> Option<&'static str> {
     match (symbol, token) {
         (Symbol::Solve, None) if before == 0 => Some("the model is empty"),

@@ -179,8 +179,8 @@ pub fn refusal_line(
     object.line()
 }
 
-/// The line of a refusal for the table of names: for its line at this byte range, or since it is too
-/// long.
+/// The line of a refusal for the table of names: for its line at this byte range, or since it is
+/// too long.
 pub fn names_line(
     alloc: Global,
     place: Option<Span>,

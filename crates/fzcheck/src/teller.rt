@@ -150,8 +150,8 @@ impl<'r, 'n> Teller<'r, 'n> {
         self.told = None;
     }
 
-    /// The lines of JSON of an event: with that of its explanation for a block, where each block's is
-    /// told, and before the answer for the block that it names.
+    /// The lines of JSON of an event: with that of its explanation for a block, where each block's
+    /// is told, and before the answer for the block that it names.
     fn lines(&mut self, event: &Event<'_, '_>) -> Result<Vec<u8>, AllocError> {
         let alloc = self.rt.alloc();
         match event {

@@ -16,7 +16,7 @@ use fz_tree::{Limits, Mark, Note, NoteArg, NoteBasic, TokenKind};
 impl<'a> Parser<'a> {
     /// An annotation of at most `depth` levels.
     #[cycle(notes)]
-    #[tactic(auto, unfolding(crate::specs::Reading::note_at), using(crate::proofs::Walks::passed_then, crate::proofs::Walks::passed_none, crate::proofs::Walks::passed, crate::proofs::Walks::walk_none, crate::proofs::Separated::fails_from, crate::proofs::Separated::fails_bind))]
+    #[tactic(auto, unfolding(crate::specs::Reading::note_at), using(crate::proofs::Walks::steps))]
     pub(crate) fn note(&mut self, limits: &Limits, depth: usize) -> Result<Note<'a>, Refusal>
         ensures read { Gives self.old self.new result bare_note (note_at limits.now depth) }
         ensures walked { Walks self.old self.new result placed_note }
@@ -34,7 +34,7 @@ impl<'a> Parser<'a> {
     }
 
     #[cycle(notes)]
-    #[tactic(auto, unfolding(crate::specs::Reading::note_args_at, crate::specs::Reading::mark_at), using(crate::proofs::Walks::passed_then, crate::proofs::Walks::passed_none, crate::proofs::Walks::passed, crate::proofs::Walks::walk_none, crate::proofs::Separated::fails_from, crate::proofs::Separated::fails_bind))]
+    #[tactic(auto, unfolding(crate::specs::Reading::note_args_at, crate::specs::Reading::mark_at), using(crate::proofs::Walks::steps))]
     pub(crate) fn note_args(
         &mut self,
         limits: &Limits,
@@ -74,7 +74,7 @@ impl<'a> Parser<'a> {
     }
 
     #[cycle(notes)]
-    #[tactic(auto, unfolding(crate::specs::Reading::note_arg_at), using(crate::proofs::Walks::passed_then, crate::proofs::Walks::passed_none, crate::proofs::Walks::passed, crate::proofs::Walks::walk_none, crate::proofs::Separated::fails_from, crate::proofs::Separated::fails_bind))]
+    #[tactic(auto, unfolding(crate::specs::Reading::note_arg_at), using(crate::proofs::Walks::steps))]
     pub(crate) fn note_arg(&mut self, limits: &Limits, depth: usize) -> Result<NoteArg<'a>, Refusal>
         ensures read { Gives self.old self.new result bare_arg
             (note_arg_at limits.now depth (note_at limits.now depth)) }
@@ -88,7 +88,7 @@ impl<'a> Parser<'a> {
     }
 
     #[cycle(notes)]
-    #[tactic(auto, unfolding(crate::specs::Reading::list_at, crate::specs::Reading::mark_at), using(crate::proofs::Walks::passed_then, crate::proofs::Walks::passed_none, crate::proofs::Walks::passed, crate::proofs::Walks::walk_none, crate::proofs::Separated::fails_from, crate::proofs::Separated::fails_bind))]
+    #[tactic(auto, unfolding(crate::specs::Reading::list_at, crate::specs::Reading::mark_at), using(crate::proofs::Walks::steps))]
     pub(crate) fn note_list(
         &mut self,
         limits: &Limits,
@@ -152,7 +152,7 @@ impl<'a> Parser<'a> {
     }
 
     #[cycle(notes)]
-    #[tactic(auto, unfolding(crate::specs::Reading::note_basic_at), using(crate::proofs::Walks::passed_then, crate::proofs::Walks::passed_none, crate::proofs::Walks::passed, crate::proofs::Walks::walk_none, crate::proofs::Separated::fails_from, crate::proofs::Separated::fails_bind))]
+    #[tactic(auto, unfolding(crate::specs::Reading::note_basic_at), using(crate::proofs::Walks::steps))]
     pub(crate) fn note_basic(
         &mut self,
         limits: &Limits,

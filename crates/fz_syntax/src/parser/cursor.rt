@@ -162,7 +162,7 @@ impl<'a> Parser<'a> {
     }
 
     #[inline(always)]
-    #[tactic(auto, unfolding(crate::specs::Reading::mark_at), using(crate::proofs::Walks::passed_then, crate::proofs::Walks::passed_none, crate::proofs::Walks::passed, crate::proofs::Walks::walk_none, crate::proofs::Separated::fails_from))]
+    #[tactic(auto, unfolding(crate::specs::Reading::mark_at), using(crate::proofs::Walks::step))]
     pub(crate) fn expect(&mut self, mark: Mark) -> Result<(), Refusal>
         ensures read { Gives self.old self.new result (λ _. tt) (mark_at mark) }
         ensures walked { Passes self.old self.new result }
@@ -174,7 +174,7 @@ impl<'a> Parser<'a> {
         }
     }
 
-    #[tactic(auto, unfolding(crate::specs::Reading::word_at), using(crate::proofs::Walks::passed_then, crate::proofs::Walks::passed_none, crate::proofs::Walks::passed, crate::proofs::Walks::walk_none, crate::proofs::Separated::fails_from))]
+    #[tactic(auto, unfolding(crate::specs::Reading::word_at), using(crate::proofs::Walks::step))]
     pub(crate) fn expect_word(&mut self, word: &[u8]) -> Result<(), Refusal>
         ensures read { Gives self.old self.new result (λ _. tt) (word_at word.now) }
         ensures walked { Passes self.old self.new result }
@@ -202,7 +202,7 @@ impl<'a> Parser<'a> {
     }
 
     #[inline(always)]
-    #[tactic(auto, unfolding(crate::specs::Reading::name_at), using(crate::proofs::Walks::passed_then, crate::proofs::Walks::passed_none, crate::proofs::Walks::passed, crate::proofs::Walks::walk_none, crate::proofs::Separated::fails_from))]
+    #[tactic(auto, unfolding(crate::specs::Reading::name_at), using(crate::proofs::Walks::step))]
     pub(crate) fn name(&mut self) -> Result<Name<'a>, Refusal>
         ensures read { Gives self.old self.new result bare_name name_at }
         ensures walked { Walks self.old self.new result placed_name }
@@ -220,7 +220,7 @@ impl<'a> Parser<'a> {
     }
 
     #[inline(always)]
-    #[tactic(auto, unfolding(crate::specs::Reading::whole_at), using(crate::proofs::Walks::passed_then, crate::proofs::Walks::passed_none, crate::proofs::Walks::passed, crate::proofs::Walks::walk_none, crate::proofs::Separated::fails_from))]
+    #[tactic(auto, unfolding(crate::specs::Reading::whole_at), using(crate::proofs::Walks::step))]
     pub(crate) fn whole(&mut self) -> Result<i64, Refusal>
         ensures read { Gives self.old self.new result (λ n. n) whole_at }
         ensures walked { Passes self.old self.new result }

@@ -266,7 +266,7 @@ impl<'a> Parser<'a> {
     }
 
     /// Elements up to the mark that closes their list.
-    #[tactic(auto, unfolding(crate::specs::Reading::list_at, crate::specs::Reading::mark_at), using(crate::proofs::Walks::passed_then, crate::proofs::Walks::passed_none, crate::proofs::Walks::passed, crate::proofs::Walks::walk_none, crate::proofs::Separated::fails_from, crate::proofs::Separated::fails_bind))]
+    #[tactic(auto, unfolding(crate::specs::Reading::list_at, crate::specs::Reading::mark_at), using(crate::proofs::Walks::steps))]
     pub(crate) fn list<E: Element<'a>>(
         &mut self,
         limits: &Limits,

@@ -112,7 +112,7 @@ impl<'a> Parser<'a> {
     }
 
     /// Numbers after the brace that opened at `start`.
-    #[tactic(auto, unfolding(crate::specs::Reading::braces_at, crate::specs::Reading::list_at, crate::specs::Reading::mark_at), using(crate::proofs::Walks::passed_then, crate::proofs::Walks::passed_none, crate::proofs::Walks::passed, crate::proofs::Walks::walk_none, crate::proofs::Separated::fails_from, crate::proofs::Separated::fails_bind))]
+    #[tactic(auto, unfolding(crate::specs::Reading::braces_at, crate::specs::Reading::list_at, crate::specs::Reading::mark_at), using(crate::proofs::Walks::steps))]
     pub(crate) fn braces(&mut self, limits: &Limits, start: usize) -> Result<Literal, Refusal>
         ensures read { Gives self.old self.new result bare_literal (braces_at limits.now) }
         ensures walked { Passes self.old self.new result }
@@ -127,7 +127,7 @@ impl<'a> Parser<'a> {
     }
 
     #[inline(always)]
-    #[tactic(auto, unfolding(crate::specs::Reading::from_whole), using(crate::proofs::Walks::passed_then, crate::proofs::Walks::passed_none, crate::proofs::Walks::passed, crate::proofs::Walks::walk_none, crate::proofs::Separated::fails_from, crate::proofs::Separated::fails_bind))]
+    #[tactic(auto, unfolding(crate::specs::Reading::from_whole), using(crate::proofs::Walks::steps))]
     pub(crate) fn from_whole(&mut self, low: i64, start: usize) -> Result<Literal, Refusal>
         ensures read { Gives self.old self.new result bare_literal (from_whole low) }
         ensures walked { Passes self.old self.new result }
@@ -142,7 +142,7 @@ impl<'a> Parser<'a> {
 
     /// A literal whose first token starts at `start`.
     #[inline(always)]
-    #[tactic(auto, unfolding(crate::specs::Reading::literal_at), using(crate::proofs::Walks::passed_then, crate::proofs::Walks::passed_none, crate::proofs::Walks::passed, crate::proofs::Walks::walk_none, crate::proofs::Separated::fails_from, crate::proofs::Separated::fails_bind))]
+    #[tactic(auto, unfolding(crate::specs::Reading::literal_at), using(crate::proofs::Walks::steps))]
     fn literal_from(&mut self, limits: &Limits, start: usize) -> Result<Literal, Refusal>
         ensures read { Gives self.old self.new result bare_literal (literal_at limits.now) }
         ensures walked { Passes self.old self.new result }
@@ -172,7 +172,7 @@ impl<'a> Parser<'a> {
     }
 
     #[inline(always)]
-    #[tactic(auto, unfolding(crate::specs::Reading::basic_at), using(crate::proofs::Walks::passed_then, crate::proofs::Walks::passed_none, crate::proofs::Walks::passed, crate::proofs::Walks::walk_none, crate::proofs::Separated::fails_from, crate::proofs::Separated::fails_bind))]
+    #[tactic(auto, unfolding(crate::specs::Reading::basic_at), using(crate::proofs::Walks::steps))]
     pub(crate) fn basic(&mut self, limits: &Limits) -> Result<Basic<'a>, Refusal>
         ensures read { Gives self.old self.new result bare_expression (basic_at limits.now) }
         ensures walked { Walks self.old self.new result placed_basic }
@@ -185,7 +185,7 @@ impl<'a> Parser<'a> {
     }
 
     #[inline(always)]
-    #[tactic(auto, unfolding(crate::specs::Reading::expr_at), using(crate::proofs::Walks::passed_then, crate::proofs::Walks::passed_none, crate::proofs::Walks::passed, crate::proofs::Walks::walk_none, crate::proofs::Separated::fails_from, crate::proofs::Separated::fails_bind))]
+    #[tactic(auto, unfolding(crate::specs::Reading::expr_at), using(crate::proofs::Walks::steps))]
     pub(crate) fn expr(&mut self, limits: &Limits) -> Result<Expr<'a>, Refusal>
         ensures read { Gives self.old self.new result bare_expr (expr_at limits.now) }
         ensures walked { Walks self.old self.new result placed_expr }
@@ -197,7 +197,7 @@ impl<'a> Parser<'a> {
         }
     }
 
-    #[tactic(auto, unfolding(crate::specs::Reading::literal_basic_at), using(crate::proofs::Walks::passed_then, crate::proofs::Walks::passed_none, crate::proofs::Walks::passed, crate::proofs::Walks::walk_none, crate::proofs::Separated::fails_from, crate::proofs::Separated::fails_bind))]
+    #[tactic(auto, unfolding(crate::specs::Reading::literal_basic_at), using(crate::proofs::Walks::steps))]
     pub(crate) fn literal_basic(&mut self, limits: &Limits) -> Result<Basic<'a>, Refusal>
         ensures read { Gives self.old self.new result bare_expression
             (literal_basic_at limits.now) }

@@ -14,7 +14,7 @@ use crate::parser::refusal::Refusal;
 use fz_tree::{Constraint, Decl, Expr, Goal, Limits, Mark, Param, Predicate, Solve};
 
 impl<'a> Parser<'a> {
-    #[tactic(auto, unfolding(crate::specs::Reading::param_at, crate::specs::Reading::var_at), using(crate::proofs::Walks::passed_then, crate::proofs::Walks::passed_none, crate::proofs::Walks::passed, crate::proofs::Walks::walk_none, crate::proofs::Separated::fails_from, crate::proofs::Separated::fails_bind))]
+    #[tactic(auto, unfolding(crate::specs::Reading::param_at, crate::specs::Reading::var_at), using(crate::proofs::Walks::steps))]
     pub(crate) fn param(&mut self, limits: &Limits) -> Result<Param<'a>, Refusal>
         ensures read { Gives self.old self.new result bare_param (param_at limits.now) }
         ensures walked { Walks self.old self.new result placed_param }
@@ -32,7 +32,7 @@ impl<'a> Parser<'a> {
         })
     }
 
-    #[tactic(auto, unfolding(crate::specs::Reading::predicate_at), using(crate::proofs::Walks::passed_then, crate::proofs::Walks::passed_none, crate::proofs::Walks::passed, crate::proofs::Walks::walk_none, crate::proofs::Separated::fails_from, crate::proofs::Separated::fails_bind))]
+    #[tactic(auto, unfolding(crate::specs::Reading::predicate_at), using(crate::proofs::Walks::steps))]
     pub(crate) fn predicate(&mut self, limits: &Limits) -> Result<Predicate<'a>, Refusal>
         ensures read { Gives self.old self.new result bare_predicate (predicate_at limits.now) }
         ensures walked { Walks self.old self.new result placed_predicate }
@@ -45,7 +45,7 @@ impl<'a> Parser<'a> {
         Ok(Predicate { name, params })
     }
 
-    #[tactic(auto, unfolding(crate::specs::Reading::constraint_at, crate::specs::Reading::word_at), using(crate::proofs::Walks::passed_then, crate::proofs::Walks::passed_none, crate::proofs::Walks::passed, crate::proofs::Walks::walk_none, crate::proofs::Separated::fails_from, crate::proofs::Separated::fails_bind))]
+    #[tactic(auto, unfolding(crate::specs::Reading::constraint_at, crate::specs::Reading::word_at), using(crate::proofs::Walks::steps))]
     /// A constraint, whose first word has been looked at.
     pub(crate) fn constraint(&mut self, limits: &Limits) -> Result<Constraint<'a>, Refusal>
         requires begun { next_word (codes "constraint") (lexemes self.old) ≡ true }
@@ -61,7 +61,7 @@ impl<'a> Parser<'a> {
         Ok(Constraint { name, args, notes })
     }
 
-    #[tactic(auto, unfolding(crate::specs::Reading::goal_at), using(crate::proofs::Walks::passed_then, crate::proofs::Walks::passed_none, crate::proofs::Walks::passed, crate::proofs::Walks::walk_none, crate::proofs::Separated::fails_from, crate::proofs::Separated::fails_bind))]
+    #[tactic(auto, unfolding(crate::specs::Reading::goal_at), using(crate::proofs::Walks::steps))]
     pub(crate) fn goal(&mut self, limits: &Limits) -> Result<Goal<'a>, Refusal>
         ensures read { Gives self.old self.new result bare_goal (goal_at limits.now) }
         ensures walked { Walks self.old self.new result placed_goal }
@@ -76,7 +76,7 @@ impl<'a> Parser<'a> {
         }
     }
 
-    #[tactic(auto, unfolding(crate::specs::Reading::solve_at), using(crate::proofs::Walks::passed_then, crate::proofs::Walks::passed_none, crate::proofs::Walks::passed, crate::proofs::Walks::walk_none, crate::proofs::Separated::fails_from, crate::proofs::Separated::fails_bind))]
+    #[tactic(auto, unfolding(crate::specs::Reading::solve_at), using(crate::proofs::Walks::steps))]
     pub(crate) fn solve(&mut self, limits: &Limits) -> Result<Solve<'a>, Refusal>
         ensures read { Gives self.old self.new result bare_solve (solve_at limits.now) }
         ensures walked { Walks self.old self.new result placed_solve }
@@ -88,7 +88,7 @@ impl<'a> Parser<'a> {
         Ok(Solve { notes, goal })
     }
 
-    #[tactic(auto, unfolding(crate::specs::Reading::value_at), using(crate::proofs::Walks::passed_then, crate::proofs::Walks::passed_none, crate::proofs::Walks::passed, crate::proofs::Walks::walk_none, crate::proofs::Separated::fails_from, crate::proofs::Separated::fails_bind))]
+    #[tactic(auto, unfolding(crate::specs::Reading::value_at), using(crate::proofs::Walks::steps))]
     pub(crate) fn value(
         &mut self,
         limits: &Limits,
@@ -112,7 +112,7 @@ impl<'a> Parser<'a> {
         }
     }
 
-    #[tactic(auto, unfolding(crate::specs::Reading::given_value_at), using(crate::proofs::Walks::passed_then, crate::proofs::Walks::passed_none, crate::proofs::Walks::passed, crate::proofs::Walks::walk_none, crate::proofs::Separated::fails_from, crate::proofs::Separated::fails_bind))]
+    #[tactic(auto, unfolding(crate::specs::Reading::given_value_at), using(crate::proofs::Walks::steps))]
     pub(crate) fn given_value(
         &mut self,
         limits: &Limits,
@@ -130,7 +130,7 @@ impl<'a> Parser<'a> {
         Ok(Some(self.value(limits, is_var, array)?))
     }
 
-    #[tactic(auto, unfolding(crate::specs::Reading::decl_at, crate::specs::Reading::var_at), using(crate::proofs::Walks::passed_then, crate::proofs::Walks::passed_none, crate::proofs::Walks::passed, crate::proofs::Walks::walk_none, crate::proofs::Separated::fails_from, crate::proofs::Separated::fails_bind))]
+    #[tactic(auto, unfolding(crate::specs::Reading::decl_at, crate::specs::Reading::var_at), using(crate::proofs::Walks::steps))]
     pub(crate) fn decl(&mut self, limits: &Limits) -> Result<Decl<'a>, Refusal>
         ensures read { Gives self.old self.new result bare_decl (decl_at limits.now) }
         ensures walked { Walks self.old self.new result placed_decl }

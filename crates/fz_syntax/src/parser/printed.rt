@@ -37,7 +37,7 @@ impl<'a> Parser<'a> {
         }
     }
 
-    #[tactic(auto, unfolding(crate::specs::ReadingItems::index_set_at), using(crate::proofs::Walks::passed_then, crate::proofs::Walks::passed_none, crate::proofs::Walks::passed, crate::proofs::Walks::walk_none, crate::proofs::Separated::fails_from, crate::proofs::Separated::fails_bind))]
+    #[tactic(auto, unfolding(crate::specs::ReadingItems::index_set_at), using(crate::proofs::Walks::steps))]
     fn index_set(&mut self, limits: &Limits) -> Result<Literal, Refusal>
         ensures read { Gives self.old self.new result bare_literal (index_set_at limits.now) }
         ensures walked { Walks self.old self.new result
@@ -62,7 +62,7 @@ impl<'a> Parser<'a> {
     }
 
     /// An array, after its word, which says how many index sets it has.
-    #[tactic(auto, unfolding(crate::specs::ReadingItems::printed_array_at), using(crate::proofs::Walks::passed_then, crate::proofs::Walks::passed_none, crate::proofs::Walks::passed, crate::proofs::Walks::walk_none, crate::proofs::Separated::fails_from, crate::proofs::Separated::fails_bind))]
+    #[tactic(auto, unfolding(crate::specs::ReadingItems::printed_array_at), using(crate::proofs::Walks::steps))]
     fn printed_array(&mut self, limits: &Limits, dimensions: usize) -> Result<PrintedValue, Refusal>
         ensures read { Gives self.old self.new result bare_printed_value
             (printed_array_at limits.now dimensions) }
@@ -78,7 +78,7 @@ impl<'a> Parser<'a> {
         Ok(PrintedValue::Array { indexes, elements })
     }
 
-    #[tactic(auto, unfolding(crate::specs::ReadingItems::printed_value_at), using(crate::proofs::Walks::passed_then, crate::proofs::Walks::passed_none, crate::proofs::Walks::passed, crate::proofs::Walks::walk_none, crate::proofs::Separated::fails_from, crate::proofs::Separated::fails_bind))]
+    #[tactic(auto, unfolding(crate::specs::ReadingItems::printed_value_at), using(crate::proofs::Walks::steps))]
     fn printed_value(&mut self, limits: &Limits) -> Result<PrintedValue, Refusal>
         ensures read { Gives self.old self.new result bare_printed_value
             (printed_value_at limits.now) }
@@ -92,7 +92,7 @@ impl<'a> Parser<'a> {
         }
     }
 
-    #[tactic(auto, unfolding(crate::specs::ReadingItems::printed_at), using(crate::proofs::Walks::passed_then, crate::proofs::Walks::passed_none, crate::proofs::Walks::passed, crate::proofs::Walks::walk_none, crate::proofs::Separated::fails_from, crate::proofs::Separated::fails_bind))]
+    #[tactic(auto, unfolding(crate::specs::ReadingItems::printed_at), using(crate::proofs::Walks::steps))]
     fn printed(&mut self, limits: &Limits) -> Result<Printed<'a>, Refusal>
         ensures read { Gives self.old self.new result bare_printed (printed_at limits.now) }
         ensures walked { Walks self.old self.new result placed_printed }

@@ -16,7 +16,7 @@ const MOST_INDEXES: usize = 6;
 
 impl<'a> Parser<'a> {
     /// A range whose first number starts at `start`.
-    #[tactic(auto, unfolding(crate::specs::Reading::range_at), using(crate::proofs::Walks::passed_then, crate::proofs::Walks::passed_none, crate::proofs::Walks::passed, crate::proofs::Walks::walk_none, crate::proofs::Separated::fails_from, crate::proofs::Separated::fails_bind))]
+    #[tactic(auto, unfolding(crate::specs::Reading::range_at), using(crate::proofs::Walks::steps))]
     fn range(&mut self, start: usize) -> Result<Literal, Refusal>
         ensures read { Gives self.old self.new result bare_literal range_at }
         ensures walked { Passes self.old self.new result }
@@ -29,7 +29,7 @@ impl<'a> Parser<'a> {
     }
 
     /// Bounds whose first token starts at `start`.
-    #[tactic(auto, unfolding(crate::specs::Reading::bounds_at), using(crate::proofs::Walks::passed_then, crate::proofs::Walks::passed_none, crate::proofs::Walks::passed, crate::proofs::Walks::walk_none, crate::proofs::Separated::fails_from, crate::proofs::Separated::fails_bind))]
+    #[tactic(auto, unfolding(crate::specs::Reading::bounds_at), using(crate::proofs::Walks::steps))]
     fn bounds_from(&mut self, limits: &Limits, start: usize) -> Result<Literal, Refusal>
         ensures read { Gives self.old self.new result bare_literal (bounds_at limits.now) }
         ensures walked { Passes self.old self.new result }
@@ -51,7 +51,7 @@ impl<'a> Parser<'a> {
     }
 
     /// The word `int`, or bounds.
-    #[tactic(auto, unfolding(crate::specs::Reading::int_at), using(crate::proofs::Walks::passed_then, crate::proofs::Walks::passed_none, crate::proofs::Walks::passed, crate::proofs::Walks::walk_none, crate::proofs::Separated::fails_from, crate::proofs::Separated::fails_bind))]
+    #[tactic(auto, unfolding(crate::specs::Reading::int_at), using(crate::proofs::Walks::steps))]
     pub(crate) fn int(&mut self, limits: &Limits) -> Result<Option<Literal>, Refusal>
         ensures read { Gives self.old self.new result bare_bounds (int_at limits.now) }
         ensures walked { Walks self.old self.new result placed_bounds }
@@ -63,7 +63,7 @@ impl<'a> Parser<'a> {
         }
     }
 
-    #[tactic(auto, unfolding(crate::specs::Reading::base_at), using(crate::proofs::Walks::passed_then, crate::proofs::Walks::passed_none, crate::proofs::Walks::passed, crate::proofs::Walks::walk_none, crate::proofs::Separated::fails_from, crate::proofs::Separated::fails_bind))]
+    #[tactic(auto, unfolding(crate::specs::Reading::base_at), using(crate::proofs::Walks::steps))]
     pub(crate) fn base(&mut self, limits: &Limits) -> Result<Base, Refusal>
         ensures read { Gives self.old self.new result bare_base (base_at limits.now) }
         ensures walked { Walks self.old self.new result placed_base }
@@ -79,7 +79,7 @@ impl<'a> Parser<'a> {
     }
 
     /// The type of a parameter.
-    #[tactic(auto, unfolding(crate::specs::Reading::plain_at), using(crate::proofs::Walks::passed_then, crate::proofs::Walks::passed_none, crate::proofs::Walks::passed, crate::proofs::Walks::walk_none, crate::proofs::Separated::fails_from, crate::proofs::Separated::fails_bind))]
+    #[tactic(auto, unfolding(crate::specs::Reading::plain_at), using(crate::proofs::Walks::steps))]
     pub(crate) fn plain(&mut self) -> Result<Base, Refusal>
         ensures read { Gives self.old self.new result bare_base plain_at }
         ensures walked { Walks self.old self.new result placed_base }
@@ -96,7 +96,7 @@ impl<'a> Parser<'a> {
         }
     }
 
-    #[tactic(auto, unfolding(crate::specs::Reading::one_at), using(crate::proofs::Walks::passed_then, crate::proofs::Walks::passed_none, crate::proofs::Walks::passed, crate::proofs::Walks::walk_none, crate::proofs::Separated::fails_from, crate::proofs::Separated::fails_bind))]
+    #[tactic(auto, unfolding(crate::specs::Reading::one_at), using(crate::proofs::Walks::steps))]
     pub(crate) fn one(&mut self) -> Result<(), Refusal>
         ensures read { Gives self.old self.new result (λ _. tt) one_at }
         ensures walked { Passes self.old self.new result }
@@ -114,7 +114,7 @@ impl<'a> Parser<'a> {
         }
     }
 
-    #[tactic(auto, unfolding(crate::specs::Reading::size_at), using(crate::proofs::Walks::passed_then, crate::proofs::Walks::passed_none, crate::proofs::Walks::passed, crate::proofs::Walks::walk_none, crate::proofs::Separated::fails_from, crate::proofs::Separated::fails_bind))]
+    #[tactic(auto, unfolding(crate::specs::Reading::size_at), using(crate::proofs::Walks::steps))]
     pub(crate) fn size(&mut self, limits: &Limits) -> Result<usize, Refusal>
         ensures read { Gives self.old self.new result (λ n. n) (size_at limits.now) }
         ensures walked { Passes self.old self.new result }
@@ -138,7 +138,7 @@ impl<'a> Parser<'a> {
         }
     }
 
-    #[tactic(auto, unfolding(crate::specs::Reading::index_at), using(crate::proofs::Walks::passed_then, crate::proofs::Walks::passed_none, crate::proofs::Walks::passed, crate::proofs::Walks::walk_none, crate::proofs::Separated::fails_from, crate::proofs::Separated::fails_bind))]
+    #[tactic(auto, unfolding(crate::specs::Reading::index_at), using(crate::proofs::Walks::steps))]
     pub(crate) fn index(&mut self, limits: &Limits) -> Result<usize, Refusal>
         ensures read { Gives self.old self.new result (λ n. n) (index_at limits.now) }
         ensures walked { Passes self.old self.new result }
@@ -148,7 +148,7 @@ impl<'a> Parser<'a> {
         self.size(limits)
     }
 
-    #[tactic(auto, unfolding(crate::specs::Reading::any_index_at), using(crate::proofs::Walks::passed_then, crate::proofs::Walks::passed_none, crate::proofs::Walks::passed, crate::proofs::Walks::walk_none, crate::proofs::Separated::fails_from, crate::proofs::Separated::fails_bind))]
+    #[tactic(auto, unfolding(crate::specs::Reading::any_index_at), using(crate::proofs::Walks::steps))]
     pub(crate) fn any_index(&mut self, limits: &Limits) -> Result<Option<usize>, Refusal>
         ensures read { Gives self.old self.new result (λ n. n) (any_index_at limits.now) }
         ensures walked { Passes self.old self.new result }
@@ -188,7 +188,7 @@ impl<'a> Parser<'a> {
         Ok(indexes)
     }
 
-    #[tactic(auto, unfolding(crate::specs::Reading::param_prefix_at, crate::specs::Reading::array_at), using(crate::proofs::Walks::passed_then, crate::proofs::Walks::passed_none, crate::proofs::Walks::passed, crate::proofs::Walks::walk_none, crate::proofs::Separated::fails_from, crate::proofs::Separated::fails_bind))]
+    #[tactic(auto, unfolding(crate::specs::Reading::param_prefix_at, crate::specs::Reading::array_at), using(crate::proofs::Walks::steps))]
     pub(crate) fn param_prefix(
         &mut self,
         limits: &Limits,
@@ -206,7 +206,7 @@ impl<'a> Parser<'a> {
         Ok(Some(indexes))
     }
 
-    #[tactic(auto, unfolding(crate::specs::Reading::prefix_at, crate::specs::Reading::array_at), using(crate::proofs::Walks::passed_then, crate::proofs::Walks::passed_none, crate::proofs::Walks::passed, crate::proofs::Walks::walk_none, crate::proofs::Separated::fails_from, crate::proofs::Separated::fails_bind))]
+    #[tactic(auto, unfolding(crate::specs::Reading::prefix_at, crate::specs::Reading::array_at), using(crate::proofs::Walks::steps))]
     pub(crate) fn prefix(&mut self, limits: &Limits) -> Result<Option<usize>, Refusal>
         ensures read { Gives self.old self.new result (λ n. n) (prefix_at limits.now) }
         ensures walked { Passes self.old self.new result }
@@ -221,7 +221,7 @@ impl<'a> Parser<'a> {
         Ok(Some(length))
     }
 
-    #[tactic(auto, unfolding(crate::specs::Reading::type_at), using(crate::proofs::Walks::passed_then, crate::proofs::Walks::passed_none, crate::proofs::Walks::passed, crate::proofs::Walks::walk_none, crate::proofs::Separated::fails_from, crate::proofs::Separated::fails_bind))]
+    #[tactic(auto, unfolding(crate::specs::Reading::type_at), using(crate::proofs::Walks::steps))]
     pub(crate) fn element_type(&mut self, limits: &Limits, is_var: bool) -> Result<Base, Refusal>
         ensures read { Gives self.old self.new result bare_base (type_at limits.now is_var) }
         ensures walked { Walks self.old self.new result placed_base }

@@ -80,8 +80,8 @@ impl Printer {
         Ok(())
     }
 
-    /// What is before the type of a predicate's parameter: `array`, its index sets and `of`; nothing
-    /// for a scalar.
+    /// What is before the type of a predicate's parameter: `array`, its index sets and `of`;
+    /// nothing for a scalar.
     pub(crate) fn param_prefix(
         &mut self,
         array: &Option<Vec<Option<usize>>>,

@@ -1,10 +1,10 @@
 use Rattle.std.proofs.Common.{int_le, length, not, pos, unsigned_abs, ◌&&◌, ◌+ℤ◌, ◌-ℤ◌, ◌*ℤ◌, ◌||◌}
 use Rattle.std.specs.Int.{int_max, int_min}
 use Rattle.std.specs.List.{list_all, list_any}
-use Rattle.fz_index.specs.of_model.declared.Builtin.TheVariants as builtin
-use Rattle.fz_index.specs.of_model.Builtins.{row_at}
-use Rattle.fz_index.specs.of_model.Relations.{as_number, count_in, count_of, counts_are, counts_lie, is_among, is_closed, lies_between, loads_are, products, total, where_true, ◌=ᴮ◌, ◌=ℤ◌}
-use Rattle.fz_index.specs.of_model.of_builtins.of_kernel.Given.{bool_at, bools_at, int_at, ints_at, set_at}
+use Rattle.fz_store.specs.declared.Builtin.TheVariants as builtin
+use Rattle.fz_model.specs.Builtins.{row_at}
+use Rattle.fz_model.specs.Relations.{as_number, count_in, count_of, counts_are, counts_lie, is_among, is_closed, lies_between, loads_are, products, total, where_true, ◌=ᴮ◌, ◌=ℤ◌}
+use Rattle.fz_model.specs.of_builtins.of_kernel.Given.{bool_at, bools_at, int_at, ints_at, set_at}
 use Rattle.fz_bounds.specs.Within.{given}
 use Rattle.fz_bounds.proofs.At.{at_row}
 use Rattle.fz_bounds.proofs.builtins.foretold.Goals as goal

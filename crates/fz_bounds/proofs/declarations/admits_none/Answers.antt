@@ -1,6 +1,6 @@
 use Rattle.std.proofs.Common.{◌≡◌, ◌≤ℤ◌, ◌&&◌, FitsSigned, false, int_le, subst, subst₂, sym, w64, rules}
 use Rattle.std.proofs.lemmas.Int.{to_z-of_z}
-use Rattle.fz_index.specs.of_model.Meaning.{admits}
+use Rattle.fz_model.specs.Meaning.{admits}
 use Rattle.fz_bounds.proofs.declarations.admits_none.Goals as goal
 
 pub returns-in-Within : goal.returns-in-Within

@@ -1,6 +1,6 @@
 use Rattle.std.proofs.Common.{sym, rules}
-use Rattle.fz_index.specs.of_model.Shown.{scalar_terms}
-use Rattle.fz_index.specs.of_model.Slots.{scalar_term}
+use Rattle.fz_model.specs.Shown.{scalar_terms}
+use Rattle.fz_model.specs.Slots.{scalar_term}
 use Rattle.fz_bounds.proofs.Declared.{elements_never}
 use Rattle.fz_bounds.proofs.declarations.elements_fail.Goals as goal
 

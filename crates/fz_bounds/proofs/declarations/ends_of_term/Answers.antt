@@ -1,5 +1,5 @@
 use Rattle.std.proofs.Common.{subst, sym}
-use Rattle.fz_index.specs.of_model.declared.Term.TheVariants.{Fixed, Var}
+use Rattle.fz_model.specs.declared.Term.TheVariants.{Fixed, Var}
 use Rattle.std.proofs.Common.{IfSome}
 use Rattle.fz_bounds.specs.Ends.{AreEnds, AreEndsAt, LiesAt}
 use Rattle.fz_bounds.proofs.Declared.{fixed_at, if_some, variable_at}

@@ -1,5 +1,5 @@
 use Rattle.std.proofs.Common.{◌∙◌, sym}
-use Rattle.fz_index.proofs.of_model.Under.{never_fails}
+use Rattle.fz_model.proofs.Under.{never_fails}
 use Rattle.fz_bounds.proofs.Inside.{fixed_under}
 use Rattle.fz_bounds.proofs.refuting.cannot_hold.Goals as goal
 

@@ -1,6 +1,6 @@
 use Rattle.std.proofs.Common.{[], subst, sym}
-use Rattle.fz_index.specs.of_model.Parts.{variable_view}
-use Rattle.fz_index.specs.of_model.Shown.{point_view}
+use Rattle.fz_model.specs.Parts.{variable_view}
+use Rattle.fz_model.specs.Shown.{point_view}
 use Rattle.fz_bounds.specs.Bounds.{NeverHolds}
 use Rattle.fz_bounds.proofs.Declared.{domain_never}
 use Rattle.fz_bounds.proofs.refuting.parts_fail.Goals as goal

@@ -1,10 +1,10 @@
 use Rattle.std.proofs.Common.{◌≡◌, rules, true, sym, ◌∙◌}
-use Rattle.fz_index.specs.of_model.declared.Builtin.TheVariants.{IntPow}
-use Rattle.fz_index.proofs.of_model.Values.{no}
+use Rattle.fz_store.specs.declared.Builtin.TheVariants.{IntPow}
+use Rattle.fz_model.proofs.Values.{no}
 use Rattle.fz_bounds.specs.declared.bounded.BoundedConstraint.{BoundedConstraint}
 use Rattle.fz_bounds.specs.declared.outlook.Outlook.TheVariants.{Never}
 use Rattle.fz_bounds.specs.Within.{AreKnown}
-use Rattle.fz_index.specs.of_model.of_builtins.of_meaning.Known.{known_row}
+use Rattle.fz_model.specs.of_builtins.of_meaning.Known.{known_row}
 use Rattle.fz_bounds.proofs.Never.{row_never}
 use Rattle.fz_bounds.proofs.rows.row_fails.Goals as goal
 

@@ -1,6 +1,6 @@
 use Rattle.std.proofs.Common.{◌≡◌, pos, true, false, ◌&&◌, length, refl, sym, ap, ◌∙◌, rules}
 use Rattle.std.specs.FinSet.{is_subset}
-use Rattle.fz_globals.specs.of_meaning.of_syntax.Sets.{NumberSet}
+use Rattle.fz_globals.specs.of_meaning.of_base.Sets.{NumberSet}
 use Rattle.fz_globals.specs.of_meaning.Builtins.{row_at}
 use Rattle.fz_globals.specs.of_meaning.Relations.{◌=ˢ◌, chosen, indices_from, union_of}
 use Rattle.fz_globals.specs.of_meaning.Results.{result_of}

@@ -1,5 +1,5 @@
 use Rattle.std.proofs.Common.{[], ◌∷◌, ◌++◌}
-use Rattle.fz_store.proofs.of_meaning.Offers.{took_left, took_more, took_none}
+use Rattle.fz_syntax.proofs.Offers.{took_left, took_more, took_none}
 use Rattle.fz_data.proofs.text.behind_constraint.Goals as goal
 
 pub loop-more-init : goal.loop-more-init

@@ -1,6 +1,6 @@
 use Rattle.std.proofs.Common.{[], ◌∷◌, ◌++◌, Result, Ok, Err}
 use Rattle.std.specs.Prelude.{IfOk}
-use Rattle.fz_store.proofs.of_meaning.Offers.{took_all, took_more, took_none}
+use Rattle.fz_syntax.proofs.Offers.{took_all, took_more, took_none}
 use Rattle.fz_data.proofs.text.behind_decl.Goals as goal
 
 if_ok : {X E : Type 0} (r : Result X E) (P Q : Type 0) → (P → Q) → IfOk r (λ _. P) → IfOk r (λ _. Q)

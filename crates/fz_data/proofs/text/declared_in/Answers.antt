@@ -2,7 +2,7 @@ use Rattle.std.proofs.Common.{List, [], ◌∷◌, ◌++◌, sym, subst, inr}
 use Rattle.std.proofs.lemmas.List.{map-append}
 use Rattle.fz_store.specs.of_meaning.Located.{Decl as Located}
 use Rattle.fz_store.specs.of_meaning.View.{located_decl}
-use Rattle.fz_store.proofs.of_meaning.Offers.{took_all, took_more, took_none, took_still}
+use Rattle.fz_syntax.proofs.Offers.{took_all, took_more, took_none, took_still}
 use Rattle.fz_data.specs.Stands.{Declares}
 use Rattle.fz_data.proofs.RestOfText.{told_at_decl}
 use Rattle.fz_data.proofs.text.declared_in.Goals as goal

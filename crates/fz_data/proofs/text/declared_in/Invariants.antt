@@ -1,5 +1,5 @@
 use Rattle.std.proofs.Common.{List, map}
-use Rattle.fz_store.specs.of_meaning.of_syntax.Offering.{Took, from_decls, left_of}
+use Rattle.fz_syntax.specs.Offering.{Took, from_decls, left_of}
 use Rattle.fz_tree.specs.declared.tree.Decl.{Decl}
 use Rattle.fz_store.specs.of_meaning.View.{located_decl}
 use Rattle.fz_data.specs.Scope.{HasKinds}

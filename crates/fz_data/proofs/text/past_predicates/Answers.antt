@@ -1,5 +1,5 @@
 use Rattle.std.proofs.Common.{[], ◌∷◌, ◌++◌}
-use Rattle.fz_store.proofs.of_meaning.Offers.{took_all, took_more, took_none}
+use Rattle.fz_syntax.proofs.Offers.{took_all, took_more, took_none}
 use Rattle.fz_data.proofs.text.past_predicates.Goals as goal
 
 pub loop-predicate-init : goal.loop-predicate-init

@@ -1,5 +1,5 @@
 use Rattle.std.proofs.Common.{List}
-use Rattle.fz_store.specs.of_meaning.of_syntax.Offering.{Took, from_predicates, left_of}
+use Rattle.fz_syntax.specs.Offering.{Took, from_predicates, left_of}
 use Rattle.fz_tree.specs.declared.tree.Predicate.{Predicate}
 use Rattle.fz_data.proofs.text.past_predicates.Given as goal
 

@@ -2,7 +2,7 @@ use Rattle.std.proofs.Common.{List, [], ◌∷◌, ◌++◌, sym, subst, inr}
 use Rattle.std.proofs.lemmas.List.{map-append}
 use Rattle.fz_store.specs.of_meaning.Located.{Constraint as Located}
 use Rattle.fz_store.specs.of_meaning.View.{located_constraint}
-use Rattle.fz_store.proofs.of_meaning.Offers.{took_left, took_more, took_none, took_still}
+use Rattle.fz_syntax.proofs.Offers.{took_left, took_more, took_none, took_still}
 use Rattle.fz_data.specs.Posting.{Posts}
 use Rattle.fz_data.proofs.OneMore.{posts_none}
 use Rattle.fz_data.proofs.RestOfText.{told_at_constraint}

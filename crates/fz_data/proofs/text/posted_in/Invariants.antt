@@ -1,5 +1,5 @@
 use Rattle.std.proofs.Common.{List, map}
-use Rattle.fz_store.specs.of_meaning.of_syntax.Offering.{Took, from_constraints, left_of}
+use Rattle.fz_syntax.specs.Offering.{Took, from_constraints, left_of}
 use Rattle.fz_tree.specs.declared.tree.Constraint.{Constraint}
 use Rattle.fz_store.specs.of_meaning.View.{located_constraint}
 use Rattle.fz_data.specs.Posting.{Posts}

@@ -1,9 +1,10 @@
 use Rattle.std.proofs.Common.{[], ◌∙◌, sym, subst, refl, inr}
 use Rattle.std.proofs.lemmas.Result.{err_from_is_err_and}
-use Rattle.fz_store.specs.of_meaning.of_syntax.Offering.{IsLeft, IsRefusedAt, IsRefusedWithin, IsTextOfAllWithin, TreeItems, all_items, from_constraints, from_decls}
+use Rattle.fz_syntax.specs.Offering.{IsLeft, IsRefusedAt, IsRefusedWithin, IsTextOfAllWithin, all_items, from_constraints, from_decls}
+use Rattle.fz_tree.specs.View.{TreeItems}
 use Rattle.fz_tree.specs.Text.{IsTextOfTreeWithin}
 use Rattle.fz_store.specs.of_meaning.View.{located_all}
-use Rattle.fz_store.proofs.of_meaning.Offers.{refused_at}
+use Rattle.fz_syntax.proofs.Offers.{refused_at}
 use Rattle.fz_store.proofs.of_meaning.Places.{all_are_bare}
 use Rattle.fz_data.proofs.Loaded.{all_laid_out, goal_told, loaded_model, no_fault_told}
 use Rattle.fz_data.proofs.OneMore.{declares_none}

@@ -1,6 +1,6 @@
 use Rattle.std.proofs.Common.{◌≡◌, List, [], ◌∷◌, length, map, refl, sym, subst, ◌∙◌}
 use Rattle.std.proofs.lemmas.Slice.Zip.{zip_turn, zip_end}
-use Rattle.fz_index.specs.of_model.declared.Slot.{Slot}
+use Rattle.fz_store.specs.declared.Slot.{Slot}
 use Rattle.fz_index.specs.of_model.declared.Term.{Term}
 use Rattle.fz_index.specs.of_model.Slots.{slot_term}
 use Rattle.fz_index.specs.of_model.Meaning.{Partial}

@@ -1,6 +1,6 @@
 use Rattle.std.proofs.Common.{arith}
 use Rattle.std.proofs.lemmas.Bool.Decides.{nat_tests}
-use Rattle.fz_kernel.specs.of_meaning.of_syntax.Ranges.{lowest}
+use Rattle.fz_kernel.specs.of_meaning.of_base.Ranges.{lowest}
 use Rattle.fz_globals.proofs.NoGaps.{counted}
 use Rattle.fz_globals.proofs.convex.is_convex.Goals as goal
 

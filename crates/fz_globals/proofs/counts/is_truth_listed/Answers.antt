@@ -1,15 +1,14 @@
-use Rattle.std.proofs.Common.{sym, ◌∙◌}
+use Rattle.std.proofs.Common.{◌≡◌, true, get_or, length, ◌∙◌, rules}
 use Rattle.fz_kernel.specs.of_meaning.Relations.{◌=ᴮ◌}
 use Rattle.fz_kernel.specs.Views.{bools}
+use Rattle.fz_kernel.proofs.Between.{read_at, some_of}
+use Rattle.fz_kernel.proofs.Read.{bools_counted}
 use Rattle.fz_globals.proofs.Compared.{same_truths}
-use Rattle.fz_globals.proofs.Each.{one_does, not_yet}
 use Rattle.fz_globals.proofs.counts.is_truth_listed.Goals as goal
 
-pub returns-then-truth : goal.returns-then-truth
-returns-then-truth c = record {
-  exact = one_does (λ y. y =ᴮ c.args.truth) (bools c.args.elements.now) c.loop-place.place c.truth.result c.truth.ensures.read c.loop-place.invariant (sym (same_truths c.truth.result c.args.truth) ∙ c.if-truth.true);
-}
-
-pub loop-place-preserved : goal.loop-place-preserved
-loop-place-preserved c =
-    not_yet (λ y. y =ᴮ c.args.truth) (bools c.args.elements.now) c.loop-place.place c.truth.result c.truth.ensures.read c.loop-place.invariant (sym (same_truths c.truth.result c.args.truth) ∙ c.if-truth.false)
+pub returns : goal.returns
+returns c =
+    let bs = bools c.args.elements.now in
+    let t = c.args.truth in
+    let counted : c.len.result ≡ length bs = bools_counted c.args.elements.now c.len.result c.len.ensures.counted in
+    record { exact = c.any_between.ensures.exact (λ k. get_or bs k true =ᴮ t) (λ k b from below r. search (rules, read_at, same_truths)) ∙ some_of bs true (λ x. x =ᴮ t) 0 c.len.result counted }

@@ -1,31 +1,25 @@
-use Rattle.std.proofs.Common.{◌≡◌, ◌+◌, drop, length, take, Some, slice_get, refl, arith}
-use Rattle.fz_kernel.specs.of_meaning.Relations.{◌=ᴮ◌, is_same_list}
-use Rattle.fz_kernel.specs.Views.{bools}
+use Rattle.std.proofs.Common.{◌≡◌, ◌+◌, ◌-◌, ◌≤◌, true, drop, get_or, length, refl, sym, ◌∙◌, arith, rules}
+use Rattle.std.proofs.lemmas.List.{get_or-drop, length-drop}
+use Rattle.fz_kernel.specs.Indices.{all_from}
+use Rattle.fz_kernel.specs.of_meaning.Relations.{◌=ᴮ◌}
+use Rattle.fz_kernel.specs.Views.{bools, slots_of}
+use Rattle.fz_kernel.proofs.Between.{both_of, read_at}
 use Rattle.fz_kernel.proofs.Read.{bools_counted}
-use Rattle.fz_globals.proofs.InTable.{in_front, behind, goes_on, differs}
-use Rattle.fz_globals.proofs.Tested.{other_bool, same_bool_here}
+use Rattle.fz_globals.proofs.Compared.{same_truths}
+use Rattle.fz_globals.proofs.InTable.{same_front}
 use Rattle.fz_globals.proofs.tables.bools_stand_at.Goals as goal
 
-pub returns-then-truth : goal.returns-then-truth
-returns-then-truth c =
+pub returns : goal.returns
+returns c =
     let xs = bools c.args.elements.now in
-    let part = take (length xs) (drop c.args.start (bools c.args.table.now)) in
-    let x = c.truth.result in
-    let y = c.truth-in-loop-place.result in
-    let counted : c.len-place-end.result ≡ length xs = bools_counted c.args.elements.now c.len-place-end.result c.len-place-end.ensures.counted in
-    let there : slice_get part c.loop-place.place ≡ Some y =
-    in_front (drop c.args.start (bools c.args.table.now)) (length xs) c.loop-place.place y (omega arith)
-    (behind (bools c.args.table.now) c.args.start c.loop-place.place (c.args.start + c.loop-place.place) y refl c.truth-in-loop-place.ensures.read) in
-    differs ◌=ᴮ◌ xs part c.loop-place.place x y c.truth.ensures.read there (is_same_list ◌=ᴮ◌ xs part) c.loop-place.invariant (other_bool x y c.if-truth.true)
-
-pub loop-place-preserved : goal.loop-place-preserved
-loop-place-preserved c =
-    let xs = bools c.args.elements.now in
-    let part = take (length xs) (drop c.args.start (bools c.args.table.now)) in
-    let x = c.truth.result in
-    let y = c.truth-in-loop-place.result in
-    let counted : c.len-place-end.result ≡ length xs = bools_counted c.args.elements.now c.len-place-end.result c.len-place-end.ensures.counted in
-    let there : slice_get part c.loop-place.place ≡ Some y =
-    in_front (drop c.args.start (bools c.args.table.now)) (length xs) c.loop-place.place y (omega arith)
-    (behind (bools c.args.table.now) c.args.start c.loop-place.place (c.args.start + c.loop-place.place) y refl c.truth-in-loop-place.ensures.read) in
-    goes_on ◌=ᴮ◌ xs part c.loop-place.place x y c.truth.ensures.read there (is_same_list ◌=ᴮ◌ xs part) c.loop-place.invariant (same_bool_here x y c.if-truth.false)
+    let ts = bools c.args.table.now in
+    let s = c.args.start in
+    let n = c.len.result in
+    let counted : n ≡ length xs = bools_counted c.args.elements.now n c.len.ensures.counted in
+    let width : length (slots_of c.args.elements.now) ≡ length xs = bools_counted c.args.elements.now (length (slots_of c.args.elements.now)) refl in
+    let long : length (slots_of c.args.table.now) ≡ length ts = bools_counted c.args.table.now (length (slots_of c.args.table.now)) refl in
+    let room : s + length (slots_of c.args.elements.now) ≤ length (slots_of c.args.table.now) = c.requires in
+    let inside : length xs ≤ length (drop s ts) = omega (arith, length-drop s ts) in
+    c.all_between.ensures.exact (λ k. get_or xs k true =ᴮ get_or ts (s + k) true) (λ k b from below r. search (rules, read_at, same_truths))
+    ∙ (λ i. all_from (λ k. get_or xs k true =ᴮ sym (get_or-drop s ts k true) i) 0 (n - 0))
+    ∙ both_of ◌=ᴮ◌ xs (drop s ts) true true n (omega arith) ∙ same_front ◌=ᴮ◌ xs (drop s ts) inside

@@ -8,14 +8,14 @@ use Rattle.fz_names.proofs.Noted.{absent_there, among_others, any_found, in_its_
 use Rattle.fz_names.proofs.names.put.Goals as goal
 use Rattle.fz_names.proofs.names.put.Goals.{then-not-note+in_ok-insert, else-not-note}
 
--- the name with its entry
+-- the name with its citation
 abbrev kept_as : Bor (List ℕ) → Citation → Kept
-kept_as name entry = record { bytes = name; entry = entry }
+kept_as name citation = record { bytes = name; citation = citation }
 
 pub returns-in_err-insert-clause-numbered : goal.returns-in_err-insert-clause-numbered
 returns-in_err-insert-clause-numbered c =
     rw (c.reserve.ensures.items, c.in_err-insert.ensures.err) (
-    left_stands c.args.listed.now.items c.args.others.now.keys c.args.numbered.now c.note.new.self (kept_as c.args.name c.args.entry)
+    left_stands c.args.listed.now.items c.args.others.now.keys c.args.numbered.now c.note.new.self (kept_as c.args.name c.args.citation)
     c.note.ensures.kept c.note.ensures.others c.requires.numbered (c.if-not-note.ensures.no_seat refl) (c.if-not-note.ensures.left refl))
 
 pub returns : goal.returns
@@ -24,7 +24,7 @@ returns c =
     let os = c.args.others.now.keys in
     let n = c.args.numbered.now in
     let m = c.note.new.self in
-    let k = kept_as c.args.name c.args.entry in
+    let k = kept_as c.args.name c.args.citation in
     let counted : c.len.result ≡ length ks = omega arith in
     let grew : c.push_reserved.new.self.items ≡ ks ++ k ∷ [] = c.push_reserved.ensures.items ∙ ap (λ zs. zs ++ k ∷ []) c.reserve.ensures.items in
     let absent = not_found c.args.name.now ks c.requires.new in

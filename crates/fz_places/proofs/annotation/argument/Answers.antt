@@ -1,9 +1,9 @@
 use Rattle.std.proofs.Common.{◌≡◌, ◌≤◌, ℕ, refl, ap, sym, ◌∙◌, arith, List, [], ◌∷◌, map, length, Option, None, subst}
-use Rattle.fz_meaning.specs.of_syntax.Tree as tree
-use Rattle.fz_meaning.specs.of_syntax.declared.Note.{Note}
-use Rattle.fz_meaning.specs.of_syntax.declared.NoteArg.{NoteArg}
-use Rattle.fz_meaning.specs.of_syntax.declared.NoteArg.TheFolds.{fold_out-Note}
-use Rattle.fz_meaning.specs.of_syntax.View.{arg_list, bare_arg, bare_arg_layer, bare_basic_layer, bare_note, bare_note_layer}
+use Rattle.fz_tree.specs.Tree as tree
+use Rattle.fz_tree.specs.declared.tree.Note.{Note}
+use Rattle.fz_tree.specs.declared.tree.NoteArg.{NoteArg}
+use Rattle.fz_tree.specs.declared.tree.NoteArg.TheFolds.{fold_out-Note}
+use Rattle.fz_tree.specs.View.{arg_list, bare_arg, bare_arg_layer, bare_basic_layer, bare_note, bare_note_layer}
 use Rattle.fz_places.specs.Annotations.{argument_of}
 use Rattle.fz_places.proofs.annotation.argument.Goals as goal
 

@@ -1,6 +1,6 @@
 use Rattle.std.proofs.Common.{◌≡◌, drop}
 use Rattle.fz_meaning.specs.Meaning.{first_some}
-use Rattle.fz_meaning.specs.of_syntax.View.{bare_notes}
+use Rattle.fz_tree.specs.View.{bare_notes}
 use Rattle.fz_places.specs.Annotations.{argument_of}
 use Rattle.fz_places.proofs.annotation.argument_of.Given as goal
 

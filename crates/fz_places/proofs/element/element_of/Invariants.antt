@@ -1,6 +1,6 @@
 use Rattle.std.proofs.Common.{◌≡◌, drop, map}
 use Rattle.fz_meaning.specs.Meaning.{first_some}
-use Rattle.fz_meaning.specs.of_syntax.View.{bare_decl}
+use Rattle.fz_tree.specs.View.{bare_decl}
 use Rattle.fz_places.specs.Elements.{element_in}
 use Rattle.fz_places.proofs.element.element_of.Given as goal
 

@@ -1,7 +1,7 @@
 use Rattle.std.proofs.Common.{◌≡◌, FitsSigned, subst, sym}
 use Rattle.std.specs.Int.{w64}
 use Rattle.std.proofs.lemmas.Int.{to_z-of_z}
-use Rattle.fz_meaning.specs.of_syntax.Sets.{count_between}
+use Rattle.fz_meaning.specs.of_base.Sets.{count_between}
 use Rattle.fz_places.proofs.Indices.{index_fits, index_here, index_is}
 use Rattle.fz_places.proofs.element.index_between.Goals as goal
 

@@ -2,7 +2,7 @@ use Rattle.std.proofs.Common.{◌≡◌, ◌-◌, ◌+◌, ◌∷◌, ℕ, Some,
 use Rattle.std.specs.Int.{w64}
 use Rattle.std.proofs.lemmas.Int.{to_z-of_z}
 use Rattle.std.specs.Option.{option_and_then}
-use Rattle.fz_meaning.specs.of_syntax.View.{bare_basic, basic_list}
+use Rattle.fz_tree.specs.View.{bare_basic, basic_list}
 use Rattle.fz_places.specs.Elements.{index_in, indices_in}
 use Rattle.fz_places.proofs.Indices.{none_at_all, one_set}
 use Rattle.fz_places.proofs.element.indices_at.Goals as goal

@@ -1,5 +1,5 @@
 use Rattle.std.proofs.Common.{◌≡◌, ◌-◌, drop, length, map, Some}
-use Rattle.fz_meaning.specs.of_syntax.View.{bare_basic, basic_list}
+use Rattle.fz_tree.specs.View.{bare_basic, basic_list}
 use Rattle.fz_places.specs.Elements.{indices_in}
 use Rattle.fz_places.proofs.element.indices_at.Given as goal
 

@@ -1,6 +1,6 @@
 use Rattle.std.proofs.Common.{◌≡◌, drop}
 use Rattle.std.specs.List.{position_from}
-use Rattle.fz_meaning.specs.of_syntax.View.{bare_expressions}
+use Rattle.fz_tree.specs.View.{bare_expressions}
 use Rattle.fz_places.specs.Elements.{is_name}
 use Rattle.fz_places.proofs.element.place_among.Given as goal
 

@@ -3,7 +3,7 @@ use Rattle.std.specs.Int.{w128}
 use Rattle.std.specs.List.{list_any}
 use Rattle.std.specs.FinSet.{contains}
 use Rattle.std.proofs.lemmas.Int.{to_z-of_z}
-use Rattle.fz_builtins.specs.of_meaning.of_syntax.Sets.{NumberSet}
+use Rattle.fz_builtins.specs.of_meaning.of_base.Sets.{NumberSet}
 use Rattle.fz_builtins.specs.of_meaning.Relations.{chosen}
 use Rattle.fz_builtins.specs.of_kernel.Views.{sets}
 use Rattle.fz_builtins.proofs.of_globals.Choosing.{left, none_chosen, one_chosen}

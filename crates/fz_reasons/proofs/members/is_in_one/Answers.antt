@@ -2,7 +2,7 @@ use Rattle.std.proofs.Common.{◌≡◌, true, drop, FitsSigned, w64, to_z, of_z
 use Rattle.std.specs.FinSet.{contains}
 use Rattle.std.specs.List.{list_any}
 use Rattle.std.proofs.lemmas.Int.{to_z-of_z}
-use Rattle.fz_builtins.specs.of_meaning.of_syntax.Sets.{NumberSet}
+use Rattle.fz_builtins.specs.of_meaning.of_base.Sets.{NumberSet}
 use Rattle.fz_builtins.specs.of_kernel.Views.{sets}
 use Rattle.fz_builtins.proofs.of_globals.Each.{one_does, not_yet}
 use Rattle.fz_reasons.proofs.members.is_in_one.Goals as goal

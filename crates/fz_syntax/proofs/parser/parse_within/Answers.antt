@@ -1,5 +1,6 @@
 use Rattle.fz_tree.specs.View.{bare}
-use Rattle.fz_syntax.specs.Offering.{IsTextOfAllWithin, items_of_tree}
+use Rattle.fz_syntax.specs.Offering.{IsTextOfAllWithin}
+use Rattle.fz_tree.specs.View.{items_of_tree}
 use Rattle.fz_tree.specs.declared.tree.Ast.{Ast}
 use Rattle.fz_syntax.proofs.More.{one_tree, same_tree}
 use Rattle.fz_syntax.proofs.parser.parse_within.Goals as goal

@@ -1,5 +1,5 @@
 use Rattle.std.proofs.Common.{◌≡◌, ◌<◌, ℤ, false, length, arith, rules}
-use Rattle.fz_index.specs.of_model.of_builtins.of_kernel.Given.{int_at, ints_at, slots_at}
+use Rattle.fz_model.specs.of_builtins.of_kernel.Given.{int_at, ints_at, slots_at}
 use Rattle.fz_bounds.specs.Decided.{in_order}
 use Rattle.fz_bounds.specs.Within.{given}
 use Rattle.fz_bounds.proofs.Failed.{never_so, one_fails}

@@ -1,6 +1,6 @@
 use Rattle.std.proofs.Common.{◌∙◌, ◌<◌, FitsSigned, Some, ap, length, w64, arith, rules}
 use Rattle.std.proofs.lemmas.Int.{to_z-of_z}
-use Rattle.fz_index.specs.of_model.of_builtins.of_kernel.Given.{ints_at, slots_at}
+use Rattle.fz_model.specs.of_builtins.of_kernel.Given.{ints_at, slots_at}
 use Rattle.fz_bounds.specs.Within.{given}
 use Rattle.fz_bounds.proofs.Indexed.{twice_listed}
 use Rattle.fz_bounds.proofs.Lists.{is_there}

@@ -1,5 +1,5 @@
 use Rattle.std.proofs.Common.{◌≡◌, ◌<◌, ◌-◌, false, length, arith, rules}
-use Rattle.fz_index.specs.of_model.of_builtins.of_kernel.Given.{ints_at, slots_at}
+use Rattle.fz_model.specs.of_builtins.of_kernel.Given.{ints_at, slots_at}
 use Rattle.fz_bounds.specs.Decided.{in_order}
 use Rattle.fz_bounds.specs.Within.{given}
 use Rattle.fz_bounds.proofs.Failed.{neighbours_fail, never_so}

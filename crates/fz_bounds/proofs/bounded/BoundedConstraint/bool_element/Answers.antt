@@ -1,8 +1,8 @@
 use Rattle.std.proofs.Common.{◌≡◌, ◌+◌, suc, Bool, pos, true, false, ap, sym, slice_get, Some, ◌∙◌, add-one, arith, rules}
 use borrow.Author.Count.{below_more}
-use Rattle.fz_index.specs.of_model.Relations.{◌=ℤ◌, ◌=ᴮ◌}
-use Rattle.fz_index.specs.of_model.of_builtins.of_kernel.Given.{bool_at, bools_at, int_at}
-use Rattle.fz_index.proofs.of_model.Values.{int_itself}
+use Rattle.fz_model.specs.Relations.{◌=ℤ◌, ◌=ᴮ◌}
+use Rattle.fz_model.specs.of_builtins.of_kernel.Given.{bool_at, bools_at, int_at}
+use Rattle.fz_model.proofs.Values.{int_itself}
 use Rattle.fz_bounds.specs.Within.{given}
 use Rattle.fz_bounds.proofs.Indexed.{never_both, no_element}
 use Rattle.fz_bounds.proofs.Lists.{truth_within}

@@ -1,7 +1,7 @@
 use Rattle.std.proofs.Common.{◌≡◌, ◌<◌, ℕ, suc, Bool, pos, Some, false, slice_get}
-use Rattle.fz_index.specs.of_model.Meaning.{Partial}
-use Rattle.fz_index.specs.of_model.Relations.{◌=ᴮ◌}
-use Rattle.fz_index.specs.of_model.of_builtins.of_kernel.Given.{bool_at, bools_at, int_at}
+use Rattle.fz_model.specs.Meaning.{Partial}
+use Rattle.fz_model.specs.Relations.{◌=ᴮ◌}
+use Rattle.fz_model.specs.of_builtins.of_kernel.Given.{bool_at, bools_at, int_at}
 use Rattle.fz_bounds.specs.Within.{NumberLies, TruthLies, TruthsLie, given}
 use Rattle.fz_bounds.proofs.bounded.BoundedConstraint.bool_element.Given as goal
 

@@ -1,8 +1,8 @@
 use Rattle.std.proofs.Common.{◌≡◌, ◌<◌, ◌≤◌, ◌+◌, [], ap, drop, length, arith}
 use Rattle.std.proofs.lemmas.List.{drop_all}
 use Rattle.std.specs.FinSet.{contains}
-use Rattle.fz_index.specs.of_model.Relations.{as_number, count_in}
-use Rattle.fz_index.specs.of_model.of_builtins.of_kernel.Given.{ints_at, set_at, slots_at}
+use Rattle.fz_model.specs.Relations.{as_number, count_in}
+use Rattle.fz_model.specs.of_builtins.of_kernel.Given.{ints_at, set_at, slots_at}
 use Rattle.fz_bounds.specs.Within.{given}
 use Rattle.fz_bounds.proofs.Added.{all_so_far, next_passing, none_so_far, one_more}
 use Rattle.fz_bounds.proofs.Lists.{is_there, numbers_counted}

@@ -1,7 +1,7 @@
 use Rattle.std.proofs.Common.{drop}
-use Rattle.fz_index.specs.of_model.Meaning.{Partial}
-use Rattle.fz_index.specs.of_model.Relations.{count_in}
-use Rattle.fz_index.specs.of_model.of_builtins.of_kernel.Given.{ints_at, set_at}
+use Rattle.fz_model.specs.Meaning.{Partial}
+use Rattle.fz_model.specs.Relations.{count_in}
+use Rattle.fz_model.specs.of_builtins.of_kernel.Given.{ints_at, set_at}
 use Rattle.fz_bounds.specs.Within.{NumbersLie, SetLies, given}
 use Rattle.fz_bounds.proofs.Added.{IsSoFar}
 use Rattle.fz_bounds.proofs.bounded.BoundedConstraint.count_in.Given as goal

@@ -1,7 +1,7 @@
 use Rattle.std.proofs.Common.{◌≡◌, ◌<◌, ◌≤◌, ◌+◌, [], ap, drop, length, arith}
 use Rattle.std.proofs.lemmas.List.{drop_all}
-use Rattle.fz_index.specs.of_model.Relations.{◌=ℤ◌, as_number, count_of}
-use Rattle.fz_index.specs.of_model.of_builtins.of_kernel.Given.{ints_at, slots_at}
+use Rattle.fz_model.specs.Relations.{◌=ℤ◌, as_number, count_of}
+use Rattle.fz_model.specs.of_builtins.of_kernel.Given.{ints_at, slots_at}
 use Rattle.fz_bounds.specs.Within.{given}
 use Rattle.fz_bounds.proofs.Added.{all_so_far, next_passing, none_so_far, one_more}
 use Rattle.fz_bounds.proofs.Lists.{is_there, numbers_counted}

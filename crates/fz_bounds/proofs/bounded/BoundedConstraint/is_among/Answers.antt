@@ -1,7 +1,7 @@
 use Rattle.std.proofs.Common.{◌≡◌, ℤ, false, slice_get, Some, arith, rules}
 use borrow.Author.Count.{below_more}
-use Rattle.fz_index.specs.of_model.Relations.{◌=ℤ◌}
-use Rattle.fz_index.specs.of_model.of_builtins.of_kernel.Given.{ints_at}
+use Rattle.fz_model.specs.Relations.{◌=ℤ◌}
+use Rattle.fz_model.specs.of_builtins.of_kernel.Given.{ints_at}
 use Rattle.fz_bounds.specs.Within.{given}
 use Rattle.fz_bounds.proofs.Failed.{never_so}
 use Rattle.fz_bounds.proofs.Indexed.{none_passes}

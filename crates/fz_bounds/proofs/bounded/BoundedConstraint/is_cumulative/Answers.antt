@@ -1,7 +1,7 @@
 use Rattle.std.proofs.Common.{◌≡◌, ◌<◌, ℤ, false, int_le, length, arith, rules}
 use Rattle.std.specs.List.{zip}
-use Rattle.fz_index.specs.of_model.Relations.{used_at}
-use Rattle.fz_index.specs.of_model.of_builtins.of_kernel.Given.{int_at, ints_at}
+use Rattle.fz_model.specs.Relations.{used_at}
+use Rattle.fz_model.specs.of_builtins.of_kernel.Given.{int_at, ints_at}
 use Rattle.fz_bounds.specs.Decided.{LiesIn}
 use Rattle.fz_bounds.specs.Within.{given}
 use Rattle.fz_bounds.proofs.Chosen.{both_counted, some_in_both}

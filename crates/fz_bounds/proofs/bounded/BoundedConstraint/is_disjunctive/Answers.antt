@@ -1,7 +1,7 @@
 use Rattle.std.proofs.Common.{rules}
 use Rattle.std.specs.List.{zip}
-use Rattle.fz_index.specs.of_model.Relations.{all_pairs, last_naturally}
-use Rattle.fz_index.specs.of_model.of_builtins.of_kernel.Given.{ints_at}
+use Rattle.fz_model.specs.Relations.{all_pairs, last_naturally}
+use Rattle.fz_model.specs.of_builtins.of_kernel.Given.{ints_at}
 use Rattle.fz_bounds.specs.Spans.{keep_apart}
 use Rattle.fz_bounds.specs.Within.{given}
 use Rattle.fz_bounds.proofs.Failed.{and_false}

@@ -1,8 +1,8 @@
 use Rattle.std.proofs.Common.{◌≡◌, ◌∙◌, FitsSigned, subst, w64, rules}
 use Rattle.std.proofs.lemmas.Int.{to_z-of_z}
 use Rattle.std.specs.FinSet.{contains}
-use Rattle.fz_index.specs.of_model.of_builtins.of_kernel.Given.{int_at, set_at}
-use Rattle.fz_index.proofs.of_model.Values.{same_set_is}
+use Rattle.fz_model.specs.of_builtins.of_kernel.Given.{int_at, set_at}
+use Rattle.fz_model.proofs.Values.{same_set_is}
 use Rattle.fz_bounds.specs.Decided.{Decides}
 use Rattle.fz_bounds.specs.Within.{given}
 use Rattle.fz_bounds.proofs.Lists.{first_at_most, last_at_least}

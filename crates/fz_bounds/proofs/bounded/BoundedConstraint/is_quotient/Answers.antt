@@ -1,6 +1,6 @@
 use Rattle.std.proofs.Common.{◌-ℤ◌, ◌*ℤ◌, pos, rules}
-use Rattle.fz_index.specs.of_model.Relations.{◌=ℤ◌}
-use Rattle.fz_index.specs.of_model.of_builtins.of_kernel.Given.{int_at}
+use Rattle.fz_model.specs.Relations.{◌=ℤ◌}
+use Rattle.fz_model.specs.of_builtins.of_kernel.Given.{int_at}
 use Rattle.fz_bounds.specs.Within.{given}
 use Rattle.fz_bounds.proofs.Remainders.{no_quotient}
 use Rattle.fz_bounds.proofs.bounded.BoundedConstraint.is_quotient.Goals as goal

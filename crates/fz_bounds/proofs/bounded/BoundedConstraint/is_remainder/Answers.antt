@@ -1,5 +1,5 @@
 use Rattle.std.proofs.Common.{rules}
-use Rattle.fz_index.specs.of_model.of_builtins.of_kernel.Given.{int_at}
+use Rattle.fz_model.specs.of_builtins.of_kernel.Given.{int_at}
 use Rattle.fz_bounds.specs.Within.{given}
 use Rattle.fz_bounds.proofs.bounded.BoundedConstraint.is_remainder.Goals as goal
 

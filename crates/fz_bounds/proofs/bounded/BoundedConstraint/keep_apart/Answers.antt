@@ -1,5 +1,5 @@
 use Rattle.std.proofs.Common.{◌&&◌, ◌||◌}
-use Rattle.fz_index.specs.of_model.Relations.{are_apart, ends_before, is_empty_span}
+use Rattle.fz_model.specs.Relations.{are_apart, ends_before, is_empty_span}
 use Rattle.fz_bounds.proofs.bounded.BoundedConstraint.keep_apart.Goals as goal
 
 pub returns : goal.returns

@@ -1,8 +1,8 @@
 use Rattle.std.proofs.Common.{drop, ℤ}
 use Rattle.std.specs.List.{zip}
-use Rattle.fz_index.specs.of_model.Meaning.{Partial}
-use Rattle.fz_index.specs.of_model.Relations.{◌=ℤ◌, load_of}
-use Rattle.fz_index.specs.of_model.of_builtins.of_kernel.Given.{ints_at}
+use Rattle.fz_model.specs.Meaning.{Partial}
+use Rattle.fz_model.specs.Relations.{◌=ℤ◌, load_of}
+use Rattle.fz_model.specs.of_builtins.of_kernel.Given.{ints_at}
 use Rattle.fz_bounds.specs.Decided.{LiesIn}
 use Rattle.fz_bounds.specs.Within.{NumbersLie, given}
 use Rattle.fz_bounds.proofs.Added.{IsSoFar}

@@ -1,6 +1,6 @@
 use Rattle.std.proofs.Common.{◌≡◌, ◌<◌, false, int_le, length, arith, rules}
-use Rattle.fz_index.specs.of_model.Relations.{load_of}
-use Rattle.fz_index.specs.of_model.of_builtins.of_kernel.Given.{int_at, ints_at, slots_at}
+use Rattle.fz_model.specs.Relations.{load_of}
+use Rattle.fz_model.specs.of_builtins.of_kernel.Given.{int_at, ints_at, slots_at}
 use Rattle.fz_bounds.specs.Within.{given}
 use Rattle.fz_bounds.proofs.Failed.{never_so, one_fails}
 use Rattle.fz_bounds.proofs.Lists.{is_there}

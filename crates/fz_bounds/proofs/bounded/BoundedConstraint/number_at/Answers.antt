@@ -1,6 +1,6 @@
 use Rattle.std.proofs.Common.{◌≡◌, int_le, true, FitsSigned, subst, sym, w64, rules}
 use Rattle.std.proofs.lemmas.Int.{to_z-of_z}
-use Rattle.fz_index.specs.of_model.of_builtins.of_kernel.Given.{ints_at}
+use Rattle.fz_model.specs.of_builtins.of_kernel.Given.{ints_at}
 use Rattle.fz_bounds.specs.Within.{given}
 use Rattle.fz_bounds.proofs.Lists.{ints_in_order}
 use Rattle.fz_bounds.proofs.bounded.BoundedConstraint.number_at.Goals as goal

@@ -1,6 +1,6 @@
 use Rattle.std.proofs.Common.{◌≡◌, ◌<◌, false, length, arith, rules}
 use Rattle.std.specs.List.{zip}
-use Rattle.fz_index.specs.of_model.of_builtins.of_kernel.Given.{ints_at, slots_at}
+use Rattle.fz_model.specs.of_builtins.of_kernel.Given.{ints_at, slots_at}
 use Rattle.fz_bounds.specs.Spans.{keep_apart}
 use Rattle.fz_bounds.specs.Within.{given}
 use Rattle.fz_bounds.proofs.Chosen.{both_there}

@@ -1,8 +1,8 @@
 use Rattle.std.proofs.Common.{◌≡◌, ◌<◌, ◌∙◌, ℤ, false, ap, length, slice_get, subst, true, Some, arith, rules}
 use borrow.Author.Count.{below_more}
-use Rattle.fz_index.specs.of_model.Relations.{◌=ℤ◌}
-use Rattle.fz_index.specs.of_model.of_builtins.of_kernel.Given.{ints_at, slots_at}
-use Rattle.fz_index.proofs.of_model.Values.{int_itself, same_int}
+use Rattle.fz_model.specs.Relations.{◌=ℤ◌}
+use Rattle.fz_model.specs.of_builtins.of_kernel.Given.{ints_at, slots_at}
+use Rattle.fz_model.proofs.Values.{int_itself, same_int}
 use Rattle.fz_bounds.specs.Decided.{Decides}
 use Rattle.fz_bounds.specs.Within.{given}
 use Rattle.fz_bounds.specs.declared.outlook.Outlook.TheVariants.{Always}

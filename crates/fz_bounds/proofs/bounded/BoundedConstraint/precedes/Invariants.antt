@@ -1,7 +1,7 @@
 use Rattle.std.proofs.Common.{◌≡◌, ◌<◌, ℕ, ℤ, Some, false, slice_get}
-use Rattle.fz_index.specs.of_model.Meaning.{Partial}
-use Rattle.fz_index.specs.of_model.Relations.{◌=ℤ◌}
-use Rattle.fz_index.specs.of_model.of_builtins.of_kernel.Given.{ints_at}
+use Rattle.fz_model.specs.Meaning.{Partial}
+use Rattle.fz_model.specs.Relations.{◌=ℤ◌}
+use Rattle.fz_model.specs.of_builtins.of_kernel.Given.{ints_at}
 use Rattle.fz_bounds.specs.Decided.{LiesIn}
 use Rattle.fz_bounds.specs.Within.{NumbersLie, given}
 use Rattle.fz_bounds.proofs.bounded.BoundedConstraint.precedes.Given as goal

@@ -1,9 +1,9 @@
 use Rattle.std.proofs.Common.{◌≡◌, ◌<◌, ◌+ℤ◌, false, int_le, length, pos, subst, true, arith, rules}
 use Rattle.std.specs.Int.{int_max}
-use Rattle.fz_index.specs.of_model.Relations.{rises_by_one}
-use Rattle.fz_index.specs.of_model.of_builtins.of_kernel.Given.{ints_at, slots_at}
-use Rattle.fz_index.proofs.of_model.of_builtins.of_kernel.Left.{next}
-use Rattle.fz_index.proofs.of_model.Values.{and_second}
+use Rattle.fz_model.specs.Relations.{rises_by_one}
+use Rattle.fz_model.specs.of_builtins.of_kernel.Given.{ints_at, slots_at}
+use Rattle.fz_model.proofs.of_builtins.of_kernel.Left.{next}
+use Rattle.fz_model.proofs.Values.{and_second}
 use Rattle.fz_bounds.specs.Within.{given}
 use Rattle.fz_bounds.proofs.Failed.{never_so, rise_fails}
 use Rattle.fz_bounds.proofs.Lists.{is_there}

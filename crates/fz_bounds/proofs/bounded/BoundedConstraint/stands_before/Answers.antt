@@ -1,5 +1,5 @@
 use Rattle.std.proofs.Common.{◌≡◌, ◌∙◌, ◌<◌, Some, ap, length, arith, rules}
-use Rattle.fz_index.specs.of_model.of_builtins.of_kernel.Given.{slots_at}
+use Rattle.fz_model.specs.of_builtins.of_kernel.Given.{slots_at}
 use Rattle.fz_bounds.specs.Within.{given}
 use Rattle.fz_bounds.proofs.Lists.{is_there}
 use Rattle.fz_bounds.proofs.bounded.BoundedConstraint.stands_before.Goals as goal

@@ -1,7 +1,7 @@
 use Rattle.std.proofs.Common.{drop}
-use Rattle.fz_index.specs.of_model.Meaning.{Partial}
-use Rattle.fz_index.specs.of_model.Relations.{products, total}
-use Rattle.fz_index.specs.of_model.of_builtins.of_kernel.Given.{ints_at}
+use Rattle.fz_model.specs.Meaning.{Partial}
+use Rattle.fz_model.specs.Relations.{products, total}
+use Rattle.fz_model.specs.of_builtins.of_kernel.Given.{ints_at}
 use Rattle.fz_bounds.specs.Within.{NumbersLie, given}
 use Rattle.fz_bounds.proofs.Added.{IsSoFar}
 use Rattle.fz_bounds.proofs.bounded.BoundedConstraint.sum_of_products.Given as goal

@@ -1,9 +1,9 @@
 use Rattle.std.proofs.Common.{◌≡◌, ◌<◌, ◌+◌, ◌*ℤ◌, ◌∙◌, [], ap, drop, length, FitsSigned, of_z, subst, sym, to_z, w64, arith, rules}
 use Rattle.std.proofs.lemmas.Int.{to_z-of_z}
-use Rattle.fz_index.specs.of_model.Relations.{as_number, total, where_true}
-use Rattle.fz_index.specs.of_model.of_builtins.of_kernel.Given.{bools_at, ints_at, slots_at}
-use Rattle.fz_index.proofs.of_model.of_builtins.of_kernel.Added.{none_true_left}
-use Rattle.fz_index.proofs.of_model.of_builtins.of_kernel.Left.{one_ends}
+use Rattle.fz_model.specs.Relations.{as_number, total, where_true}
+use Rattle.fz_model.specs.of_builtins.of_kernel.Given.{bools_at, ints_at, slots_at}
+use Rattle.fz_model.proofs.of_builtins.of_kernel.Added.{none_true_left}
+use Rattle.fz_model.proofs.of_builtins.of_kernel.Left.{one_ends}
 use Rattle.fz_bounds.specs.Decided.{LiesIn}
 use Rattle.fz_bounds.specs.Within.{given}
 use Rattle.fz_bounds.proofs.Added.{all_so_far, next_counted, none_so_far, one_more}

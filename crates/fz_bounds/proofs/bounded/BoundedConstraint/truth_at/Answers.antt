@@ -1,4 +1,4 @@
-use Rattle.fz_index.specs.of_model.of_builtins.of_kernel.Given.{bools_at}
+use Rattle.fz_model.specs.of_builtins.of_kernel.Given.{bools_at}
 use Rattle.fz_bounds.specs.Within.{given}
 use Rattle.fz_bounds.proofs.Lists.{truths_in_order}
 use Rattle.fz_bounds.proofs.bounded.BoundedConstraint.truth_at.Goals as goal

@@ -1,7 +1,7 @@
 use Rattle.std.proofs.Common.{◌≡◌, ◌<◌, ◌+◌, [], ap, cond, drop, length, pos, arith}
 use Rattle.std.specs.List.{zip}
-use Rattle.fz_index.specs.of_model.Relations.{runs_at, used_at}
-use Rattle.fz_index.specs.of_model.of_builtins.of_kernel.Given.{ints_at, slots_at}
+use Rattle.fz_model.specs.Relations.{runs_at, used_at}
+use Rattle.fz_model.specs.of_builtins.of_kernel.Given.{ints_at, slots_at}
 use Rattle.fz_bounds.specs.Within.{given}
 use Rattle.fz_bounds.proofs.Added.{all_so_far, none_so_far, one_more}
 use Rattle.fz_bounds.proofs.Chosen.{both_counted, both_there, chosen, next_chosen, none_in_both}

@@ -1,5 +1,5 @@
 use Rattle.std.proofs.Common.{ap, subst}
-use Rattle.fz_index.specs.of_model.Shown.{point_view}
+use Rattle.fz_model.specs.Shown.{point_view}
 use Rattle.fz_bounds.specs.Bounds.{IsInDomain}
 use Rattle.fz_bounds.proofs.Numbers.{domain_inside}
 use Rattle.fz_bounds.proofs.bounds.Bounds.bound.Goals as goal

@@ -1,4 +1,4 @@
-use Rattle.fz_index.specs.of_model.Meaning.{Assignment}
+use Rattle.fz_model.specs.Meaning.{Assignment}
 use Rattle.fz_bounds.specs.Bounds.{IsInside}
 use Rattle.fz_bounds.proofs.bounds.Bounds.copy.Given as goal
 

@@ -1,4 +1,4 @@
-use Rattle.fz_index.specs.of_model.Shown.{point_view}
+use Rattle.fz_model.specs.Shown.{point_view}
 use Rattle.fz_bounds.proofs.Beginnings.{in_domain}
 use Rattle.fz_bounds.proofs.bounds.Bounds.new.Goals as goal
 

@@ -1,6 +1,6 @@
-use Rattle.fz_index.specs.of_model.Meaning.{Assignment, whole}
-use Rattle.fz_index.specs.of_model.States.{IsKnownSolution}
-use Rattle.fz_index.specs.of_model.Openings.{HasEach}
+use Rattle.fz_model.specs.Meaning.{Assignment, whole}
+use Rattle.fz_model.specs.States.{IsKnownSolution}
+use Rattle.fz_model.specs.Openings.{HasEach}
 use Rattle.fz_bounds.specs.Bounds.{IsInside}
 use Rattle.fz_bounds.proofs.bounds.Bounds.new.Given as goal
 

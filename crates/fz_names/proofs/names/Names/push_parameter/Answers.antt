@@ -3,10 +3,10 @@ use Rattle.std.specs.Map.{lookup}
 use Rattle.std.specs.List.{AllByRecursion}
 use Rattle.std.proofs.lemmas.Result.{on_ok_weaker}
 use Rattle.fz_meaning.specs.declared.term.Term.TheVariants.{Fixed}
-use Rattle.fz_names.specs.declared.names.Citation.TheVariants as entries
+use Rattle.fz_names.specs.declared.names.Citation.TheVariants as citations
 use Rattle.fz_names.specs.declared.names.Kept.{Kept}
 use Rattle.fz_names.specs.Naming.{has_text}
-use Rattle.fz_names.specs.Names.{entry_stands, is_among_terms}
+use Rattle.fz_names.specs.Names.{citation_stands, is_among_terms}
 use Rattle.fz_names.proofs.NameTable.{new_key, among_put, view_pushed, among_more, all_stand_same, stands_last, last_within}
 use Rattle.fz_names.proofs.names.Names.push_parameter.Goals as goal
 
@@ -19,7 +19,7 @@ invariant_of-self-2 c =
     let ks = c.self.inside.listed.items in
     let us = c.push.new.self.items in
     let counted : c.len-number.result ≡ length ts = omega arith in
-    let kept : Kept = record { bytes = c.args.name; entry = entries.Parameter c.len-number.result } in
+    let kept : Kept = record { bytes = c.args.name; citation = citations.Parameter c.len-number.result } in
     let stay = subst (λ zs. AllByRecursion (is_among_terms zs) ks) (sym c.in_ok-push.ensures.items) (among_more ts (Fixed c.args.value ∷ []) ks c.self.invariant.0) in (
       among_put c.put.result us ks _ kept c.put.ensures.pushed c.put.ensures.unchanged stay (last_within ts us (Fixed c.args.value) c.len-number.result c.in_ok-push.ensures.items counted),
       c.put.ensures.distinct,
@@ -32,8 +32,8 @@ returns c =
     let ks = c.self.inside.listed.items in
     let us = c.push.new.self.items in
     let counted : c.len-number.result ≡ length ts = omega arith in
-    let kept : Kept = record { bytes = c.args.name; entry = entries.Parameter c.len-number.result } in
-    let stay = ap (λ zs. map (entry_stands zs) ks) c.in_ok-push.ensures.items ∙ all_stand_same ts (Fixed c.args.value ∷ []) ks c.self.invariant.0 ∙ c.self.view_is in
+    let kept : Kept = record { bytes = c.args.name; citation = citations.Parameter c.len-number.result } in
+    let stay = ap (λ zs. map (citation_stands zs) ks) c.in_ok-push.ensures.items ∙ all_stand_same ts (Fixed c.args.value ∷ []) ks c.self.invariant.0 ∙ c.self.view_is in
     record {
       pushed = on_ok_weaker c.put.result
           (λ last. view_pushed us ks _ kept last _ stay
