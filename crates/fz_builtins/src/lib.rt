@@ -39,9 +39,9 @@ pub use fz_globals::{
 };
 pub use fz_scheduling::bins::load_of;
 pub use fz_scheduling::runs_at;
-pub use fz_scheduling::slides::term_at;
+pub use fz_scheduling::slides::sum_of;
 pub use fz_scheduling::tasks::used_at;
-pub use fz_scheduling::words::next_state;
+pub use fz_scheduling::words::{end_of_run, next_state, state_after};
 pub use outcome::Outcome;
 pub use said::Said;
 pub use sums::{is_unknown, leaves};

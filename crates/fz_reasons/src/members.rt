@@ -7,53 +7,18 @@ ghost use Rattle.std.specs.Option.{option_map_or};
 ghost use Rattle.fz_builtins.specs.of_meaning.Relations.{chosen, element_at, lies_between};
 ghost use Rattle.fz_builtins.specs.of_kernel.Views.{arguments_of, assigned, sets};
 ghost use Rattle.fz_builtins.specs.Readings.{int, numbers, sets_of, truths};
-ghost use Rattle.fz_reasons.specs.Reasons.{IsMisplaced, Says, in_sets, is_misplaced};
+ghost use Rattle.fz_reasons.specs.Reasons.{IsMisplaced, in_sets, is_misplaced};
 
 use crate::places::lies_between;
-use crate::reason::{Member, Reason};
+use crate::reason::Member;
 use fz_builtins::{
-    ArgumentView, Builtin, Elements, IntSet, has, index_at, place_from, same_set, set_element,
+    ArgumentView, Builtin, Elements, IntSet, has, index_at, place_from, set_element,
 };
 use std::alloc::{AllocError, Global};
 
-/// A number that is in one set and not in another, or that isn't in the set; or that two sets are
-/// the same.
-#[tactic(auto, unfolding(crate::specs::Reasons::Says))]
-pub(crate) fn by_sets(
-    alloc: Global,
-    builtin: Builtin,
-    view: &ArgumentView<'_, '_>,
-) -> Result<Option<Reason>, AllocError>
-    ensures { IfOk result (λ o. IfSome o
-        (Says builtin (assigned view.now) (arguments_of view.now))) }
-{
-    match builtin {
-        Builtin::SetIn if !view.set(1).contains(view.int(0)) => {
-            Ok(Some(Reason::NotListed(view.int(0))))
-        }
-        Builtin::SetNe if same_set(view.set(0), view.set(1)) => Ok(Some(Reason::Same)),
-        Builtin::SetEq
-        | Builtin::SetSubset
-        | Builtin::SetSuperset
-        | Builtin::SetUnion
-        | Builtin::SetIntersect
-        | Builtin::SetDiff
-        | Builtin::SetSymdiff
-        | Builtin::FznDisjoint
-        | Builtin::SetConvex
-        | Builtin::ArraySetElement
-        | Builtin::GecodeArraySetElementUnion
-        | Builtin::FznPartitionSet
-        | Builtin::GecodeLinkSetToBooleans => {
-            Ok(by_member(alloc, builtin, view)?.map(Reason::Member))
-        }
-        _ => Ok(None),
-    }
-}
-
 /// A number by which a row over sets fails: where one does, so does an end of a range of a set or
 /// the one behind it, or the index of a Boolean.
-fn by_member(
+pub(crate) fn by_member(
     alloc: Global,
     builtin: Builtin,
     view: &ArgumentView<'_, '_>,
