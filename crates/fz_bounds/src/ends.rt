@@ -4,7 +4,7 @@ ghost use Rattle.std.specs.Prelude.{◌≡◌, IfSome};
 ghost use Rattle.fz_bounds.specs.Bounds.{number_as};
 ghost use Rattle.fz_bounds.specs.Ends.{AreEnds};
 
-use fz_index::{Kind, Value};
+use fz_index::{Ends, Kind, Value};
 
 /// The bounds of a variable as numbers: of a Boolean, 0 is false and 1 is true.
 #[derive(Clone, Copy)]
@@ -12,6 +12,14 @@ pub struct KindEnds {
     pub kind: Kind,
     pub low: i64,
     pub high: i64,
+}
+
+impl KindEnds {
+    /// The numbers alone.
+    pub fn bare(self) -> Ends {
+        let KindEnds { low, high, .. } = self;
+        Ends { low, high }
+    }
 }
 
 /// The value that a number stands for in a variable of the kind: of a Boolean, a number above 0 is

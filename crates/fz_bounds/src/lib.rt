@@ -32,8 +32,8 @@ pub use bounds::Bounds;
 pub use ends::{KindEnds, number_as};
 pub use fz_index::{
     Domain, End, Ends, Goal, IntSet, Kind, Left, Model, Narrower, Narrowing, Overview, Partial,
-    PointParts, Product, Refutation, Relation, Row, Scalars, Search, Slot, State, Sums, Term,
-    Value, Visit, forced_any, kind_of, known_of, same_kind, state,
+    PointParts, Product, Refutation, Relation, Row, Search, Slot, State, Sums, Term, Value, Visit,
+    forced_any, kind_of, known_of, same_kind, state,
 };
 pub use outlook::Outlook;
 pub use range::Range;

@@ -30,8 +30,8 @@ pub use course::Course;
 pub use error::BlockError;
 pub use filling::{fill, fill_with_steps, filled};
 pub use fz_index::{
-    Argument, ConstraintParts, Domain, Goal, Kind, Left, LoadError, Model, ModelError, Narrower,
-    Narrowing, Partial, Point, PointParts, Refutation, Scalar, Scalars, Search, Slot, State, Term,
+    Argument, ConstraintParts, Domain, Ends, Goal, Kind, Left, LoadError, Model, ModelError,
+    Narrower, Narrowing, Partial, Point, PointParts, Refutation, Scalar, Scalars, Search, Slot, State, Term,
     What, Wide, literal_value, load, load_text, part, scalar_at, state,
 };
 pub use fz_stream::{

@@ -1,3 +1,3 @@
 pub use Rattle.fz_bounds.specs.of_model
 pub mod Found
-pub mod Refuted
+pub mod Tree
