@@ -1,9 +1,9 @@
 #!/usr/bin/env python3
 """Compares what documents say of the sources with these: the table of docs/THEOREM.md, "What each
-crate promises", with the contracts in crates/, and the table of docs/TESTING.md, "What the prover refuses", with the
-edits of the gate. Those of tests/wrong, which the gate doesn't try, must still fit their files.
-Each file that a document names by its path must be there. CONTRIBUTING.md, "A builtin", names each
-file in which its example stands.
+crate promises", with the contracts in crates/, and the table of docs/TESTING.md, "What the prover
+refuses", with the edits of the gate. Those of tests/wrong, which the gate doesn't try, must still
+fit their files. Each file that a document names by its path must be there. CONTRIBUTING.md, "A
+builtin", names each file in which its example stands.
 
 Each clause that a row names must stand at one of the row's calls, and each call must have one of
 them; where a row names none, each call must have an `ensures`. A call is looked for in the crates

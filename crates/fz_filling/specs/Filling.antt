@@ -94,7 +94,7 @@ pub record IsFurthered (m : Model) (F G : Partial) : Type 0 where
   pub none_left : AllByRecursion (GivesNone m G) (points m)
 
 -- Where values that a solver left out are looked for, the steps of the first filling come first, to
--- the end of its chain: each is a constraint's to its defined variable. Those of the second follow.
+-- the end of its chain: a constraint's are to its defined variable. Those of the second follow.
 pub record AreInTurn (m : Model) (K G : Partial) (steps : List (ℕ × ℕ)) : Type 0 where
   pub between : Partial
   pub first : List (ℕ × ℕ)

@@ -5,7 +5,7 @@ mod names;
 mod numbered;
 
 pub use fz_meaning::{
-    Builtin, Domain, Filled, Form, IntSet, Kind, Known, Matrix,
-    ModelError, SetError, Shape, State, Term, Value, Wide, same_text,
+    Builtin, Domain, Filled, Form, IntSet, Kind, Known, Matrix, ModelError, SetError, Shape, State,
+    Term, Value, Wide, same_text,
 };
 pub use names::{Names, Standing};

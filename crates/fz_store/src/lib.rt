@@ -17,9 +17,8 @@ mod values;
 
 pub use found::{Found, Scalars, What};
 pub use fz_names::{
-    Builtin, Domain, Filled, Form, IntSet, Kind, Known, Matrix,
-    ModelError, Names, SetError, Shape, Standing, State, Term, Value, Wide,
-    same_text,
+    Builtin, Domain, Filled, Form, IntSet, Kind, Known, Matrix, ModelError, Names, SetError, Shape,
+    Standing, State, Term, Value, Wide, same_text,
 };
 pub use model::{Model, assembled};
 pub use partial::{Partial, number_of, truth_of};
