@@ -1,5 +1,5 @@
 -- The sum of those numbers whose companion passes a test, taken one after another.
-use Rattle.std.proofs.Common.{◌≡◌, ℕ, zero, suc, ◌+◌, ◌<◌, ◌≤◌, ℤ, pos, ◌+ℤ◌, Bool, true, false, List, [], ◌∷◌, drop, length, map, min, Some, slice_get, refl, ap, ◌∙◌, arith}
+use Rattle.std.proofs.Common.{◌≡◌, ℕ, ◌+◌, ◌<◌, ◌≤◌, ℤ, pos, ◌+ℤ◌, Bool, true, false, List, [], ◌∷◌, drop, length, map, min, Some, slice_get, refl, ap, ◌∙◌, arith}
 use Rattle.std.proofs.lemmas.Int.{ints}
 use Rattle.std.proofs.lemmas.Slice.Zip.{length-zip}
 use Rattle.std.specs.List.{filter, zip}
@@ -26,16 +26,6 @@ next_chosen test ps i a n at =
     ap (chosen test) (next ps i (a, n) at) ∙ one_kept (test a) a n (filter (λ p. test p.0) (drop (i + 1) ps))
 
 -- ---- arrays that are read at the same index
-
-pub both_there : {A B : Type 0} (xs : List A) (ys : List B) (i : ℕ) (x : A) (y : B)
-    → slice_get xs i ≡ Some x → slice_get ys i ≡ Some y → slice_get (zip xs ys) i ≡ Some (x, y)
-both_there [] ys i x y d e = cc
-both_there (a ∷ xs) [] i x y d e = cc
-both_there (a ∷ xs) (b ∷ ys) zero x y d e =
-    let one : a ≡ x = cc in
-    let other : b ≡ y = cc in
-    λ j. Some (one j, other j)
-both_there (a ∷ xs) (b ∷ ys) (suc i) x y d e = both_there xs ys i x y d e
 
 pub none_in_both : {A B : Type 0} (xs : List A) (ys : List B) (m n i : ℕ) → m ≡ length xs
     → n ≡ length ys → min m n ≤ i → drop i (zip xs ys) ≡ []

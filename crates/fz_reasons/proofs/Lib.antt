@@ -1,14 +1,3 @@
-pub mod Gaps
-pub mod Lists
-pub mod Misplaced
-pub mod Truths
-pub mod BelowZero
-pub mod Channels
-pub mod Scheduled
-pub mod Touring
-pub mod Ordered
-pub mod Indexed
-pub mod Referring
-pub mod SetRows
 pub mod Arranging
+pub mod SetRows
 pub mod Fails

@@ -1,28 +1,20 @@
--- What reasons say of the elements of arrays (this project's profile). Indices count from 0.
-use Rattle.std.specs.Prelude.{◌≡◌, ◌<◌, ◌+◌, ◌*◌, ℕ, suc, ℤ, pos, ◌+ℤ◌, ◌-ℤ◌, Bool, true, false, not, List, Option, None, Some, length, slice_get, take, int_le, int_lt}
-use Rattle.std.specs.List.{zip}
+-- What reasons say of the numbers that a row compares, and of the elements of arrays (this
+-- project's profile). Indices count from 0.
+use Rattle.std.specs.Prelude.{cond, option_and_then, ◌&&◌, ◌||◌, ◌≡◌, ◌<◌, ◌≤◌, ◌+◌, ◌*◌, ℕ, suc, ℤ, pos, ◌+ℤ◌, ◌-ℤ◌, Bool, true, false, not, List, Option, None, Some, drop, length, slice_get, take, int_le, int_lt}
+use Rattle.std.specs.List.{list_all, list_any, zip}
 use Rattle.std.specs.List.Sorted.{IsSorted, IsPermutation}
 use Rattle.std.specs.Ordering.{int_cmp}
 use Rattle.std.specs.FinSet as sets
 use Rattle.std.specs.Option.{option_map_or}
-use Rattle.fz_builtins.specs.of_meaning.Relations.{◌=ℤ◌, Span, are_apart, count_of, element_at, has_only, is_among, lies_between, load_of, run, step, used_at}
+use Rattle.fz_builtins.specs.of_meaning.Relations.{◌=ℤ◌, ◌=ᴮ◌, Span, are_apart, as_number, count_of, element_at, end_of_tour, has_only, is_among, lies_between, load_of, moved_from, products, run, step, total, used_at, where_true}
+use Rattle.fz_builtins.specs.of_meaning.States.{leaves_128}
 use Rattle.fz_builtins.specs.of_meaning.of_base.Sets.{NumberSet}
-pub use Rattle.fz_reasons.specs.declared.reason.Relation.{Relation}
+use Rattle.fz_builtins.specs.of_meaning.declared.builtin.Builtin.TheVariants as builtin
+use Rattle.fz_reasons.specs.Rows.{Argument, Builtin, Partial, bool_at, bools_at, int_at, ints_at}
+use Rattle.fz_reasons.specs.declared.reason.Operands.{Operands}
+use Rattle.fz_reasons.specs.declared.reason.Operands.TheVariants as of
+pub use Rattle.fz_reasons.specs.declared.reason.{Relation.Relation, Sides.Sides, Clash.Clash, Neighbours.Neighbours, Count.Count, Element.Element, Stretch.Stretch, Overlap.Overlap, Boxes.Boxes, Load.Load, Difference.Difference, Early.Early, OneWay.OneWay, NoStep.NoStep, NearRow.NearRow, BinLoad.BinLoad, NoIndex.NoIndex, Ring.Ring, Run.Run, Total.Total}
 pub use Rattle.fz_reasons.specs.declared.reason.Relation.TheVariants.{Equal, NotEqual, AtMost, Below, AtLeast, Above}
-pub use Rattle.fz_reasons.specs.declared.reason.Sides.{Sides}
-pub use Rattle.fz_reasons.specs.declared.reason.Clash.{Clash}
-pub use Rattle.fz_reasons.specs.declared.reason.Neighbours.{Neighbours}
-pub use Rattle.fz_reasons.specs.declared.reason.Count.{Count}
-pub use Rattle.fz_reasons.specs.declared.reason.Element.{Element}
-pub use Rattle.fz_reasons.specs.declared.reason.Stretch.{Stretch}
-pub use Rattle.fz_reasons.specs.declared.reason.Overlap.{Overlap}
-pub use Rattle.fz_reasons.specs.declared.reason.Boxes.{Boxes}
-pub use Rattle.fz_reasons.specs.declared.reason.Load.{Load}
-pub use Rattle.fz_reasons.specs.declared.reason.Difference.{Difference}
-pub use Rattle.fz_reasons.specs.declared.reason.Early.{Early}
-pub use Rattle.fz_reasons.specs.declared.reason.OneWay.{OneWay}
-pub use Rattle.fz_reasons.specs.declared.reason.NoStep.{NoStep}
-pub use Rattle.fz_reasons.specs.declared.reason.NearRow.{NearRow}
 
 -- how two numbers are compared
 abbrev pub relates : Relation → ℤ → ℤ → Bool
@@ -32,6 +24,74 @@ relates AtMost x y = int_le x y
 relates Below x y = int_lt x y
 relates AtLeast x y = int_le y x
 relates Above x y = int_lt y x
+
+-- ---- two numbers that a row compares; Booleans are compared as 0 and 1
+
+-- the left and the right number
+abbrev pub operands : Operands → Partial → List Argument → ℤ × ℤ
+operands of.Scalars K xs = (int_at K xs 0, int_at K xs 1)
+operands of.Products K xs = (total (products (ints_at K xs 0) (ints_at K xs 1)), int_at K xs 2)
+operands of.Weights K xs = (total (where_true (ints_at K xs 0) (bools_at K xs 1)), int_at K xs 2)
+operands of.Count K xs = (count_of (ints_at K xs 0) (int_at K xs 1), int_at K xs 2)
+operands of.CountLast K xs = (count_of (ints_at K xs 1) (int_at K xs 2), int_at K xs 0)
+operands of.Truths K xs = (as_number (bool_at K xs 0), as_number (bool_at K xs 1))
+operands of.And K xs = (as_number (bool_at K xs 0 && bool_at K xs 1), as_number (bool_at K xs 2))
+operands of.Or K xs = (as_number (bool_at K xs 0 || bool_at K xs 1), as_number (bool_at K xs 2))
+operands of.Xor K xs =
+    (as_number (not (bool_at K xs 0 =ᴮ bool_at K xs 1)), as_number (bool_at K xs 2))
+operands of.All K xs = (as_number (list_all (λ x. x) (bools_at K xs 0)), as_number (bool_at K xs 1))
+operands of.Any K xs = (as_number (list_any (λ x. x) (bools_at K xs 0)), as_number (bool_at K xs 1))
+
+-- a sum of them leaves 128 bits
+abbrev pub leave : Operands → Partial → List Argument → Bool
+leave of.Products K xs = leaves_128 (products (ints_at K xs 0) (ints_at K xs 1))
+leave o K xs = false
+
+unfoldable pub comparison : Builtin → Option (Operands × Relation)
+comparison builtin.IntNe = Some (of.Scalars, NotEqual)
+comparison builtin.IntLe = Some (of.Scalars, AtMost)
+comparison builtin.IntLt = Some (of.Scalars, Below)
+comparison builtin.IntGe = Some (of.Scalars, AtLeast)
+comparison builtin.IntGt = Some (of.Scalars, Above)
+comparison builtin.IntLinEq = Some (of.Products, Equal)
+comparison builtin.IntLinNe = Some (of.Products, NotEqual)
+comparison builtin.IntLinLe = Some (of.Products, AtMost)
+comparison builtin.BoolLe = Some (of.Truths, AtMost)
+comparison builtin.BoolLt = Some (of.Truths, Below)
+comparison builtin.BoolGe = Some (of.Truths, AtLeast)
+comparison builtin.BoolGt = Some (of.Truths, Above)
+comparison builtin.BoolAndImp = Some (of.And, AtLeast)
+comparison builtin.BoolOrImp = Some (of.Or, AtLeast)
+comparison builtin.BoolXorImp = Some (of.Xor, AtLeast)
+comparison builtin.ArrayBoolAndImp = Some (of.All, AtLeast)
+comparison builtin.ArrayBoolOrImp = Some (of.Any, AtLeast)
+comparison builtin.BoolLinNe = Some (of.Weights, NotEqual)
+comparison builtin.BoolLinLe = Some (of.Weights, AtMost)
+comparison builtin.BoolLinLt = Some (of.Weights, Below)
+comparison builtin.BoolLinGe = Some (of.Weights, AtLeast)
+comparison builtin.BoolLinGt = Some (of.Weights, Above)
+comparison builtin.FznCountNeq = Some (of.Count, NotEqual)
+comparison builtin.FznCountGeq = Some (of.Count, AtMost)
+comparison builtin.FznCountGt = Some (of.Count, Below)
+comparison builtin.FznCountLeq = Some (of.Count, AtLeast)
+comparison builtin.FznCountLt = Some (of.Count, Above)
+comparison builtin.FznAtLeastInt = Some (of.CountLast, AtLeast)
+comparison builtin.FznAtMostInt = Some (of.CountLast, AtMost)
+comparison builtin.FznExactlyInt = Some (of.CountLast, Equal)
+comparison b = None
+
+-- The two numbers of a row that compares two, and how; none where a sum of them leaves 128 bits.
+abbrev pub sides_of : Operands × Relation → Partial → List Argument → Option Sides
+sides_of c K xs = cond (leave c.0 K xs) None (Some (record {
+  left = (operands c.0 K xs).0;
+  relation = c.1;
+  right = (operands c.0 K xs).1;
+}))
+
+abbrev pub sides : Builtin → Partial → List Argument → Option Sides
+sides b K xs = option_and_then (λ c. sides_of c K xs) (comparison b)
+
+-- ---- elements of arrays
 
 -- two elements with the same value
 pub record IsClash (xs : List ℤ) (c : Clash) : Type 0 where
@@ -53,7 +113,8 @@ pub record AreUnlike (relation : Relation) (xs : List ℤ) (n : Neighbours) : Ty
   pub unlike : relates n.sides.relation n.sides.left n.sides.right ≡ false
 
 -- a value of the cover, how often it is an element, and how often it has to be
-pub record IsCount (xs cover ns : List ℤ) (c : Count) : Type 0 where
+pub record IsCount (relation : Relation) (xs cover ns : List ℤ) (c : Count) : Type 0 where
+  pub asked : relation ≡ c.sides.relation
   pub value : slice_get cover c.place ≡ Some c.value
   pub counted : count_of xs c.value ≡ c.sides.left
   pub wanted : slice_get ns c.place ≡ Some c.sides.right
@@ -219,3 +280,53 @@ pub record IsDifferentRow (xs table : List ℤ) (n : NearRow) : Type 0 where
   pub value : slice_get xs n.place ≡ Some n.value
   pub wanted : slice_get table (n.row * length xs + n.place) ≡ Some n.wanted
   pub other : (n.value =ℤ n.wanted) ≡ false
+
+-- ---- elements that are no index where they have to be one
+
+-- the element there isn't one of n numbers from `first` on
+pub record IsNoIndex (xs : List ℤ) (first : ℤ) (n : ℕ) (o : NoIndex) : Type 0 where
+  pub value : slice_get xs o.place ≡ Some o.value
+  pub low : first ≡ o.low
+  pub high : ((first +ℤ pos n) -ℤ pos 1) ≡ o.high
+  pub outside : lies_between o.low o.high o.value ≡ false
+
+-- ---- lists of successors that make no tour; positions are counted from 1
+
+-- from its start the successors come back to it in so many steps, which are fewer than n
+pub record ComesBack (next : List ℤ) (n : ℕ) (c : Ring) : Type 0 where
+  pub some : 0 < c.steps
+  pub fewer : c.steps < n
+  pub back : end_of_tour next c.steps c.start ≡ Some c.start
+
+-- as many steps from the first position as there are positions lead into a ring that is shorter
+pub record IsShortRing (next : List ℤ) (c : Ring) : Type 0 where
+  pub ring : ComesBack next (length next) c
+  pub reached : end_of_tour next (length next) (pos 1) ≡ Some c.start
+
+-- the ring of the first position that is moved has fewer positions than are moved
+pub record LeavesOut (next : List ℤ) (c : Ring) : Type 0 where
+  pub ring : ComesBack next (length (moved_from (pos 1) next)) c
+  pub first : slice_get (moved_from (pos 1) next) 0 ≡ Some c.start
+
+-- ---- bins, knapsacks and runs of neighbours
+
+-- the bin, of those that begin with `first`, has another load than the one that is given for it
+pub record HasOtherLoad (bins weights loads : List ℤ) (first : ℤ) (l : BinLoad) : Type 0 where
+  pub bin : (first +ℤ pos l.place) ≡ l.bin
+  pub load : load_of bins weights l.bin ≡ l.load
+  pub wanted : slice_get loads l.place ≡ Some l.wanted
+  pub other : (l.wanted =ℤ l.load) ≡ false
+
+-- the sum of products is another number
+pub record IsOtherTotal (weights numbers : List ℤ) (n : ℤ) (t : Total) : Type 0 where
+  pub is : total (products weights numbers) ≡ t.total
+  pub wanted : n ≡ t.wanted
+  pub other : (t.total =ℤ t.wanted) ≡ false
+
+-- the sum of a run of so many neighbours doesn't lie within the bounds
+pub record IsOtherRun (low high k : ℤ) (xs : List ℤ) (r : Run) : Type 0 where
+  pub count : k ≡ pos r.count
+  pub some : 0 < r.count
+  pub within : r.place + r.count ≤ length xs
+  pub is : total (take r.count (drop r.place xs)) ≡ r.sum
+  pub outside : lies_between low high r.sum ≡ false

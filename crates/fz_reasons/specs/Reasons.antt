@@ -1,41 +1,35 @@
 -- What a reason says of the values of a constraint's arguments, and that from it the row fails
 -- (this project's profile). Each kind of reason belongs to the rows that are listed with it; of
 -- another row it says nothing that can be so.
-use Rattle.std.specs.Prelude.{◌≡◌, ◌+ℤ◌, ◌-ℤ◌, ℕ, ℤ, pos, Bool, true, false, not, ◌&&◌, ◌||◌, if◌then◌else◌, List, [], ◌∷◌, Option, None, Some, int_lt, length, map, nat_eq, slice_get}
-use Rattle.std.specs.List.{filter, list_any, zip}
+use Rattle.std.specs.Prelude.{◌≡◌, ◌⊎◌, ◌<◌, ⊤, ◌+ℤ◌, ◌-ℤ◌, ℕ, ℤ, pos, Bool, true, false, not, ◌&&◌, ◌||◌, List, [], ◌∷◌, Option, None, Some, int_lt, length, map, slice_get}
+use Rattle.std.specs.List.{filter, list_any}
 use Rattle.std.specs.Option.{option_map_or}
 use Rattle.std.specs.FinSet as sets
 use Rattle.fz_builtins.specs.of_meaning.of_base.declared.value.Value.TheVariants.{Int, Bool as Truth}
 use Rattle.fz_builtins.specs.of_meaning.of_base.Sets.{NumberSet}
-use Rattle.fz_reasons.specs.Rows.{Argument, Builtin, Partial, bool_at, bools_at, bools_of, int_at, ints_at, ints_of, row_at, row_outcome, set_at, sets_at, slots_at}
+use Rattle.fz_reasons.specs.Rows.{Argument, Builtin, Partial, bool_at, bools_at, bools_of, int_at, ints_at, ints_of, reads_beyond, row_at, row_outcome, set_at, sets_at, slots_at}
 use Rattle.fz_builtins.specs.of_meaning.declared.builtin.Builtin.TheVariants as builtin
 use Rattle.fz_builtins.specs.of_meaning.declared.kind.Kind.TheVariants.{Int as IntKind, Bool as BoolKind}
 use Rattle.fz_builtins.specs.of_meaning.declared.term.Term.{Term}
-use Rattle.fz_builtins.specs.of_meaning.Relations.{◌=ℤ◌, ◌=ᴮ◌, ◌=ˢ◌, Span, as_number, chosen, element_at, is_among, is_natural, is_nonzero, is_odd, is_row_of, lies_between, run}
+use Rattle.fz_builtins.specs.of_meaning.Relations.{◌=ℤ◌, ◌=ᴮ◌, ◌=ˢ◌, as_number, as_places, chosen, element_at, is_among, is_natural, is_nonzero, is_odd, is_row_of, lies_between, marks, run}
 use Rattle.fz_builtins.specs.declared.outcome.Outcome.TheVariants as outcomes
+use Rattle.fz_builtins.specs.of_meaning.declared.known.{Form.Form, Form.TheVariants.Base, Form.TheVariants.Reified, Form.TheVariants.Implied, Known.Known}
+use Rattle.fz_builtins.specs.of_meaning.Known.{known_row}
 use Rattle.fz_builtins.specs.Said.{HasResult, is_result, row_with}
-use Rattle.fz_reasons.specs.Arranged.{AddsUp, SaysArranged}
-use Rattle.fz_reasons.specs.Compared.{sides}
-use Rattle.fz_reasons.specs.Elements.{AreBoxes, AreUnlike, BothLast, HasNoStep, IsBin, IsClash, IsCount, IsDifference, IsDifferentRow, IsEarly, IsEarlyInChain, IsEarlySet, IsInNoSet, IsLoad, IsNoIndexOf, IsNotBack, IsOneWay, IsOutside, IsOverlap, IsShared, IsUnsorted, agree, comes_before, relates, Relation, Equal, AtMost, Below, AtLeast, Sides, Clash, Count, Element, Overlap, Boxes, Load, Difference, Early, OneWay, NoStep, NearRow}
-pub use Rattle.fz_reasons.specs.declared.reason.ElementKind.{ElementKind}
+use Rattle.fz_reasons.specs.Elements.{sides, AreBoxes, AreUnlike, BothLast, HasNoStep, HasOtherLoad, IsBin, IsClash, IsCount, IsDifference, IsDifferentRow, IsEarly, IsEarlyInChain, IsEarlySet, IsInNoSet, IsLoad, IsNoIndex, IsNoIndexOf, IsNotBack, IsOneWay, IsOtherRun, IsOtherTotal, IsOutside, IsOverlap, IsShared, IsShortRing, IsUnsorted, LeavesOut, agree, comes_before, relates, Relation, Equal, AtMost, Below, AtLeast, Sides}
+pub use Rattle.fz_reasons.specs.declared.reason.{ElementKind.ElementKind, Negative.Negative, Quantity.Quantity, OtherNumber.OtherNumber, OtherTruth.OtherTruth, Member.Member, Reason.Reason}
 use Rattle.fz_reasons.specs.declared.reason.ElementKind.TheVariants as kinds
-pub use Rattle.fz_reasons.specs.declared.reason.Negative.{Negative}
-pub use Rattle.fz_reasons.specs.declared.reason.Quantity.{Quantity}
 use Rattle.fz_reasons.specs.declared.reason.Quantity.TheVariants as of
-pub use Rattle.fz_reasons.specs.declared.reason.OtherNumber.{OtherNumber}
-pub use Rattle.fz_reasons.specs.declared.reason.OtherTruth.{OtherTruth}
-pub use Rattle.fz_reasons.specs.declared.reason.Member.{Member}
-pub use Rattle.fz_reasons.specs.declared.reason.Reason.{Reason}
 use Rattle.fz_reasons.specs.declared.reason.Reason.TheVariants as reasons
+use Rattle.fz_reasons.specs.declared.reason.Why.{Why}
+use Rattle.fz_reasons.specs.declared.reason.Why.TheVariants as whys
 
--- ---- two sides
+-- ---- two sides, or a result
 
 -- the row compares two numbers, which don't compare as it asks
 pub record Unlike (b : Builtin) (K : Partial) (xs : List Argument) (s : Sides) : Type 0 where
   pub sides : sides b K xs ≡ Some s
   pub unlike : relates s.relation s.left s.right ≡ false
-
--- ---- a result
 
 -- the argument has the value, and the row holds just with the one that is wanted
 pub record HasOtherNumber (b : Builtin) (K : Partial) (xs : List Argument) (o : OtherNumber)
@@ -52,18 +46,6 @@ pub record HasOtherTruth (b : Builtin) (K : Partial) (xs : List Argument) (o : O
   pub holds_with : (v : Bool)
       → row_with (row_at b) K xs o.argument (Truth v) ≡ is_result ◌=ᴮ◌ o.wanted v
   pub other : is_result ◌=ᴮ◌ o.wanted o.value ≡ false
-
--- ---- literals
-
-abbrev pub HasNoLiteral : Builtin → Partial → List Argument → Type 0
-HasNoLiteral builtin.BoolClause K xs =
-    (list_any (λ x. x) (bools_at K xs 0) ≡ false)
-    × (list_any (λ x. not x) (bools_at K xs 1) ≡ false)
-HasNoLiteral b K xs = ⊥
-
-abbrev pub HasEven : Builtin → Partial → List Argument → Type 0
-HasEven builtin.ArrayBoolXor K xs = is_odd (length (filter (λ x. x) (bools_at K xs 0))) ≡ false
-HasEven b K xs = ⊥
 
 -- ---- elements of arrays
 
@@ -85,14 +67,6 @@ numbers_of kinds.Bool K ss = map as_number (bools_of K ss)
 abbrev pub numbers_at : ElementKind → Partial → List Argument → ℕ → List ℤ
 numbers_at kind K xs i = numbers_of kind K (slots_at xs i)
 
-abbrev pub Clashes : Builtin → Partial → List Argument → Clash → Type 0
-Clashes builtin.FznAllDifferentInt K xs c = IsClash (ints_at K xs 0) c
-Clashes builtin.FznAlldifferentExcept0 K xs c =
-    IsClash (ints_at K xs 0) c × (is_nonzero c.value ≡ true)
-Clashes builtin.FzcheckSubcircuit K xs c = IsClash (ints_at K xs 1) c
-Clashes builtin.FznPartitionSet K xs c = IsShared (sets_at K xs 0) c
-Clashes b K xs c = ⊥
-
 -- how each element of the first argument has to compare with the next one
 abbrev pub neighbours_of : Builtin → Option Relation
 neighbours_of builtin.FznAllEqualInt = Some Equal
@@ -103,55 +77,15 @@ neighbours_of builtin.FznIncreasingBool = Some AtMost
 neighbours_of builtin.FznDecreasingBool = Some AtLeast
 neighbours_of b = None
 
--- a value of the cover that comes too often or too seldom, by how its number compares
-abbrev pub Counts : Builtin → Relation → Partial → List Argument → Count → Type 0
-Counts builtin.FznGlobalCardinality Equal K xs c =
-    IsCount (ints_at K xs 0) (ints_at K xs 1) (ints_at K xs 2) c
-Counts builtin.FznGlobalCardinalityClosed Equal K xs c =
-    IsCount (ints_at K xs 0) (ints_at K xs 1) (ints_at K xs 2) c
-Counts builtin.FznGlobalCardinalityLowUp AtLeast K xs c =
-    IsCount (ints_at K xs 0) (ints_at K xs 1) (ints_at K xs 2) c
-Counts builtin.FznGlobalCardinalityLowUp AtMost K xs c =
-    IsCount (ints_at K xs 0) (ints_at K xs 1) (ints_at K xs 3) c
-Counts builtin.FznGlobalCardinalityLowUpClosed AtLeast K xs c =
-    IsCount (ints_at K xs 0) (ints_at K xs 1) (ints_at K xs 2) c
-Counts builtin.FznGlobalCardinalityLowUpClosed AtMost K xs c =
-    IsCount (ints_at K xs 0) (ints_at K xs 1) (ints_at K xs 3) c
-Counts builtin.FznDistribute Equal K xs c =
-    IsCount (ints_at K xs 2) (ints_at K xs 1) (ints_at K xs 0) c
-Counts b relation K xs c = ⊥
-
--- an element that isn't a value of the cover
-abbrev pub LiesOutside : Builtin → Partial → List Argument → Element → Type 0
-LiesOutside builtin.FznGlobalCardinalityClosed K xs e =
-    IsOutside (ints_at K xs 0) (ints_at K xs 1) e
-LiesOutside builtin.FznGlobalCardinalityLowUpClosed K xs e =
-    IsOutside (ints_at K xs 0) (ints_at K xs 1) e
-LiesOutside b K xs e = ⊥
-
--- a number, or a Boolean as one, that isn't in the list or in the set
-abbrev pub NotListed : Builtin → Partial → List Argument → ℤ → Type 0
-NotListed builtin.FznMemberInt K xs v = (int_at K xs 1 ≡ v) × (is_among v (ints_at K xs 0) ≡ false)
-NotListed builtin.FznMemberBool K xs v = (as_number (bool_at K xs 1) ≡ v)
-    × (list_any (λ x. x =ᴮ bool_at K xs 1) (bools_at K xs 0) ≡ false)
-NotListed builtin.SetIn K xs v = (int_at K xs 0 ≡ v) × (sets.contains (set_at K xs 1) v ≡ false)
-NotListed b K xs v = ⊥
-
 -- ---- tasks, boxes and bins
 
-abbrev pub tasks : Partial → List Argument → List (Span × ℤ)
-tasks K xs = zip (zip (ints_at K xs 0) (ints_at K xs 1)) (ints_at K xs 2)
-
--- the numbers of a row that must not be below 0; a limit counts only where there are tasks
+-- the numbers of a row that must not be below 0
 abbrev pub naturals : Builtin → Quantity → Partial → List Argument → List ℤ
-naturals builtin.FznDisjunctive of.Duration K xs =
-    map (λ k. k.1) (zip (ints_at K xs 0) (ints_at K xs 1))
-naturals builtin.FznDisjunctiveStrict of.Duration K xs =
-    map (λ k. k.1) (zip (ints_at K xs 0) (ints_at K xs 1))
-naturals builtin.FznCumulative of.Duration K xs = map (λ k. k.0.1) (tasks K xs)
-naturals builtin.FznCumulative of.Use K xs = map (λ k. k.1) (tasks K xs)
-naturals builtin.FznCumulative of.Limit K xs =
-    if nat_eq (length (tasks K xs)) 0 then [] else int_at K xs 3 ∷ []
+naturals builtin.FznDisjunctive of.Duration K xs = ints_at K xs 1
+naturals builtin.FznDisjunctiveStrict of.Duration K xs = ints_at K xs 1
+naturals builtin.FznCumulative of.Duration K xs = ints_at K xs 1
+naturals builtin.FznCumulative of.Use K xs = ints_at K xs 2
+naturals builtin.FznCumulative of.Limit K xs = int_at K xs 3 ∷ []
 naturals builtin.FznKnapsack of.Number K xs = ints_at K xs 2
 naturals builtin.FznKnapsack of.Weight K xs = int_at K xs 3 ∷ []
 naturals builtin.FznKnapsack of.Profit K xs = int_at K xs 4 ∷ []
@@ -159,116 +93,23 @@ naturals builtin.FznSlidingSum of.Width K xs = int_at K xs 2 ∷ []
 naturals builtin.GecodeAmongSeqInt of.Width K xs = int_at K xs 2 ∷ []
 naturals b q K xs = []
 
+-- in a row of tasks, the index is that of one; a limit is at 0, and counts where there is a task
+abbrev pub IsTask : Builtin → Partial → List Argument → ℕ → Type 0
+IsTask builtin.FznDisjunctive K xs i = i < length (ints_at K xs 0)
+IsTask builtin.FznDisjunctiveStrict K xs i = i < length (ints_at K xs 0)
+IsTask builtin.FznCumulative K xs i =
+    (i < length (ints_at K xs 0)) × (i < length (ints_at K xs 1)) × (i < length (ints_at K xs 2))
+IsTask b K xs i = ⊤
+
+-- no sum of the row leaves 128 bits
+abbrev pub AddsUp : Builtin → Partial → List Argument → Type 0
+AddsUp b K xs = reads_beyond (row_at b) K xs ≡ false
+
 pub record IsNegative (b : Builtin) (K : Partial) (xs : List Argument) (n : Negative) : Type 0 where
   pub there : slice_get (naturals b n.quantity K xs) n.place ≡ Some n.value
+  pub task : IsTask b K xs n.place
   pub below : is_natural n.value ≡ false
   pub added : AddsUp b K xs
-
-abbrev pub Overlaps : Builtin → Partial → List Argument → Overlap → Type 0
-Overlaps builtin.FznDisjunctive K xs o =
-    IsOverlap (ints_at K xs 0) (ints_at K xs 1) o × BothLast o
-Overlaps builtin.FznDisjunctiveStrict K xs o = IsOverlap (ints_at K xs 0) (ints_at K xs 1) o
-Overlaps builtin.GecodeScheduleUnary K xs o = IsOverlap (ints_at K xs 0) (ints_at K xs 1) o
-Overlaps b K xs o = ⊥
-
--- two boxes that overlap
-abbrev pub BoxesOverlap : Builtin → Partial → List Argument → Boxes → Type 0
-BoxesOverlap builtin.FznDiffn K xs t =
-    AreBoxes (ints_at K xs 0) (ints_at K xs 1) (ints_at K xs 2) (ints_at K xs 3) t
-BoxesOverlap builtin.FznDiffnNonstrict K xs t =
-    AreBoxes (ints_at K xs 0) (ints_at K xs 1) (ints_at K xs 2) (ints_at K xs 3) t
-    × BothLast t.across × BothLast t.along
-BoxesOverlap builtin.GecodeNooverlap K xs t =
-    AreBoxes (ints_at K xs 0) (ints_at K xs 2) (ints_at K xs 1) (ints_at K xs 3) t
-BoxesOverlap b K xs t = ⊥
-
-abbrev pub Loads : Builtin → Partial → List Argument → Load → Type 0
-Loads builtin.FznCumulative K xs l =
-    IsLoad (ints_at K xs 0) (ints_at K xs 1) (ints_at K xs 2) (int_at K xs 3) l
-Loads b K xs l = ⊥
-
-abbrev pub Bins : Builtin → Partial → List Argument → Load → Type 0
-Bins builtin.FznBinPacking K xs l = IsBin (ints_at K xs 1) (ints_at K xs 2) (int_at K xs 0) l
-Bins b K xs l = ⊥
-
--- ---- orders
-
--- the first list comes before the second, or doesn't come after it; or, in ascending order, is the
--- second
-abbrev pub Differs : Builtin → Partial → List Argument → Difference → Type 0
-Differs builtin.FznLexLessInt K xs d =
-    IsDifference (ints_at K xs 0) (ints_at K xs 1) d × (comes_before d.left d.right ≡ false)
-    × (agree d.left d.right ≡ false)
-Differs builtin.FznLexLesseqInt K xs d =
-    IsDifference (ints_at K xs 0) (ints_at K xs 1) d × (comes_before d.right d.left ≡ true)
-Differs builtin.FznLexLessBool K xs d =
-    IsDifference (numbers_at kinds.Bool K xs 0) (numbers_at kinds.Bool K xs 1) d
-    × (comes_before d.left d.right ≡ false) × (agree d.left d.right ≡ false)
-Differs builtin.FznLexLesseqBool K xs d =
-    IsDifference (numbers_at kinds.Bool K xs 0) (numbers_at kinds.Bool K xs 1) d
-    × (comes_before d.right d.left ≡ true)
-Differs builtin.FznSort K xs d = IsUnsorted (ints_at K xs 0) (ints_at K xs 1) d
-Differs b K xs d = ⊥
-
--- a value comes too early
-abbrev pub ComesEarly : Builtin → Partial → List Argument → Early → Type 0
-ComesEarly builtin.FznValuePrecedeInt K xs e =
-    IsEarly (ints_at K xs 2) e × (e.before ≡ int_at K xs 0) × (e.value ≡ int_at K xs 1)
-ComesEarly builtin.GecodePrecede K xs e =
-    IsEarly (ints_at K xs 0) e × (e.before ≡ int_at K xs 1) × (e.value ≡ int_at K xs 2)
-ComesEarly builtin.GecodePrecedeSet K xs e =
-    IsEarlySet (sets_at K xs 0) e × (e.before ≡ int_at K xs 1) × (e.value ≡ int_at K xs 2)
-ComesEarly builtin.FznValuePrecedeChainInt K xs e =
-    IsEarlyInChain (ints_at K xs 0) (ints_at K xs 1) e
-ComesEarly builtin.FznSeqPrecedeChainInt K xs e =
-    IsEarly (ints_at K xs 0) e × (e.before ≡ e.value -ℤ pos 1) × (int_lt (pos 1) e.value ≡ true)
-ComesEarly b K xs e = ⊥
-
--- ---- successors and automata
-
--- a list that leads where the other, which may be one of sets, doesn't lead back
-abbrev pub LeadsOneWay : Builtin → Bool → Partial → List Argument → OneWay → Type 0
-LeadsOneWay builtin.InverseOffsets true K xs w =
-    IsOneWay (ints_at K xs 0) (int_at K xs 1) (ints_at K xs 2) (int_at K xs 3) w
-LeadsOneWay builtin.InverseOffsets false K xs w =
-    IsOneWay (ints_at K xs 2) (int_at K xs 3) (ints_at K xs 0) (int_at K xs 1) w
-LeadsOneWay builtin.GecodeIntSetChannel true K xs w =
-    IsInNoSet (ints_at K xs 0) (int_at K xs 1) (sets_at K xs 2) (int_at K xs 3) w
-LeadsOneWay builtin.GecodeIntSetChannel false K xs w =
-    IsNoIndexOf (sets_at K xs 2) (int_at K xs 3) (ints_at K xs 0) (int_at K xs 1) w
-LeadsOneWay builtin.GecodeInverseSet true K xs w =
-    IsNotBack (sets_at K xs 0) (int_at K xs 2) (sets_at K xs 1) (int_at K xs 3) w
-LeadsOneWay builtin.GecodeInverseSet false K xs w =
-    IsNotBack (sets_at K xs 1) (int_at K xs 3) (sets_at K xs 0) (int_at K xs 2) w
-LeadsOneWay b first K xs w = ⊥
-
-abbrev pub Stops : Builtin → Partial → List Argument → NoStep → Type 0
-Stops builtin.FznRegular K xs n =
-    HasNoStep (ints_at K xs 0) (int_at K xs 1) (int_at K xs 2) (ints_at K xs 3) (int_at K xs 4) n
-Stops b K xs n = ⊥
-
--- the automaton begins in what is no state
-abbrev pub Begins : Builtin → Partial → List Argument → ℤ → Type 0
-Begins builtin.FznRegular K xs q =
-    (int_at K xs 4 ≡ q) × (lies_between (pos 1) (int_at K xs 1) q ≡ false)
-Begins b K xs q = ⊥
-
--- the automaton ends in a state that isn't one of the last
-abbrev pub Ends : Builtin → Partial → List Argument → ℤ → Type 0
-Ends builtin.FznRegular K xs q =
-    (run (int_at K xs 1) (int_at K xs 2) (ints_at K xs 3) (int_at K xs 4) (ints_at K xs 0) ≡ Some q)
-    × (lies_between (pos 1) (int_at K xs 1) q ≡ true) × (sets.contains (set_at K xs 5) q ≡ false)
-Ends b K xs q = ⊥
-
--- no row of the table is the list; the one that is told differs from it at the index that is told
-abbrev pub IsNearRow : Builtin → Partial → List Argument → NearRow → Type 0
-IsNearRow builtin.FznTableInt K xs n =
-    (is_row_of ◌=ℤ◌ (ints_at K xs 0) (ints_at K xs 1) ≡ false)
-    × IsDifferentRow (ints_at K xs 0) (ints_at K xs 1) n
-IsNearRow builtin.FznTableBool K xs n =
-    (is_row_of ◌=ᴮ◌ (bools_at K xs 0) (bools_at K xs 1) ≡ false)
-    × IsDifferentRow (numbers_at kinds.Bool K xs 0) (numbers_at kinds.Bool K xs 1) n
-IsNearRow b K xs n = ⊥
 
 -- ---- sets
 
@@ -337,43 +178,183 @@ pub record IsMisplaced (b : Builtin) (K : Partial) (xs : List Argument) (m : Mem
   pub places : in_sets b K xs m.number ≡ (m.first, m.second, m.third)
   pub misplaced : is_misplaced b m.first m.second m.third ≡ true
 
-abbrev pub AreSame : Builtin → Partial → List Argument → Type 0
-AreSame builtin.SetNe K xs = (set_at K xs 0 =ˢ set_at K xs 1) ≡ true
-AreSame b K xs = ⊥
-
 -- ---- all kinds
 
 unfoldable pub Says : Builtin → Partial → List Argument → Reason → Type 0
 Says b K xs (reasons.Sides s) = Unlike b K xs s
 Says b K xs (reasons.Number o) = HasOtherNumber b K xs o
 Says b K xs (reasons.Truth o) = HasOtherTruth b K xs o
-Says b K xs reasons.NoLiteral = HasNoLiteral b K xs
-Says b K xs reasons.Even = HasEven b K xs
-Says b K xs (reasons.Clash c) = Clashes b K xs c
 Says b K xs (reasons.Neighbours n) =
     (neighbours_of b ≡ Some n.sides.relation)
     × AreUnlike n.sides.relation (numbers_at (element_kind b) K xs 0) n
-Says b K xs (reasons.Count c) = Counts b c.sides.relation K xs c
-Says b K xs (reasons.Outside e) = LiesOutside b K xs e
 Says b K xs (reasons.Negative n) = IsNegative b K xs n
-Says b K xs (reasons.Overlap o) = Overlaps b K xs o
-Says b K xs (reasons.Boxes t) = BoxesOverlap b K xs t
-Says b K xs (reasons.Load l) = Loads b K xs l
-Says b K xs (reasons.Bin l) = Bins b K xs l
-Says b K xs (reasons.Difference d) = Differs b K xs d
-Says b K xs (reasons.Early e) = ComesEarly b K xs e
-Says b K xs (reasons.OneWay w) = LeadsOneWay b w.of_first K xs w
-Says b K xs (reasons.NoStep n) = Stops b K xs n
-Says b K xs (reasons.BeginsIn q) = Begins b K xs q
-Says b K xs (reasons.EndsIn q) = Ends b K xs q
-Says b K xs (reasons.NearRow n) = IsNearRow b K xs n
 Says b K xs (reasons.Member m) = IsMisplaced b K xs m
-Says b K xs (reasons.Arranged a) = SaysArranged b K xs a
-Says b K xs (reasons.NotListed v) = NotListed b K xs v
-Says b K xs reasons.Same = AreSame b K xs
+Says builtin.BoolClause K xs reasons.NoLiteral =
+    (list_any (λ x. x) (bools_at K xs 0) ≡ false)
+    × (list_any (λ x. not x) (bools_at K xs 1) ≡ false)
+Says builtin.ArrayBoolXor K xs reasons.Even =
+    is_odd (length (filter (λ x. x) (bools_at K xs 0))) ≡ false
+Says builtin.FznAllDifferentInt K xs (reasons.Clash c) = IsClash (ints_at K xs 0) c
+Says builtin.FznAlldifferentExcept0 K xs (reasons.Clash c) =
+    IsClash (ints_at K xs 0) c × (is_nonzero c.value ≡ true)
+Says builtin.FzcheckSubcircuit K xs (reasons.Clash c) = IsClash (ints_at K xs 1) c
+Says builtin.FznPartitionSet K xs (reasons.Clash c) = IsShared (sets_at K xs 0) c
+-- a value of the cover comes too often or too seldom, or an element isn't one
+Says builtin.FznGlobalCardinality K xs (reasons.Count c) =
+    IsCount Equal (ints_at K xs 0) (ints_at K xs 1) (ints_at K xs 2) c
+Says builtin.FznGlobalCardinalityClosed K xs (reasons.Count c) =
+    IsCount Equal (ints_at K xs 0) (ints_at K xs 1) (ints_at K xs 2) c
+Says builtin.FznGlobalCardinalityLowUp K xs (reasons.Count c) =
+    IsCount AtLeast (ints_at K xs 0) (ints_at K xs 1) (ints_at K xs 2) c
+    ⊎ IsCount AtMost (ints_at K xs 0) (ints_at K xs 1) (ints_at K xs 3) c
+Says builtin.FznGlobalCardinalityLowUpClosed K xs (reasons.Count c) =
+    IsCount AtLeast (ints_at K xs 0) (ints_at K xs 1) (ints_at K xs 2) c
+    ⊎ IsCount AtMost (ints_at K xs 0) (ints_at K xs 1) (ints_at K xs 3) c
+Says builtin.FznDistribute K xs (reasons.Count c) =
+    IsCount Equal (ints_at K xs 2) (ints_at K xs 1) (ints_at K xs 0) c
+Says builtin.FznGlobalCardinalityClosed K xs (reasons.Outside e) =
+    IsOutside (ints_at K xs 0) (ints_at K xs 1) e
+Says builtin.FznGlobalCardinalityLowUpClosed K xs (reasons.Outside e) =
+    IsOutside (ints_at K xs 0) (ints_at K xs 1) e
+-- a number, or a Boolean as one, isn't in the list or in the set
+Says builtin.FznMemberInt K xs (reasons.NotListed v) =
+    (int_at K xs 1 ≡ v) × (is_among v (ints_at K xs 0) ≡ false)
+Says builtin.FznMemberBool K xs (reasons.NotListed v) =
+    (as_number (bool_at K xs 1) ≡ v)
+    × (list_any (λ x. x =ᴮ bool_at K xs 1) (bools_at K xs 0) ≡ false)
+Says builtin.SetIn K xs (reasons.NotListed v) =
+    (int_at K xs 0 ≡ v) × (sets.contains (set_at K xs 1) v ≡ false)
+Says builtin.SetNe K xs reasons.Same = (set_at K xs 0 =ˢ set_at K xs 1) ≡ true
+-- tasks, boxes and bins
+Says builtin.FznDisjunctive K xs (reasons.Overlap o) =
+    IsOverlap (ints_at K xs 0) (ints_at K xs 1) o × BothLast o
+Says builtin.FznDisjunctiveStrict K xs (reasons.Overlap o) =
+    IsOverlap (ints_at K xs 0) (ints_at K xs 1) o
+Says builtin.GecodeScheduleUnary K xs (reasons.Overlap o) =
+    IsOverlap (ints_at K xs 0) (ints_at K xs 1) o
+Says builtin.FznDiffn K xs (reasons.Boxes t) =
+    AreBoxes (ints_at K xs 0) (ints_at K xs 1) (ints_at K xs 2) (ints_at K xs 3) t
+Says builtin.FznDiffnNonstrict K xs (reasons.Boxes t) =
+    AreBoxes (ints_at K xs 0) (ints_at K xs 1) (ints_at K xs 2) (ints_at K xs 3) t
+    × BothLast t.across × BothLast t.along
+Says builtin.GecodeNooverlap K xs (reasons.Boxes t) =
+    AreBoxes (ints_at K xs 0) (ints_at K xs 2) (ints_at K xs 1) (ints_at K xs 3) t
+Says builtin.FznCumulative K xs (reasons.Load l) =
+    IsLoad (ints_at K xs 0) (ints_at K xs 1) (ints_at K xs 2) (int_at K xs 3) l
+Says builtin.FznBinPacking K xs (reasons.Bin l) =
+    IsBin (ints_at K xs 1) (ints_at K xs 2) (int_at K xs 0) l
+Says builtin.GecodeBinPackingLoad K xs (reasons.BinLoad l) =
+    HasOtherLoad (ints_at K xs 1) (ints_at K xs 2) (ints_at K xs 0) (int_at K xs 3) l
+Says builtin.FznKnapsack K xs (reasons.Weight t) =
+    IsOtherTotal (ints_at K xs 0) (ints_at K xs 2) (int_at K xs 3) t
+    × AddsUp builtin.FznKnapsack K xs
+Says builtin.FznKnapsack K xs (reasons.Profit t) =
+    IsOtherTotal (ints_at K xs 1) (ints_at K xs 2) (int_at K xs 4) t
+    × AddsUp builtin.FznKnapsack K xs
+Says builtin.FznSlidingSum K xs (reasons.Run r) =
+    IsOtherRun (int_at K xs 0) (int_at K xs 1) (int_at K xs 2) (ints_at K xs 3) r
+Says builtin.GecodeAmongSeqInt K xs (reasons.Run r) =
+    IsOtherRun (int_at K xs 3) (int_at K xs 4) (int_at K xs 2)
+    (marks (set_at K xs 1) (ints_at K xs 0)) r
+-- the first list comes before the second, or doesn't come after it; or, in ascending order, is the
+-- second
+Says builtin.FznLexLessInt K xs (reasons.Difference d) =
+    IsDifference (ints_at K xs 0) (ints_at K xs 1) d × (comes_before d.left d.right ≡ false)
+    × (agree d.left d.right ≡ false)
+Says builtin.FznLexLesseqInt K xs (reasons.Difference d) =
+    IsDifference (ints_at K xs 0) (ints_at K xs 1) d × (comes_before d.right d.left ≡ true)
+Says builtin.FznLexLessBool K xs (reasons.Difference d) =
+    IsDifference (numbers_at kinds.Bool K xs 0) (numbers_at kinds.Bool K xs 1) d
+    × (comes_before d.left d.right ≡ false) × (agree d.left d.right ≡ false)
+Says builtin.FznLexLesseqBool K xs (reasons.Difference d) =
+    IsDifference (numbers_at kinds.Bool K xs 0) (numbers_at kinds.Bool K xs 1) d
+    × (comes_before d.right d.left ≡ true)
+Says builtin.FznSort K xs (reasons.Difference d) = IsUnsorted (ints_at K xs 0) (ints_at K xs 1) d
+-- a value comes too early
+Says builtin.FznValuePrecedeInt K xs (reasons.Early e) =
+    IsEarly (ints_at K xs 2) e × (e.before ≡ int_at K xs 0) × (e.value ≡ int_at K xs 1)
+Says builtin.GecodePrecede K xs (reasons.Early e) =
+    IsEarly (ints_at K xs 0) e × (e.before ≡ int_at K xs 1) × (e.value ≡ int_at K xs 2)
+Says builtin.GecodePrecedeSet K xs (reasons.Early e) =
+    IsEarlySet (sets_at K xs 0) e × (e.before ≡ int_at K xs 1) × (e.value ≡ int_at K xs 2)
+Says builtin.FznValuePrecedeChainInt K xs (reasons.Early e) =
+    IsEarlyInChain (ints_at K xs 0) (ints_at K xs 1) e
+Says builtin.FznSeqPrecedeChainInt K xs (reasons.Early e) =
+    IsEarly (ints_at K xs 0) e × (e.before ≡ e.value -ℤ pos 1) × (int_lt (pos 1) e.value ≡ true)
+-- a list, which may be one of sets, leads where the other doesn't lead back
+Says builtin.InverseOffsets K xs (reasons.OneWay w) =
+    IsOneWay (ints_at K xs 0) (int_at K xs 1) (ints_at K xs 2) (int_at K xs 3) w
+Says builtin.InverseOffsets K xs (reasons.OtherWay w) =
+    IsOneWay (ints_at K xs 2) (int_at K xs 3) (ints_at K xs 0) (int_at K xs 1) w
+Says builtin.GecodeIntSetChannel K xs (reasons.OneWay w) =
+    IsInNoSet (ints_at K xs 0) (int_at K xs 1) (sets_at K xs 2) (int_at K xs 3) w
+Says builtin.GecodeIntSetChannel K xs (reasons.OtherWay w) =
+    IsNoIndexOf (sets_at K xs 2) (int_at K xs 3) (ints_at K xs 0) (int_at K xs 1) w
+Says builtin.GecodeInverseSet K xs (reasons.OneWay w) =
+    IsNotBack (sets_at K xs 0) (int_at K xs 2) (sets_at K xs 1) (int_at K xs 3) w
+Says builtin.GecodeInverseSet K xs (reasons.OtherWay w) =
+    IsNotBack (sets_at K xs 1) (int_at K xs 3) (sets_at K xs 0) (int_at K xs 2) w
+-- an element has to be an index, a bin that has a load, or an index of a set
+Says builtin.GecodeCircuit K xs (reasons.NoIndex o) =
+    IsNoIndex (ints_at K xs 1) (int_at K xs 0) (length (ints_at K xs 1)) o
+Says builtin.FzcheckSubcircuit K xs (reasons.NoIndex o) =
+    IsNoIndex (ints_at K xs 1) (int_at K xs 0) (length (ints_at K xs 1)) o
+Says builtin.GecodeBinPackingLoad K xs (reasons.NoIndex o) =
+    IsNoIndex (ints_at K xs 1) (int_at K xs 3) (length (ints_at K xs 0)) o
+Says builtin.ArraySetElement K xs (reasons.NoIndex o) =
+    IsNoIndex (int_at K xs 0 ∷ []) (pos 1) (length (sets_at K xs 1)) o
+Says builtin.GecodeCircuit K xs (reasons.Ring c) =
+    IsShortRing (as_places (int_at K xs 0) (ints_at K xs 1)) c
+Says builtin.FzcheckSubcircuit K xs (reasons.Ring c) =
+    LeavesOut (as_places (int_at K xs 0) (ints_at K xs 1)) c
+-- the automaton begins in what is no state, stops, or ends in a state that isn't one of the last
+Says builtin.FznRegular K xs (reasons.BeginsIn q) =
+    (int_at K xs 4 ≡ q) × (lies_between (pos 1) (int_at K xs 1) q ≡ false)
+Says builtin.FznRegular K xs (reasons.NoStep n) =
+    HasNoStep (ints_at K xs 0) (int_at K xs 1) (int_at K xs 2) (ints_at K xs 3) (int_at K xs 4) n
+Says builtin.FznRegular K xs (reasons.EndsIn q) =
+    (run (int_at K xs 1) (int_at K xs 2) (ints_at K xs 3) (int_at K xs 4) (ints_at K xs 0) ≡ Some q)
+    × (lies_between (pos 1) (int_at K xs 1) q ≡ true) × (sets.contains (set_at K xs 5) q ≡ false)
+-- no row of the table is the list; the one that is told differs from it at the index that is told
+Says builtin.FznTableInt K xs (reasons.NearRow n) =
+    (is_row_of ◌=ℤ◌ (ints_at K xs 0) (ints_at K xs 1) ≡ false)
+    × IsDifferentRow (ints_at K xs 0) (ints_at K xs 1) n
+Says builtin.FznTableBool K xs (reasons.NearRow n) =
+    (is_row_of ◌=ᴮ◌ (bools_at K xs 0) (bools_at K xs 1) ≡ false)
+    × IsDifferentRow (numbers_at kinds.Bool K xs 0) (numbers_at kinds.Bool K xs 1) n
+Says b K xs r = ⊥
 
 -- the contract of `a_row_fails_by_its_reason`: where a reason is so, the row fails, whatever else
 -- the values are
 abbrev pub RowsFail : Type 0
 RowsFail = (b : Builtin) (K : Partial) (xs : List Argument) (r : Reason) → Says b K xs r
     → row_outcome (row_at b) K xs ≡ outcomes.Truth false
+
+-- ---- the forms of a row
+
+-- the control variable of a form of the row, which comes after the row's arguments
+abbrev pub control : Builtin → Partial → List Argument → Bool
+control b K xs = bool_at K xs (length (row_at b).shapes)
+
+-- where the form has a control variable, it is true
+abbrev pub IsAsked : Form → Bool → Type 0
+IsAsked Base t = ⊤
+IsAsked Reified t = t ≡ true
+IsAsked Implied t = t ≡ true
+
+-- a form by which a row must not hold
+abbrev pub IsForbidden : Form → Bool → Type 0
+IsForbidden Base t = ⊥
+IsForbidden Reified t = t ≡ false
+IsForbidden Implied t = ⊥
+
+abbrev pub SaysWhy : Known → Partial → List Argument → Why → Type 0
+SaysWhy k K xs (whys.Fails r) = IsAsked k.form (control k.builtin K xs) × Says k.builtin K xs r
+SaysWhy k K xs whys.Holds =
+    IsForbidden k.form (control k.builtin K xs)
+    × (row_outcome (row_at k.builtin) K xs ≡ outcomes.Truth true)
+
+-- the contract of `a_form_fails_by_its_reason`
+abbrev pub FormsFail : Type 0
+FormsFail = (k : Known) (K : Partial) (xs : List Argument) (w : Why) → SaysWhy k K xs w
+    → row_outcome (known_row k) K xs ≡ outcomes.Truth false

@@ -1,7 +1,7 @@
 //! Why a row over tours, bins, knapsacks or runs fails, in words. Elements count from 1.
 
-use crate::arrangement::{Arrangement, BinLoad, NoIndex, Ring, Run, Total};
 use crate::element_words::{meet_in_bin, say_named};
+use crate::reason::{BinLoad, NoIndex, Reason, Ring, Run, Total};
 use crate::rings::follow;
 use crate::teller::{Teller, from_one};
 use fz_store::Builtin;
@@ -13,33 +13,29 @@ const MOST_LISTED: usize = 8;
 /// The reason in words.
 pub(crate) fn say_arrangement(
     teller: &mut Teller<'_, '_>,
-    found: &Arrangement,
+    reason: &Reason,
 ) -> Result<(), AllocError> {
-    match *found {
-        Arrangement::NoIndex(found) => say_no_index(teller, found),
-        Arrangement::Ring(ring) => say_ring(teller, ring),
-        Arrangement::BinLoad(load) => say_bin_load(teller, load),
-        Arrangement::Weight(Total { total, wanted }) => {
+    match *reason {
+        Reason::NoIndex(found) => say_no_index(teller, found),
+        Reason::Ring(ring) => say_ring(teller, ring),
+        Reason::BinLoad(load) => say_bin_load(teller, load),
+        Reason::Weight(Total { total, wanted }) => {
             meet_taken(teller)?;
             teller.add(format!(in teller.alloc; "the weight is {total}, not {wanted}")?)?;
             teller.bracket(3, 0)
         }
-        Arrangement::Profit(Total { total, wanted }) => {
+        Reason::Profit(Total { total, wanted }) => {
             meet_taken(teller)?;
             teller.add(format!(in teller.alloc; "the profit is {total}, not {wanted}")?)?;
             teller.bracket(4, 0)
         }
-        Arrangement::Run(run) => say_run(teller, run),
+        Reason::Run(run) => say_run(teller, run),
+        _ => teller.say("it fails"),
     }
 }
 
 fn say_no_index(teller: &mut Teller<'_, '_>, found: NoIndex) -> Result<(), AllocError> {
-    let NoIndex {
-        place,
-        value,
-        low,
-        high,
-    } = found;
+    let (value, low, high) = (found.value, found.low, found.high);
     match teller.builtin {
         Builtin::ArraySetElement => {
             teller.add(format!(in teller.alloc; "the index is {value}")?)?;
@@ -47,22 +43,17 @@ fn say_no_index(teller: &mut Teller<'_, '_>, found: NoIndex) -> Result<(), Alloc
             teller.add(format!(in teller.alloc; ", not from {low} to {high}")?)
         }
         _ => {
-            say_named(teller, "element", 1, place)?;
+            say_named(teller, "element", 1, found.place)?;
             teller.add(format!(in teller.alloc; " is {value}, not from {low} to {high}")?)
         }
     }
 }
 
 fn say_bin_load(teller: &mut Teller<'_, '_>, found: BinLoad) -> Result<(), AllocError> {
-    let BinLoad {
-        place,
-        bin,
-        load,
-        wanted,
-    } = found;
+    let (bin, load, wanted) = (found.bin, found.load, found.wanted);
     meet_in_bin(teller, bin)?;
     teller.add(format!(in teller.alloc; "in bin {bin} lies {load}, not {wanted}")?)?;
-    teller.bracket(0, place)
+    teller.bracket(0, found.place)
 }
 
 /// The things of a knapsack of which there are any are in the reason.

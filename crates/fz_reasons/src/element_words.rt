@@ -287,8 +287,8 @@ pub(crate) fn meet_in_bin(teller: &mut Teller<'_, '_>, bin: i128) -> Result<(), 
 /// A reason that tells of positions, states, rows or sets.
 fn say_of_places(teller: &mut Teller<'_, '_>, reason: &Reason) -> Result<(), AllocError> {
     match *reason {
-        Reason::Arranged(found) => say_arrangement(teller, &found),
-        Reason::OneWay(found) => say_one_way(teller, found),
+        Reason::OneWay(found) => say_one_way(teller, found, true),
+        Reason::OtherWay(found) => say_one_way(teller, found, false),
         Reason::BeginsIn(state) => {
             teller.add(format!(in teller.alloc; "it begins in {state}")?)?;
             teller.bracket(4, 0)?;
@@ -314,19 +314,23 @@ fn say_of_places(teller: &mut Teller<'_, '_>, reason: &Reason) -> Result<(), All
             say_element(teller, found.value)
         }
         Reason::Member(member) => say_member(teller, member),
-        _ => teller.say("it fails"),
+        _ => say_arrangement(teller, reason),
     }
 }
 
 /// That an index isn't led back to, or the element with an index and the set with an index that
 /// disagree.
-fn say_one_way(teller: &mut Teller<'_, '_>, found: OneWay) -> Result<(), AllocError> {
+fn say_one_way(
+    teller: &mut Teller<'_, '_>,
+    found: OneWay,
+    of_first: bool,
+) -> Result<(), AllocError> {
     if teller.builtin == Builtin::GecodeIntSetChannel {
-        return say_channel(teller, found);
+        return say_channel(teller, found, of_first);
     }
     let is_set = teller.builtin == Builtin::GecodeInverseSet;
     let second = if is_set { 1 } else { 2 };
-    let (list, ordinal) = if found.of_first {
+    let (list, ordinal) = if of_first {
         (0, "first")
     } else {
         (second, "second")
@@ -340,10 +344,14 @@ fn say_one_way(teller: &mut Teller<'_, '_>, found: OneWay) -> Result<(), AllocEr
 }
 
 /// The element with an index, and the set with an index, that disagree.
-fn say_channel(teller: &mut Teller<'_, '_>, found: OneWay) -> Result<(), AllocError> {
+fn say_channel(
+    teller: &mut Teller<'_, '_>,
+    found: OneWay,
+    of_first: bool,
+) -> Result<(), AllocError> {
     let value = found.value;
     let (first, first_set) = (teller.view.int(1), teller.view.int(3));
-    if found.of_first {
+    if of_first {
         let index = i128::from(first) + found.place as i128;
         teller.add(format!(in teller.alloc; "the element with index {index}")?)?;
         teller.bracket(0, found.place)?;
@@ -369,13 +377,12 @@ fn say_channel(teller: &mut Teller<'_, '_>, found: OneWay) -> Result<(), AllocEr
 
 /// In which of the sets a number is, and in which it isn't.
 fn say_member(teller: &mut Teller<'_, '_>, member: Member) -> Result<(), AllocError> {
-    let Member {
-        number,
-        first,
-        second,
-        third,
-    } = member;
-    let (first, second, third) = (is_in(first), is_in(second), is_in(third));
+    let number = member.number;
+    let (first, second, third) = (
+        is_in(member.first),
+        is_in(member.second),
+        is_in(member.third),
+    );
     let one = if member.first { "in one" } else { "in none" };
     let alloc = teller.alloc;
     let said = match teller.builtin {

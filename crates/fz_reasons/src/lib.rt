@@ -4,13 +4,10 @@
 //! law. `reason_at` puts the reason of a point into words, of which no contract speaks.
 #![tactic(auto)]
 
-mod arranged;
-mod arrangement;
 mod arrangement_words;
 mod automata;
 mod covers;
 mod element_words;
-mod literals;
 mod loads;
 mod members;
 mod negatives;
@@ -31,11 +28,10 @@ mod told;
 mod tours;
 mod words;
 
-pub use arrangement::{Arrangement, BinLoad, NoIndex, Ring, Run, Total};
 pub use reason::{
-    Boxes, Clash, Count, Difference, Early, Element, ElementKind, Load, Member, NearRow, Negative,
-    Neighbours, NoStep, OneWay, Operands, OtherNumber, OtherTruth, Overlap, Quantity, Reason,
-    Relation, Sides, Stretch, Why,
+    BinLoad, Boxes, Clash, Count, Difference, Early, Element, ElementKind, Load, Member, NearRow,
+    Negative, Neighbours, NoIndex, NoStep, OneWay, Operands, OtherNumber, OtherTruth, Overlap,
+    Quantity, Reason, Relation, Ring, Run, Sides, Stretch, Total, Why,
 };
 pub use rows::{a_form_fails_by_its_reason, a_row_fails_by_its_reason, why};
 pub use told::{Piece, Told, Who};

@@ -8,56 +8,19 @@ ghost use Rattle.fz_builtins.specs.of_meaning.Relations.{chosen, element_at, is_
 ghost use Rattle.fz_builtins.specs.of_meaning.declared.builtin.Builtin.TheVariants.{GecodeRange};
 ghost use Rattle.fz_builtins.specs.of_kernel.Views.{arguments_of, assigned, ints, sets};
 ghost use Rattle.fz_builtins.specs.Readings.{int, sets_of, truths};
-ghost use Rattle.fz_reasons.specs.Reasons.{IsMisplaced, Says, in_sets, is_misplaced, is_no_index};
+ghost use Rattle.fz_reasons.specs.Reasons.{IsMisplaced, in_sets, is_misplaced, is_no_index};
 
 use crate::places::{last_index, lies_between};
-use crate::reason::{Member, Reason};
+use crate::reason::Member;
 use fz_globals::{has, index_at, place_from};
 use fz_kernel::arrays::set_element;
-use fz_kernel::sets::same_set;
 use fz_kernel::{ArgumentView, Elements};
 use fz_store::{Builtin, IntSet};
 use std::alloc::{AllocError, Global};
 
-/// A number that is in one set and not in another, or that isn't in the set; or that two sets are
-/// the same.
-#[tactic(auto, unfolding(crate::specs::Reasons::Says))]
-pub(crate) fn by_sets(
-    alloc: Global,
-    builtin: Builtin,
-    view: &ArgumentView<'_, '_>,
-) -> Result<Option<Reason>, AllocError>
-    ensures { IfOk result (λ o. IfSome o
-        (Says builtin (assigned view.now) (arguments_of view.now))) }
-{
-    match builtin {
-        Builtin::SetIn if !view.set(1).contains(view.int(0)) => {
-            Ok(Some(Reason::NotListed(view.int(0))))
-        }
-        Builtin::SetNe if same_set(view.set(0), view.set(1)) => Ok(Some(Reason::Same)),
-        Builtin::GecodeRange => Ok(by_element(alloc, builtin, view)?.map(Reason::Member)),
-        Builtin::SetEq
-        | Builtin::SetSubset
-        | Builtin::SetSuperset
-        | Builtin::SetUnion
-        | Builtin::SetIntersect
-        | Builtin::SetDiff
-        | Builtin::SetSymdiff
-        | Builtin::FznDisjoint
-        | Builtin::SetConvex
-        | Builtin::ArraySetElement
-        | Builtin::GecodeArraySetElementUnion
-        | Builtin::FznPartitionSet
-        | Builtin::GecodeLinkSetToBooleans => {
-            Ok(by_member(alloc, builtin, view)?.map(Reason::Member))
-        }
-        _ => Ok(None),
-    }
-}
-
 /// A number by which a row over sets fails: where one does, so does an end of a range of a set or
 /// the one behind it, or the index of a Boolean.
-fn by_member(
+pub(crate) fn by_member(
     alloc: Global,
     builtin: Builtin,
     view: &ArgumentView<'_, '_>,
@@ -85,7 +48,7 @@ fn by_member(
 
 /// A number by which the set of chosen elements is another, or an index is none: where there is
 /// one, so is an end of a range of a set, an element, or the number behind one of these.
-fn by_element(
+pub(crate) fn by_element(
     alloc: Global,
     builtin: Builtin,
     view: &ArgumentView<'_, '_>,

@@ -1,68 +1,20 @@
 //! Lists that come in another order than a row asks.
 
-ghost use Rattle.std.specs.Prelude.{◌≡◌, ◌-ℤ◌, pos, true, int_lt, IfOk, IfSome, slice_get};
+ghost use Rattle.std.specs.Prelude.{◌≡◌, ◌-ℤ◌, pos, true, int_lt, IfOk, IfSome};
 ghost use Rattle.fz_builtins.specs.of_kernel.Views.{arguments_of, assigned, ints, sets};
 ghost use Rattle.fz_reasons.specs.Elements.{IsDifference, IsEarly, IsEarlyInChain, IsEarlySet, IsUnsorted, agree, comes_before, differ};
-ghost use Rattle.fz_reasons.specs.Reasons.{ComesEarly, Says, numbers_at};
+ghost use Rattle.fz_reasons.specs.Reasons.{numbers_at};
 
-use crate::readings::{element_kind, numbers_in};
-use crate::reason::{Difference, Early, ElementKind, Reason};
+use crate::readings::numbers_in;
+use crate::reason::{Difference, Early, ElementKind};
 use fz_globals::numbers_in_order;
 use fz_globals::precedence::has_only;
 use fz_kernel::arrays::numbers_of;
 use fz_kernel::{ArgumentView, Elements};
-use fz_store::Builtin;
 use std::alloc::{AllocError, Global};
 
-/// Where two lists first differ, or where a value comes too early.
-#[tactic(auto, unfolding(crate::specs::Reasons::Says))]
-pub(crate) fn by_order(
-    alloc: Global,
-    builtin: Builtin,
-    view: &ArgumentView<'_, '_>,
-) -> Result<Option<Reason>, AllocError>
-    ensures { IfOk result (λ o. IfSome o
-        (Says builtin (assigned view.now) (arguments_of view.now))) }
-{
-    match builtin {
-        Builtin::FznLexLessInt | Builtin::FznLexLessBool => {
-            let found = difference_of(alloc, element_kind(builtin), view)?;
-            if comes_before(found.left, found.right) || agree(found.left, found.right) {
-                return Ok(None);
-            }
-            Ok(Some(Reason::Difference(found)))
-        }
-        Builtin::FznLexLesseqInt | Builtin::FznLexLesseqBool => {
-            let found = difference_of(alloc, element_kind(builtin), view)?;
-            if !comes_before(found.right, found.left) {
-                return Ok(None);
-            }
-            Ok(Some(Reason::Difference(found)))
-        }
-        Builtin::FznSort => {
-            Ok(unsorted(alloc, &view.elements(0), &view.elements(1))?.map(Reason::Difference))
-        }
-        _ => Ok(by_early(builtin, view).map(Reason::Early)),
-    }
-}
-
-/// A value that comes too early.
-fn by_early(builtin: Builtin, view: &ArgumentView<'_, '_>) -> Option<Early>
-    ensures { IfSome result
-        (ComesEarly builtin (assigned view.now) (arguments_of view.now)) }
-{
-    match builtin {
-        Builtin::FznValuePrecedeInt => early(view.int(0), view.int(1), &view.elements(2)),
-        Builtin::GecodePrecede => early(view.int(1), view.int(2), &view.elements(0)),
-        Builtin::GecodePrecedeSet => early_set(view.int(1), view.int(2), &view.elements(0)),
-        Builtin::FznValuePrecedeChainInt => early_in_chain(&view.elements(0), &view.elements(1)),
-        Builtin::FznSeqPrecedeChainInt => early_in_sequence(&view.elements(0)),
-        _ => None,
-    }
-}
-
 /// The first index at which the first two arguments differ.
-fn difference_of(
+pub(crate) fn difference_of(
     alloc: Global,
     kind: ElementKind,
     view: &ArgumentView<'_, '_>,
@@ -77,7 +29,7 @@ fn difference_of(
 }
 
 /// The first index at which the first list in ascending order and the second differ.
-fn unsorted(
+pub(crate) fn unsorted(
     alloc: Global,
     elements: &Elements,
     ascending: &Elements,
@@ -120,7 +72,7 @@ fn differ(left: Option<i64>, right: Option<i64>) -> bool
 }
 
 /// Whether a list with the left element comes before one with the right, where they first differ.
-fn comes_before(left: Option<i64>, right: Option<i64>) -> bool
+pub(crate) fn comes_before(left: Option<i64>, right: Option<i64>) -> bool
     ensures { result ≡ comes_before left right }
 {
     match (left, right) {
@@ -131,7 +83,7 @@ fn comes_before(left: Option<i64>, right: Option<i64>) -> bool
 }
 
 /// Whether both are the same number.
-fn agree(left: Option<i64>, right: Option<i64>) -> bool
+pub(crate) fn agree(left: Option<i64>, right: Option<i64>) -> bool
     ensures { result ≡ agree left right }
 {
     match (left, right) {
@@ -141,7 +93,7 @@ fn agree(left: Option<i64>, right: Option<i64>) -> bool
 }
 
 /// The first element with this value, where the other value doesn't come before it.
-fn early(before: i64, value: i64, elements: &Elements) -> Option<Early>
+pub(crate) fn early(before: i64, value: i64, elements: &Elements) -> Option<Early>
     ensures early { IfSome result (IsEarly (ints elements.now)) }
     ensures before { IfSome result (λ e. e.before ≡ before) }
     ensures value { IfSome result (λ e. e.value ≡ value) }
@@ -163,7 +115,7 @@ fn early(before: i64, value: i64, elements: &Elements) -> Option<Early>
 
 /// The first set with the value and without the other one, where no set before it has the other one
 /// alone.
-fn early_set(before: i64, value: i64, parts: &Elements) -> Option<Early>
+pub(crate) fn early_set(before: i64, value: i64, parts: &Elements) -> Option<Early>
     ensures early { IfSome result (IsEarlySet (sets parts.now)) }
     ensures before { IfSome result (λ e. e.before ≡ before) }
     ensures value { IfSome result (λ e. e.value ≡ value) }
@@ -185,7 +137,7 @@ fn early_set(before: i64, value: i64, parts: &Elements) -> Option<Early>
 
 /// The first value of a chain that comes where the one before it in the chain doesn't come before
 /// it.
-fn early_in_chain(chain: &Elements, elements: &Elements) -> Option<Early>
+pub(crate) fn early_in_chain(chain: &Elements, elements: &Elements) -> Option<Early>
     ensures { IfSome result (IsEarlyInChain (ints chain.now) (ints elements.now)) }
 {
     for next in 1..chain.len() {
@@ -199,7 +151,7 @@ fn early_in_chain(chain: &Elements, elements: &Elements) -> Option<Early>
 
 /// The first element above 1 that is greater by more than one than all before it: the number just
 /// below it doesn't come before it.
-fn early_in_sequence(elements: &Elements) -> Option<Early>
+pub(crate) fn early_in_sequence(elements: &Elements) -> Option<Early>
     ensures early { IfSome result (IsEarly (ints elements.now)) }
     ensures below { IfSome result (λ e. e.before ≡ e.value -ℤ pos 1) }
     ensures above { IfSome result (λ e. int_lt (pos 1) e.value ≡ true) }

@@ -13,29 +13,9 @@ use fz_kernel::{ArgumentView, Elements};
 use fz_store::Builtin;
 use std::alloc::{AllocError, Global};
 
-/// Two elements that are equal, two sets that have an element in common, or two neighbours that
-/// don't compare as they have to.
-#[tactic(auto, unfolding(crate::specs::Reasons::Says))]
-pub(crate) fn by_pair(
-    alloc: Global,
-    builtin: Builtin,
-    view: &ArgumentView<'_, '_>,
-) -> Result<Option<Reason>, AllocError>
-    ensures { IfOk result (λ o. IfSome o
-        (Says builtin (assigned view.now) (arguments_of view.now))) }
-{
-    match builtin {
-        Builtin::FznAllDifferentInt => Ok(clash(&view.elements(0), false).map(Reason::Clash)),
-        Builtin::FzcheckSubcircuit => Ok(clash(&view.elements(1), false).map(Reason::Clash)),
-        Builtin::FznAlldifferentExcept0 => Ok(clash(&view.elements(0), true).map(Reason::Clash)),
-        Builtin::FznPartitionSet => Ok(shared(alloc, &view.elements(0))?.map(Reason::Clash)),
-        _ => by_neighbours(alloc, builtin, view),
-    }
-}
-
 /// Two equal elements: the first that has an equal one before it, and that one; where zeros are
 /// spared, of those that aren't 0.
-fn clash(elements: &Elements, spare: bool) -> Option<Clash>
+pub(crate) fn clash(elements: &Elements, spare: bool) -> Option<Clash>
     ensures clash { IfSome result (IsClash (ints elements.now)) }
     ensures nonzero { spare ≡ true → IfSome result (λ c. is_nonzero c.value ≡ true) }
 {
@@ -67,7 +47,7 @@ fn equal_before(elements: &Elements, other: usize) -> Option<Clash>
 
 /// Two sets that have an element in common: the first that has one with a set before it, and that
 /// one.
-fn shared(alloc: Global, parts: &Elements) -> Result<Option<Clash>, AllocError>
+pub(crate) fn shared(alloc: Global, parts: &Elements) -> Result<Option<Clash>, AllocError>
     ensures { IfOk result (λ o. IfSome o (IsShared (sets parts.now))) }
 {
     for other in 0..parts.len() {
@@ -107,7 +87,7 @@ fn shared_by(
 }
 
 #[tactic(auto, unfolding(crate::specs::Reasons::Says))]
-fn by_neighbours(
+pub(crate) fn by_neighbours(
     alloc: Global,
     builtin: Builtin,
     view: &ArgumentView<'_, '_>,

@@ -3,8 +3,6 @@
 ghost use Rattle.std.specs.Prelude.{◌≡◌};
 ghost use Rattle.fz_reasons.specs.Elements.{relates};
 
-use crate::arrangement::Arrangement;
-
 /// How a row compares two numbers, the left one with the right one.
 #[derive(Clone, Copy)]
 pub enum Relation {
@@ -201,7 +199,6 @@ pub struct Early {
 /// the second list has sets, the value is an element of the set at the index.
 #[derive(Clone, Copy)]
 pub struct OneWay {
-    pub of_first: bool,
     pub place: usize,
     pub value: i64,
     pub back: Option<i64>,
@@ -222,6 +219,46 @@ pub struct NearRow {
     pub place: usize,
     pub value: i64,
     pub wanted: i64,
+}
+
+/// An element that isn't an index, which is from `low` to `high`.
+#[derive(Clone, Copy)]
+pub struct NoIndex {
+    pub place: usize,
+    pub value: i64,
+    pub low: i128,
+    pub high: i128,
+}
+
+/// A ring that is too short: so many steps lead from a position, which counts from 1, back to it.
+#[derive(Clone, Copy)]
+pub struct Ring {
+    pub start: i128,
+    pub steps: usize,
+}
+
+/// A bin, its load, and the load that is given for it at a place.
+#[derive(Clone, Copy)]
+pub struct BinLoad {
+    pub place: usize,
+    pub bin: i128,
+    pub load: i128,
+    pub wanted: i64,
+}
+
+/// A sum of products, and the number that it has to be.
+#[derive(Clone, Copy)]
+pub struct Total {
+    pub total: i128,
+    pub wanted: i64,
+}
+
+/// A run of so many neighbours from a place on, and its sum.
+#[derive(Clone, Copy)]
+pub struct Run {
+    pub place: usize,
+    pub count: usize,
+    pub sum: i128,
 }
 
 /// A number, and in which of the first sets it is.
@@ -256,7 +293,10 @@ pub enum Reason {
     Bin(Load),
     Difference(Difference),
     Early(Early),
+    /// Of the first list.
     OneWay(OneWay),
+    /// Of the second list.
+    OtherWay(OneWay),
     /// The automaton begins in this, which is no state.
     BeginsIn(i64),
     NoStep(NoStep),
@@ -264,7 +304,14 @@ pub enum Reason {
     EndsIn(i64),
     NearRow(NearRow),
     Member(Member),
-    Arranged(Arrangement),
+    NoIndex(NoIndex),
+    Ring(Ring),
+    BinLoad(BinLoad),
+    /// Of a knapsack, the weight.
+    Weight(Total),
+    /// Of a knapsack, the profit.
+    Profit(Total),
+    Run(Run),
     /// The number, or the Boolean as 0 or 1, isn't an element of the list or of the set.
     NotListed(i64),
     /// The sets have the same elements.

@@ -1,19 +1,19 @@
 //! Lists of successors. Positions count from 1, and the indices in a list from `first`.
 
-ghost use Rattle.std.specs.Prelude.{◌≡◌, ◌+◌, ℤ, pos, length, IfSome, Some};
+ghost use Rattle.std.specs.Prelude.{◌≡◌, ◌+◌, IfSome, Some};
 ghost use Rattle.fz_builtins.specs.of_meaning.Relations.{as_places, element_at, end_of_tour};
 ghost use Rattle.fz_builtins.specs.of_kernel.Views.{ints};
-ghost use Rattle.fz_reasons.specs.Arranged.{ComesBack, IsShortRing, LeavesOut};
+ghost use Rattle.fz_reasons.specs.Elements.{ComesBack, IsShortRing, LeavesOut};
 
-use crate::arrangement::Ring;
 use crate::readings::number_count;
+use crate::reason::Ring;
 use crate::tours::as_place;
 use fz_globals::tours::{count_moved, first_moved};
 use fz_kernel::Elements;
 use fz_kernel::arrays::int_element_at;
 
 /// The position that follows a position; none where that is no position.
-#[tactic(auto, using(crate::proofs::Touring::not_followed))]
+#[tactic(auto, using(crate::proofs::Arranging::not_followed))]
 pub fn follow(first: i64, next: &Elements, position: i128) -> Option<i128>
     ensures exact { result ≡ element_at (as_places first (ints next.now)) position }
 {
@@ -21,20 +21,6 @@ pub fn follow(first: i64, next: &Elements, position: i128) -> Option<i128>
         Some(index) => Some(as_place(first, index)),
         None => None,
     }
-}
-
-// The position of a place, which counts from 0.
-fn position_at(place: usize) -> i128
-    ensures { result ≡ pos (place + 1) }
-{
-    place as i128 + 1
-}
-
-// How many positions there are.
-fn position_count(next: &Elements) -> usize
-    ensures { (first : ℤ) → result ≡ length (as_places first (ints next.now)) }
-{
-    number_count(next)
 }
 
 // The position after so many steps, where there is one.
@@ -78,7 +64,7 @@ fn ring_from(first: i64, next: &Elements, start: i128, most: usize) -> Option<Ri
 pub(crate) fn short_ring(first: i64, next: &Elements) -> Option<Ring>
     ensures { IfSome result (IsShortRing (as_places first (ints next.now))) }
 {
-    let count = position_count(next);
+    let count = number_count(next);
     let start = walk(first, next, 1, count)?;
     let ring = ring_from(first, next, start, count)?;
     Some(ring)
@@ -88,7 +74,7 @@ pub(crate) fn short_ring(first: i64, next: &Elements) -> Option<Ring>
 pub(crate) fn ring_of_moved(first: i64, next: &Elements) -> Option<Ring>
     ensures { IfSome result (LeavesOut (as_places first (ints next.now))) }
 {
-    let start = position_at(first_moved(first, next)?);
+    let start = first_moved(first, next)? as i128 + 1;
     let ring = ring_from(first, next, start, count_moved(first, next))?;
     Some(ring)
 }

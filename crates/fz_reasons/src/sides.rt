@@ -3,7 +3,7 @@
 ghost use Rattle.std.specs.Prelude.{◌≡◌, IfSome, None, Some, cond};
 ghost use Rattle.fz_builtins.specs.of_kernel.Views.{arguments_of, assigned};
 ghost use Rattle.fz_builtins.specs.of_meaning.Relations.{as_number};
-ghost use Rattle.fz_reasons.specs.Compared.{comparison, leave, operands, sides};
+ghost use Rattle.fz_reasons.specs.Elements.{comparison, leave, operands, sides};
 ghost use Rattle.fz_reasons.specs.Reasons.{Unlike};
 
 use crate::reason::{Operands, Relation, Sides};
@@ -27,7 +27,7 @@ pub(crate) fn sides_of(builtin: Builtin, view: &ArgumentView<'_, '_>) -> Option<
 }
 
 /// What a row compares, and how.
-#[tactic(auto, unfolding(crate::specs::Compared::comparison))]
+#[tactic(auto, unfolding(crate::specs::Elements::comparison))]
 pub(crate) fn comparison(builtin: Builtin) -> Option<(Operands, Relation)>
     ensures { result ≡ comparison builtin }
 {

@@ -2,39 +2,15 @@
 
 ghost use Rattle.std.specs.Prelude.{◌≡◌, ◌<◌, true, IfSome, length};
 ghost use Rattle.fz_builtins.specs.of_meaning.Relations.{are_apart};
-ghost use Rattle.fz_builtins.specs.of_kernel.Views.{arguments_of, assigned, ints, slots_of};
+ghost use Rattle.fz_builtins.specs.of_kernel.Views.{ints, slots_of};
 ghost use Rattle.fz_builtins.specs.Readings.{int, ints as ints_in};
 ghost use Rattle.fz_reasons.specs.Elements.{AreBoxes, BothLast, IsBin, IsLoad, IsMore, IsOverlap, IsStretch, span};
-ghost use Rattle.fz_reasons.specs.Reasons.{Says};
 
-use crate::reason::{Boxes, Load, Overlap, Reason, Relation, Sides, Stretch};
+use crate::reason::{Boxes, Load, Overlap, Relation, Sides, Stretch};
 use fz_kernel::numbers::sum;
 use fz_kernel::{ArgumentView, Elements};
 use fz_scheduling::bins::load_of;
 use fz_scheduling::tasks::used_at;
-use fz_store::Builtin;
-
-/// Two tasks or boxes that overlap, a time at which more is used than there is, or a bin in which
-/// lies more than there is room for.
-#[tactic(auto, unfolding(crate::specs::Reasons::Says))]
-pub(crate) fn by_tasks(builtin: Builtin, view: &ArgumentView<'_, '_>) -> Option<Reason>
-    ensures { IfSome result (Says builtin (assigned view.now) (arguments_of view.now)) }
-{
-    match builtin {
-        Builtin::FznDisjunctive => {
-            Some(Reason::Overlap(overlap(&view.elements(0), &view.elements(1), true)?))
-        }
-        Builtin::FznDisjunctiveStrict | Builtin::GecodeScheduleUnary => {
-            Some(Reason::Overlap(overlap(&view.elements(0), &view.elements(1), false)?))
-        }
-        Builtin::FznDiffn => Some(Reason::Boxes(boxes(view, 1, 2, false)?)),
-        Builtin::FznDiffnNonstrict => Some(Reason::Boxes(boxes(view, 1, 2, true)?)),
-        Builtin::GecodeNooverlap => Some(Reason::Boxes(boxes(view, 2, 1, false)?)),
-        Builtin::FznCumulative => Some(Reason::Load(overload(view)?)),
-        Builtin::FznBinPacking => Some(Reason::Bin(full_bin(view)?)),
-        _ => None,
-    }
-}
 
 /// From where what is at an index lasts, and how long.
 pub(crate) fn stretch_at(starts: &Elements, lengths: &Elements, place: usize) -> Stretch
@@ -89,7 +65,7 @@ fn overlap_at(
 }
 
 /// The first two that aren't apart.
-fn overlap(starts: &Elements, lengths: &Elements, spare: bool) -> Option<Overlap>
+pub(crate) fn overlap(starts: &Elements, lengths: &Elements, spare: bool) -> Option<Overlap>
     ensures overlap { IfSome result (IsOverlap (ints starts.now) (ints lengths.now)) }
     ensures last { IfSome result (λ o. spare ≡ true → BothLast o) }
 {
@@ -105,7 +81,12 @@ fn overlap(starts: &Elements, lengths: &Elements, spare: bool) -> Option<Overlap
 
 /// The first two boxes that aren't apart, whose starts along the second axis and lengths along the
 /// first are these arguments.
-fn boxes(view: &ArgumentView<'_, '_>, y: usize, width: usize, spare: bool) -> Option<Boxes>
+pub(crate) fn boxes(
+    view: &ArgumentView<'_, '_>,
+    y: usize,
+    width: usize,
+    spare: bool,
+) -> Option<Boxes>
     ensures boxes { IfSome result (AreBoxes (ints_in view.now 0) (ints_in view.now y)
         (ints_in view.now width) (ints_in view.now 3)) }
     ensures last { IfSome result (λ b. spare ≡ true → BothLast b.across × BothLast b.along) }
@@ -125,18 +106,15 @@ fn boxes(view: &ArgumentView<'_, '_>, y: usize, width: usize, spare: bool) -> Op
 }
 
 /// The first task at whose start more is used than there is.
-fn overload(view: &ArgumentView<'_, '_>) -> Option<Load>
+pub(crate) fn overload(view: &ArgumentView<'_, '_>) -> Option<Load>
     ensures { IfSome result (IsLoad (ints_in view.now 0) (ints_in view.now 1) (ints_in view.now 2)
         (int view.now 3)) }
 {
     let (starts, lengths, uses) = (view.elements(0), view.elements(1), view.elements(2));
     let most = view.int(3);
     for task in 0..starts.len().min(lengths.len()).min(uses.len()) {
-        let Stretch {
-            start: time,
-            length,
-        } = stretch_at(&starts, &lengths, task);
-        let need = uses.int(task);
+        let Stretch { start, length } = stretch_at(&starts, &lengths, task);
+        let (time, need) = (start, uses.int(task));
         if length != 0
             && need != 0
             && let Some(sides) = more_than(used_at(time, &starts, &lengths, &uses), most)
@@ -162,7 +140,7 @@ fn more_than(load: i128, most: i64) -> Option<Sides>
 }
 
 /// The first thing in whose bin lies more than there is room for.
-fn full_bin(view: &ArgumentView<'_, '_>) -> Option<Load>
+pub(crate) fn full_bin(view: &ArgumentView<'_, '_>) -> Option<Load>
     ensures { IfSome result (IsBin (ints_in view.now 1) (ints_in view.now 2) (int view.now 0)) }
 {
     let (bins, weights) = (view.elements(1), view.elements(2));

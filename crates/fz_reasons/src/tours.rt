@@ -3,54 +3,20 @@
 ghost use Rattle.std.specs.Prelude.{◌≡◌, ◌<◌, ◌+ℤ◌, ◌-ℤ◌, suc, pos, length, true, false, IfOk, IfSome};
 ghost use Rattle.std.specs.FinSet.{contains};
 ghost use Rattle.std.specs.Option.{option_map_or};
-ghost use Rattle.fz_builtins.specs.of_meaning.declared.builtin.Builtin.TheVariants.{GecodeInverseSet};
+ghost use Rattle.fz_builtins.specs.of_meaning.declared.builtin.Builtin.TheVariants.{GecodeIntSetChannel, GecodeInverseSet};
 ghost use Rattle.fz_builtins.specs.of_meaning.Relations.{◌=ℤ◌};
 ghost use Rattle.fz_builtins.specs.of_kernel.Views.{arguments_of, assigned, ints, sets, slots_of};
 ghost use Rattle.fz_builtins.specs.of_globals.Held.{is_held};
 ghost use Rattle.fz_reasons.specs.Elements.{IsInNoSet, IsNoIndexOf, IsNotBack, IsOneWay};
-ghost use Rattle.fz_reasons.specs.Reasons.{LeadsOneWay, Says};
+ghost use Rattle.fz_reasons.specs.Reasons.{Says};
 
 use crate::reason::{OneWay, Reason};
 use fz_globals::channels::is_held;
 use fz_globals::index_at;
 use fz_kernel::arrays::int_element_at;
 use fz_kernel::{ArgumentView, Elements};
-use fz_store::{Builtin, IntSet};
+use fz_store::IntSet;
 use std::alloc::{AllocError, Global};
-
-/// An index that the other list doesn't lead back to.
-#[tactic(auto, unfolding(crate::specs::Reasons::Says))]
-pub(crate) fn by_tour(
-    alloc: Global,
-    builtin: Builtin,
-    view: &ArgumentView<'_, '_>,
-) -> Result<Option<Reason>, AllocError>
-    ensures { IfOk result (λ o. IfSome o
-        (Says builtin (assigned view.now) (arguments_of view.now))) }
-{
-    match builtin {
-        Builtin::InverseOffsets => {
-            let (f, g) = (view.elements(0), view.elements(2));
-            let (fo, go) = (view.int(1), view.int(3));
-            match one_way(true, &f, fo, &g, go) {
-                Some(found) => Ok(Some(Reason::OneWay(found))),
-                None => Ok(one_way(false, &g, go, &f, fo).map(Reason::OneWay)),
-            }
-        }
-        Builtin::GecodeIntSetChannel => {
-            let (numbers, parts) = (view.elements(0), view.elements(2));
-            let (first, first_part) = (view.int(1), view.int(3));
-            match in_no_set(&numbers, first, &parts, first_part) {
-                Some(found) => Ok(Some(Reason::OneWay(found))),
-                None => Ok(no_index_of(alloc, &parts, first_part, &numbers, first)?.map(
-                    Reason::OneWay,
-                )),
-            }
-        }
-        Builtin::GecodeInverseSet => Ok(no_inverse(alloc, view)?.map(Reason::OneWay)),
-        _ => Ok(None),
-    }
-}
 
 /// The position, counted from 1, of an index.
 pub(crate) fn as_place(first: i64, index: i64) -> i128
@@ -60,20 +26,14 @@ pub(crate) fn as_place(first: i64, index: i64) -> i128
 }
 
 /// The first index of a list of which the other list doesn't lead back.
-fn one_way(of_first: bool, f: &Elements, fo: i64, g: &Elements, go: i64) -> Option<OneWay>
+pub(crate) fn one_way(f: &Elements, fo: i64, g: &Elements, go: i64) -> Option<OneWay>
     ensures one_way { IfSome result (IsOneWay (ints f.now) fo (ints g.now) go) }
-    ensures list { IfSome result (λ w. w.of_first ≡ of_first) }
 {
     for place in 0..f.len() {
         let value = f.int(place);
         let back = int_element_at(as_place(fo, value), g);
         if !leads_back(back, go, place) {
-            return Some(OneWay {
-                of_first,
-                place,
-                value,
-                back,
-            });
+            return Some(OneWay { place, value, back });
         }
     }
     None
@@ -89,16 +49,33 @@ fn leads_back(back: Option<i64>, first: i64, place: usize) -> bool
     }
 }
 
+/// A number that isn't in the set with its index, or an element of a set that isn't led back.
+#[tactic(auto, unfolding(crate::specs::Reasons::Says))]
+pub(crate) fn no_channel(
+    alloc: Global,
+    view: &ArgumentView<'_, '_>,
+) -> Result<Option<Reason>, AllocError>
+    ensures { IfOk result (λ o. IfSome o
+        (Says GecodeIntSetChannel (assigned view.now) (arguments_of view.now))) }
+{
+    let (numbers, parts) = (view.elements(0), view.elements(2));
+    let (first, first_part) = (view.int(1), view.int(3));
+    match in_no_set(&numbers, first, &parts, first_part) {
+        Some(found) => Ok(Some(Reason::OneWay(found))),
+        None => {
+            Ok(no_index_of(alloc, &parts, first_part, &numbers, first)?.map(Reason::OtherWay))
+        }
+    }
+}
+
 /// The first element in whose set its index isn't.
 fn in_no_set(numbers: &Elements, first: i64, parts: &Elements, first_part: i64) -> Option<OneWay>
     ensures none { IfSome result (IsInNoSet (ints numbers.now) first (sets parts.now) first_part) }
-    ensures list { IfSome result (λ w. w.of_first ≡ true) }
 {
     for place in 0..numbers.len() {
         let value = numbers.int(place);
         if !is_held(i128::from(first) + place as i128, value, parts, first_part) {
             return Some(OneWay {
-                of_first: true,
                 place,
                 value,
                 back: None,
@@ -119,7 +96,6 @@ fn no_index_of(
 ) -> Result<Option<OneWay>, AllocError>
     ensures none { IfOk result (λ o. IfSome o
         (IsNoIndexOf (sets parts.now) first_part (ints numbers.now) first)) }
-    ensures list { IfOk result (λ o. IfSome o (λ w. w.of_first ≡ false)) }
 {
     for place in 0..parts.len() {
         for range in &parts.set(place).ranges(alloc)? {
@@ -145,30 +121,28 @@ fn not_back(
     requires { place < length (slots_of parts.now) }
     ensures none { IfSome result
         (IsNoIndexOf (sets parts.now) first_part (ints numbers.now) first) }
-    ensures list { IfSome result (λ w. w.of_first ≡ false) }
 {
     let back = int_element_at(as_place(first, value), numbers);
     if !parts.set(place).contains(value) || leads_back(back, first_part, place) {
         return None;
     }
-    Some(OneWay {
-        of_first: false,
-        place,
-        value,
-        back,
-    })
+    Some(OneWay { place, value, back })
 }
 
 /// An element of a set that doesn't lead back, of the first array or else of the second.
-fn no_inverse(alloc: Global, view: &ArgumentView<'_, '_>) -> Result<Option<OneWay>, AllocError>
-    ensures { IfOk result (λ o. IfSome o (λ w. LeadsOneWay GecodeInverseSet w.of_first
-        (assigned view.now) (arguments_of view.now) w)) }
+#[tactic(auto, unfolding(crate::specs::Reasons::Says))]
+pub(crate) fn no_inverse(
+    alloc: Global,
+    view: &ArgumentView<'_, '_>,
+) -> Result<Option<Reason>, AllocError>
+    ensures { IfOk result (λ o. IfSome o
+        (Says GecodeInverseSet (assigned view.now) (arguments_of view.now))) }
 {
     let (a, b) = (view.elements(0), view.elements(1));
     let (first_a, first_b) = (view.int(2), view.int(3));
-    match refers_nowhere(alloc, true, &a, first_a, &b, first_b)? {
-        Some(found) => Ok(Some(found)),
-        None => refers_nowhere(alloc, false, &b, first_b, &a, first_a),
+    match refers_nowhere(alloc, &a, first_a, &b, first_b)? {
+        Some(found) => Ok(Some(Reason::OneWay(found))),
+        None => Ok(refers_nowhere(alloc, &b, first_b, &a, first_a)?.map(Reason::OtherWay)),
     }
 }
 
@@ -176,7 +150,6 @@ fn no_inverse(alloc: Global, view: &ArgumentView<'_, '_>) -> Result<Option<OneWa
 /// the least such element.
 fn refers_nowhere(
     alloc: Global,
-    of_first: bool,
     parts: &Elements,
     first: i64,
     others: &Elements,
@@ -184,13 +157,11 @@ fn refers_nowhere(
 ) -> Result<Option<OneWay>, AllocError>
     ensures none { IfOk result (λ o. IfSome o
         (IsNotBack (sets parts.now) first (sets others.now) first_other)) }
-    ensures list { IfOk result (λ o. IfSome o (λ w. w.of_first ≡ of_first)) }
 {
     for place in 0..parts.len() {
         let index = index_at(first, place);
         if let Some(value) = not_led_back(alloc, parts.set(place), index, others, first_other)? {
             return Ok(Some(OneWay {
-                of_first,
                 place,
                 value,
                 back: None,

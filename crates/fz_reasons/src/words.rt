@@ -4,7 +4,7 @@ ghost use Rattle.std.specs.Prelude.{◌<◌, length};
 ghost use Rattle.fz_builtins.specs.of_meaning.Meaning.{points};
 
 use crate::element_words::say_of_elements;
-use crate::reason::{Operands, OtherNumber, OtherTruth, Reason, Relation, Sides, Why};
+use crate::reason::{Operands, Reason, Relation, Sides, Why};
 use crate::rows::{holds, reason_of, why};
 use crate::sides::{comparison, sides_of};
 use crate::sum_words::say_sum;
@@ -249,27 +249,15 @@ fn say_reason(teller: &mut Teller<'_, '_>, reason: &Reason) -> Result<(), AllocE
             teller.say(", not ")?;
             say_right(teller, sides)
         }
-        Reason::Number(
-            OtherNumber {
-                argument,
-                value,
-                ..
-            },
-        ) => {
+        Reason::Number(other) => {
             say_other(teller)?;
-            teller.say_value(false, i128::from(value))?;
-            teller.bracket(argument, 0)
+            teller.say_value(false, i128::from(other.value))?;
+            teller.bracket(other.argument, 0)
         }
-        Reason::Truth(
-            OtherTruth {
-                argument,
-                value,
-                ..
-            },
-        ) => {
+        Reason::Truth(other) => {
             say_other(teller)?;
-            teller.say_value(true, i128::from(value))?;
-            teller.bracket(argument, 0)
+            teller.say_value(true, i128::from(other.value))?;
+            teller.bracket(other.argument, 0)
         }
         Reason::NoLiteral => teller.say("no literal is true"),
         Reason::Even => teller.say("an even number of elements are true"),

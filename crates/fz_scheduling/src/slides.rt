@@ -1,5 +1,5 @@
 //! The sums of runs of neighbours: of the elements, or of 1 for each element that is in a set.
-ghost use Rattle.std.specs.Prelude.{◌≡◌, ◌≤◌, ◌<◌, length, option_map, take};
+ghost use Rattle.std.specs.Prelude.{◌≡◌, ◌+◌, ◌≤◌, ◌<◌, drop, length, option_map, take};
 ghost use Rattle.std.specs.List.{list_all};
 ghost use Rattle.fz_kernel.specs.of_meaning.Relations.{total, lies_between, marks, slides_between, windows};
 ghost use Rattle.fz_kernel.specs.Views.{ints};
@@ -60,7 +60,7 @@ fn running_sums_lie_between(
     ensures { result ≡ list_all (λ w. lies_between low high (total w))
         (windows width (terms (option_map (λ s. s.now) counted.entry) (ints xs.now))) }
 {
-    let mut sum = front_sum(width, counted, xs);
+    let mut sum = sum_of(counted, xs, 0, width);
     for start in 0..number_count(xs) - width {
         if !is_between(low, high, sum) {
             return false;
@@ -72,22 +72,24 @@ fn running_sums_lie_between(
     is_between(low, high, sum)
 }
 
-// The sum of the first so many numbers. No array is long enough for it to leave 128 bits.
-fn front_sum(count: usize, counted: Option<&IntSet>, xs: &Elements) -> i128
-    requires { count ≤ length (ints xs.now) }
-    ensures { result ≡ total
-        (take count (terms (option_map (λ s. s.now) counted.entry) (ints xs.now))) }
+/// The sum of a run of neighbours. No array is long enough for it to leave 128 bits.
+pub fn sum_of(counted: Option<&IntSet>, xs: &Elements, start: usize, width: usize) -> i128
+    requires { start + width ≤ length (ints xs.now) }
+    ensures sum { total (take width (drop start
+        (terms (option_map (λ s. s.now) counted.entry) (ints xs.now)))) ≡ result }
+    ensures within { start + width
+        ≤ length (terms (option_map (λ s. s.now) counted.entry) (ints xs.now)) }
 {
     let mut sum: i128 = 0;
-    for place in 0..count {
-        sum += i128::from(term_at(counted, xs, place));
+    for place in 0..width {
+        sum += i128::from(term_at(counted, xs, start + place));
     }
     sum
 }
 
-/// What is added up for the element at an index; 0 past the end.
+// What is added up for the element at an index; 0 past the end.
 #[inline(always)]
-pub fn term_at(counted: Option<&IntSet>, xs: &Elements, place: usize) -> i64
+fn term_at(counted: Option<&IntSet>, xs: &Elements, place: usize) -> i64
     ensures { result ≡ number_at
         (terms (option_map (λ s. s.now) counted.entry) (ints xs.now)) place }
 {

@@ -1,5 +1,5 @@
 //! Words that a finite automaton accepts.
-ghost use Rattle.std.specs.Prelude.{◌≡◌, ◌+ℤ◌, ◌*ℤ◌, pos};
+ghost use Rattle.std.specs.Prelude.{◌≡◌, ◌≤◌, ◌+ℤ◌, ◌*ℤ◌, pos, length, take};
 ghost use Rattle.fz_kernel.specs.of_meaning.Relations.{is_word, lies_between, run, step};
 ghost use Rattle.fz_kernel.specs.Views.{ints};
 
@@ -28,8 +28,9 @@ pub fn is_word(
     }
 }
 
-// The state to which the word leads from a state; none where it leads nowhere.
-fn end_of_run(
+/// The state to which the word leads from a state; none where it leads nowhere.
+#[tactic(auto, using(std::proofs::lemmas::List::take_all))]
+pub fn end_of_run(
     states: i64,
     symbols: i64,
     transitions: &Elements,
@@ -38,8 +39,24 @@ fn end_of_run(
 ) -> Option<i64>
     ensures exact { result ≡ run states symbols (ints transitions.now) from (ints xs.now) }
 {
+    state_after(states, symbols, transitions, from, xs, number_count(xs))
+}
+
+/// The state to which the first so many symbols lead from a state; none where they lead nowhere.
+pub fn state_after(
+    states: i64,
+    symbols: i64,
+    transitions: &Elements,
+    from: i64,
+    xs: &Elements,
+    count: usize,
+) -> Option<i64>
+    requires { count ≤ length (ints xs.now) }
+    ensures exact { result
+        ≡ run states symbols (ints transitions.now) from (take count (ints xs.now)) }
+{
     let mut state = from;
-    for place in 0..number_count(xs) {
+    for place in 0..count {
         match next_state(states, symbols, transitions, state, number_at(xs, place)) {
             Some(next) => state = next,
             None => return None,

@@ -1,7 +1,7 @@
 use Rattle.std.proofs.Common.{◌≡◌, ◌↔◌, negsuc, true, FitsSigned, w64}
 use Rattle.std.proofs.lemmas.Int.{to_z-of_z}
 use Rattle.fz_builtins.specs.of_meaning.of_base.Elements.{LiesWithin}
-use Rattle.fz_reasons.proofs.Gaps.{some_more}
+use Rattle.fz_reasons.proofs.SetRows.{some_more}
 use Rattle.fz_reasons.proofs.members.has_more.Goals as goal
 
 pub returns : goal.returns

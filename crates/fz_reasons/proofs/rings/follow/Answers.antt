@@ -3,7 +3,7 @@ use Rattle.std.specs.Int.{w128}
 use Rattle.std.proofs.lemmas.Int.{to_z-of_z}
 use Rattle.fz_builtins.specs.of_meaning.Relations.{element_at}
 use Rattle.fz_builtins.specs.of_kernel.Views.{ints}
-use Rattle.fz_reasons.proofs.Touring.{followed}
+use Rattle.fz_reasons.proofs.Arranging.{followed}
 use Rattle.fz_reasons.proofs.rings.follow.Goals as goal
 
 pub returns-in-Some : goal.returns-in-Some

@@ -3,7 +3,7 @@ use Rattle.std.specs.Int.{w128}
 use Rattle.std.proofs.lemmas.Int.{to_z-of_z}
 use Rattle.fz_builtins.specs.of_meaning.Relations.{as_places, element_at, end_of_tour}
 use Rattle.fz_builtins.specs.of_kernel.Views.{ints}
-use Rattle.fz_reasons.proofs.Touring.{went_on}
+use Rattle.fz_reasons.proofs.Arranging.{went_on}
 use Rattle.fz_reasons.proofs.rings.walk.Goals as goal
 
 pub loop-step-preserved : goal.loop-step-preserved

@@ -2,7 +2,8 @@ use Rattle.std.proofs.Common.{◌≡◌, ◌<◌, ℤ, false, length, arith, rul
 use Rattle.fz_model.specs.of_builtins.of_kernel.Given.{int_at, ints_at, slots_at}
 use Rattle.fz_bounds.specs.Decided.{in_order}
 use Rattle.fz_bounds.specs.Within.{given}
-use Rattle.fz_bounds.proofs.Failed.{never_so, one_fails}
+use Rattle.fz_bounds.proofs.Failed.{never_so}
+use Rattle.fz_model.proofs.of_builtins.Failing.{one_fails}
 use Rattle.fz_bounds.proofs.Lists.{is_there}
 use Rattle.fz_bounds.proofs.bounded.BoundedConstraint.all_are.Goals as goal
 

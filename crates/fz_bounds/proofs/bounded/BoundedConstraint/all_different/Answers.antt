@@ -2,7 +2,7 @@ use Rattle.std.proofs.Common.{◌∙◌, ◌<◌, FitsSigned, Some, ap, length, 
 use Rattle.std.proofs.lemmas.Int.{to_z-of_z}
 use Rattle.fz_model.specs.of_builtins.of_kernel.Given.{ints_at, slots_at}
 use Rattle.fz_bounds.specs.Within.{given}
-use Rattle.fz_bounds.proofs.Indexed.{twice_listed}
+use Rattle.fz_model.proofs.of_builtins.Failing.{clash}
 use Rattle.fz_bounds.proofs.Lists.{is_there}
 use Rattle.fz_bounds.proofs.bounded.BoundedConstraint.all_different.Goals as goal
 
@@ -17,4 +17,4 @@ returns-then-stands_before c = λ K h.
     let (n, at) = is_there K xs 0 place within in
     let (p, before, also) = c.stands_before.ensures (search rules) K h in
     let fits : FitsSigned w64 c.in-Some.number = search rules in
-    twice_listed (ints_at K xs 0) p place c.in-Some.number before (also ∙ ap Some (to_z-of_z w64 c.in-Some.number fits)) (at ∙ ap Some (c.in-Some.ensures K h n at))
+    clash (ints_at K xs 0) p place c.in-Some.number before (also ∙ ap Some (to_z-of_z w64 c.in-Some.number fits)) (at ∙ ap Some (c.in-Some.ensures K h n at))

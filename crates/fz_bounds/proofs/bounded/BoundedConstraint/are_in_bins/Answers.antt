@@ -3,7 +3,8 @@ use Rattle.fz_model.specs.Relations.{lies_between}
 use Rattle.fz_model.specs.of_builtins.of_kernel.Given.{int_at, ints_at, slots_at}
 use Rattle.fz_bounds.specs.Decided.{LiesIn}
 use Rattle.fz_bounds.specs.Within.{given}
-use Rattle.fz_bounds.proofs.Failed.{never_so, one_fails}
+use Rattle.fz_bounds.proofs.Failed.{never_so}
+use Rattle.fz_model.proofs.of_builtins.Failing.{one_fails}
 use Rattle.fz_bounds.proofs.Lists.{is_there, numbers_counted}
 use Rattle.fz_bounds.proofs.bounded.BoundedConstraint.are_in_bins.Goals as goal
 

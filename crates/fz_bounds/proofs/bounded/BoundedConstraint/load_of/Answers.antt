@@ -4,8 +4,9 @@ use Rattle.fz_model.specs.Relations.{◌=ℤ◌, load_of}
 use Rattle.fz_model.specs.of_builtins.of_kernel.Given.{ints_at, slots_at}
 use Rattle.fz_bounds.specs.Within.{given}
 use Rattle.fz_bounds.proofs.Added.{all_so_far, none_so_far, one_more}
-use Rattle.fz_bounds.proofs.Chosen.{both_there, chosen, next_chosen, none_in_both}
+use Rattle.fz_bounds.proofs.Chosen.{chosen, next_chosen, none_in_both}
 use Rattle.fz_bounds.proofs.Lists.{is_there, numbers_counted}
+use Rattle.fz_model.proofs.of_builtins.Failing.{zipped}
 use Rattle.fz_bounds.proofs.bounded.BoundedConstraint.load_of.Goals as goal
 
 pub loop-item-init : goal.loop-item-init
@@ -23,7 +24,7 @@ loop-item-preserved c = λ K f g v h.
     let (b, at_b) = is_there K xs 1 i first in
     let (w, at_w) = is_there K xs 2 i second in
     one_more (load_of bins weights v) (chosen (λ b. b =ℤ v) (drop i (zip bins weights))) (chosen (λ b. b =ℤ v) (drop (i + 1) (zip bins weights))) (cond (b =ℤ v) w (pos 0)) c.loop-item.load c.where_holds.result c.plus-load.result
-    (c.loop-item.invariant K f g v h) (next_chosen (λ b. b =ℤ v) (zip bins weights) i b w (both_there bins weights i b w at_b at_w))
+    (c.loop-item.invariant K f g v h) (next_chosen (λ b. b =ℤ v) (zip bins weights) i b w (zipped bins weights i b w at_b at_w))
     (c.where_holds.ensures w (b =ℤ v) (c.number_at-in-loop-item.ensures K g w at_w) (c.equal-is_there.ensures b v (c.number_at.ensures K f b at_b) h)) c.plus-load.ensures
 
 pub returns : goal.returns

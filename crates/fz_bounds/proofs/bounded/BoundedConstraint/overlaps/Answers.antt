@@ -3,8 +3,8 @@ use Rattle.std.specs.List.{zip}
 use Rattle.fz_model.specs.of_builtins.of_kernel.Given.{ints_at, slots_at}
 use Rattle.fz_bounds.specs.Spans.{keep_apart}
 use Rattle.fz_bounds.specs.Within.{given}
-use Rattle.fz_bounds.proofs.Chosen.{both_there}
-use Rattle.fz_bounds.proofs.Failed.{never_so, pair_fails}
+use Rattle.fz_bounds.proofs.Failed.{never_so}
+use Rattle.fz_model.proofs.of_builtins.Failing.{pair_fails, zipped}
 use Rattle.fz_bounds.proofs.Lists.{is_there}
 use Rattle.fz_bounds.proofs.bounded.BoundedConstraint.overlaps.Goals as goal
 
@@ -22,4 +22,4 @@ returns-then-is_never c = λ _ K f g.
     let (t, at_t) = is_there K xs 0 c.args.task c.requires.starts in
     let (e, at_e) = is_there K xs 1 c.args.task c.requires.lasts in
     let fails : keep_apart c.args.spare (s, d) (t, e) ≡ false = never_so c.keep_apart.result (keep_apart c.args.spare (s, d) (t, e)) (search rules) (c.keep_apart.ensures K f g s d t e at_s at_d at_t at_e) in
-    pair_fails (keep_apart c.args.spare) (zip starts durations) p c.args.task (s, d) (t, e) before (both_there starts durations p s d at_s at_d) (both_there starts durations c.args.task t e at_t at_e) fails
+    pair_fails (keep_apart c.args.spare) (zip starts durations) p c.args.task (s, d) (t, e) before (zipped starts durations p s d at_s at_d) (zipped starts durations c.args.task t e at_t at_e) fails

@@ -2,11 +2,12 @@ use Rattle.std.proofs.Common.{◌≡◌, ◌<◌, ◌∙◌, ℤ, false, ap, len
 use borrow.Author.Count.{below_more}
 use Rattle.fz_model.specs.Relations.{◌=ℤ◌}
 use Rattle.fz_model.specs.of_builtins.of_kernel.Given.{ints_at, slots_at}
-use Rattle.fz_model.proofs.Values.{int_itself, same_int}
+use Rattle.fz_model.proofs.Values.{same_int}
 use Rattle.fz_bounds.specs.Decided.{Decides}
 use Rattle.fz_bounds.specs.Within.{given}
 use Rattle.fz_bounds.specs.declared.outlook.Outlook.TheVariants.{Always}
-use Rattle.fz_bounds.proofs.Failed.{never_so, none_before}
+use Rattle.fz_bounds.proofs.Failed.{never_so}
+use Rattle.fz_model.proofs.of_builtins.Failing.{comes_too_early}
 use Rattle.fz_bounds.proofs.Lists.{is_there}
 use Rattle.fz_bounds.proofs.bounded.BoundedConstraint.precedes.Goals as goal
 
@@ -24,4 +25,4 @@ returns-then-is_always c = λ K f s t g h.
     let (n, at) = is_there K xs c.args.array p within in
     let always : c.equal.result ≡ Always = search rules in
     let same : (n =ℤ t) ≡ true = subst (λ o. Decides o (n =ℤ t)) always (c.equal.ensures n t (c.number_at-number.ensures K f n at) h) in
-    none_before s t (ints_at K xs c.args.array) p (c.loop-place.invariant K f s g) (at ∙ ap Some (same_int n t same)) (int_itself t)
+    comes_too_early s t (ints_at K xs c.args.array) p (c.loop-place.invariant K f s g) (at ∙ ap Some (same_int n t same))

@@ -4,8 +4,9 @@ use Rattle.fz_model.specs.Relations.{runs_at, used_at}
 use Rattle.fz_model.specs.of_builtins.of_kernel.Given.{ints_at, slots_at}
 use Rattle.fz_bounds.specs.Within.{given}
 use Rattle.fz_bounds.proofs.Added.{all_so_far, none_so_far, one_more}
-use Rattle.fz_bounds.proofs.Chosen.{both_counted, both_there, chosen, next_chosen, none_in_both}
+use Rattle.fz_bounds.proofs.Chosen.{both_counted, chosen, next_chosen, none_in_both}
 use Rattle.fz_bounds.proofs.Lists.{is_there, numbers_counted}
+use Rattle.fz_model.proofs.of_builtins.Failing.{zipped}
 use Rattle.fz_bounds.proofs.bounded.BoundedConstraint.used_at.Goals as goal
 
 pub loop-task-init : goal.loop-task-init
@@ -25,7 +26,7 @@ loop-task-preserved c = λ K f g h t lies.
     let (s, at_s) = is_there K xs 0 i first in
     let (d, at_d) = is_there K xs 1 i second in
     let (u, at_u) = is_there K xs 2 i third in
-    let there = both_there spans (ints_at K xs 2) i (s, d) u (both_there (ints_at K xs 0) (ints_at K xs 1) i s d at_s at_d) at_u in
+    let there = zipped spans (ints_at K xs 2) i (s, d) u (zipped (ints_at K xs 0) (ints_at K xs 1) i s d at_s at_d) at_u in
     one_more (used_at t tasks) (chosen (runs_at t) (drop i tasks)) (chosen (runs_at t) (drop (i + 1) tasks)) (cond (runs_at t (s, d)) u (pos 0)) c.loop-task.used c.where_holds.result c.plus-used.result
     (c.loop-task.invariant K f g h t lies) (next_chosen (runs_at t) tasks i (s, d) u there)
     (c.where_holds.ensures u (runs_at t (s, d)) (c.number_at.ensures K h u at_u) (c.runs_at-runs.ensures K f g t s d lies at_s at_d)) c.plus-used.ensures

@@ -2,11 +2,11 @@ use Rattle.std.proofs.Common.{◌≡◌, ◌+◌, ◌*◌, ◌<◌, ◌≤◌, p
 use Rattle.std.specs.Int.{w128}
 use Rattle.std.proofs.lemmas.Int.{ints as numerals}
 use Rattle.std.proofs.lemmas.List.{get_or-drop, length-drop}
-use Rattle.fz_builtins.specs.of_kernel.Views.{ints}
-use Rattle.fz_builtins.specs.of_scheduling.Places.{number_at, terms}
-use Rattle.fz_builtins.proofs.of_scheduling.Terms.{terms_counted}
-use Rattle.fz_builtins.proofs.of_scheduling.Windowed.{one_summed}
-use Rattle.fz_reasons.proofs.loads.sum_of.Goals as goal
+use Rattle.fz_kernel.specs.Views.{ints}
+use Rattle.fz_scheduling.specs.Places.{number_at, terms}
+use Rattle.fz_scheduling.proofs.Terms.{terms_counted}
+use Rattle.fz_scheduling.proofs.Windowed.{one_summed}
+use Rattle.fz_scheduling.proofs.slides.sum_of.Goals as goal
 
 pub loop-place-preserved : goal.loop-place-preserved
 loop-place-preserved c =

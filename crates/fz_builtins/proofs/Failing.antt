@@ -4,11 +4,11 @@ use Rattle.std.specs.List.{list_all, zip, filter}
 use Rattle.std.specs.Option.{option_map_or}
 use Rattle.std.proofs.lemmas.Int.{ints}
 use Rattle.std.proofs.lemmas.Option.{none-some, same_Some}
-use Rattle.fz_builtins.proofs.of_meaning.of_base.Covers.{and-false}
-use Rattle.fz_builtins.specs.of_meaning.Relations.{all_both, all_neighbours, all_pairs, ◌=ℤ◌, all_different, is_among, precedes}
+use Rattle.fz_globals.proofs.of_meaning.of_base.Covers.{and-false}
+use Rattle.fz_globals.specs.of_meaning.Relations.{all_both, all_neighbours, all_pairs, ◌=ℤ◌, all_different, is_among, precedes}
 use Rattle.std.proofs.lemmas.Bool.{false_from_ne_true}
-use Rattle.fz_builtins.proofs.of_globals.Led.{one_place}
-use Rattle.fz_builtins.proofs.of_meaning.Values.{int_itself, same_int}
+use Rattle.fz_globals.proofs.Led.{one_place}
+use Rattle.fz_globals.proofs.of_meaning.Values.{int_itself}
 
 module _ {A : Type 0} (p : A → Bool) where
   pub one_fails : (xs : List A) (i : ℕ) (x : A) → slice_get xs i ≡ Some x → p x ≡ false
@@ -112,12 +112,12 @@ module _ (p : ℤ → Bool) (v : ℤ) (kept : p v ≡ true) where
       ]
 
 -- the second value comes, and the first not before it
-pub comes_too_early : (s t : ℤ) (xs : List ℤ) (i : ℕ) → slice_get xs i ≡ Some t
-    → ((k : ℕ) → k < i → slice_get xs k ≡ Some s → ⊥) → precedes s t xs ≡ false
-comes_too_early s t [] i at none = absurd (none-some t at)
-comes_too_early s t (x ∷ xs) zero at none =
+pub comes_too_early : (s t : ℤ) (xs : List ℤ) (i : ℕ)
+    → ((j : ℕ) → j < i → (x : ℤ) → slice_get xs j ≡ Some x → (x =ℤ s) ≡ false)
+    → slice_get xs i ≡ Some t → precedes s t xs ≡ false
+comes_too_early s t [] i before at = absurd (none-some t at)
+comes_too_early s t (x ∷ xs) zero before at =
     ap (λ b. not b && ((x =ℤ s) || precedes s t xs)) (ap (λ y. y =ℤ t) (same_Some x t at) ∙ int_itself t)
-comes_too_early s t (x ∷ xs) (suc i) at none =
-    let other : (x =ℤ s) ≡ false = false_from_ne_true _ (λ e. none 0 (omega arith) (ap Some (same_int x s e))) in
-    let rest : precedes s t xs ≡ false = comes_too_early s t xs i at (λ k h. none (suc k) (omega arith)) in
-    (λ j. not (x =ℤ t) && (other j || rest j)) ∙ and-false (not (x =ℤ t))
+comes_too_early s t (x ∷ xs) (suc i) before at =
+    let rest : precedes s t xs ≡ false = comes_too_early s t xs i (λ j l y d. before (suc j) (omega arith) y d) at in
+    (λ j. not (x =ℤ t) && (before zero (omega arith) x refl j || rest j)) ∙ and-false (not (x =ℤ t))

@@ -1,8 +1,0 @@
-use Rattle.std.proofs.Common.{option_map}
-use Rattle.fz_kernel.specs.Views.{ints}
-use Rattle.fz_scheduling.specs.Places.{terms}
-use Rattle.fz_scheduling.proofs.Windowed.{IsSummed}
-use Rattle.fz_scheduling.proofs.slides.front_sum.Given as goal
-
-abbrev pub invariant-loop-place : goal.invariant-loop-place
-invariant-loop-place l = IsSummed (terms (option_map (λ s. s.now) l.counted) (ints l.xs)) l.place l.sum
