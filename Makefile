@@ -7,7 +7,7 @@
 #                  on plans of it, where that is installed; and inside a bare Debian, where
 #                  debootstrap is
 # make fuzz        runs it beside that checker on random broken texts, for SECONDS (600), and on
-#                  20,000 damaged blocks of random models, by SEED
+#                  20,000 damaged blocks and the claims of 10,000 random models, by SEED
 # make wrong       tries the wrong bodies of tests/wrong, of the crates in ONLY (all): the prover
 #                  has to refuse each. It begins with what make kept
 # make bench       measures the built program beside the plain program in plain/ (some minutes), or
@@ -70,6 +70,7 @@ test:
 	tests/corpus/run.py build/fzcheck tests/corpus examples
 	tests/corpus/left_out.py build/fzcheck
 	tests/corpus/damaged.py build/fzcheck 2000
+	tests/corpus/claims.py build/fzcheck 500
 	tests/hostile/run.py build/fzcheck crates/fz_hostile/out/fz_hostile
 
 corpus: build/fzcheck
@@ -86,6 +87,7 @@ corpus: build/fzcheck
 fuzz: build/fzcheck
 	tests/hostile/fuzz.py build/fzcheck $(SECONDS) $(SEED)
 	tests/corpus/damaged.py build/fzcheck 20000 $(SEED)
+	tests/corpus/claims.py build/fzcheck 10000 $(SEED)
 
 wrong: build/fzcheck
 	tests/wrong.py $(ONLY)

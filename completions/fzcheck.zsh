@@ -11,8 +11,9 @@ case $line[1] in
     _arguments $help \
       '--large[take a model of up to 1 GiB, and blocks as large]' \
       '--complete[look for values that the solver left out]' \
+      '--complete-steps=[take so many steps at most in each search]:steps: ' \
       '--cut[judge the blocks before one in which the stream ends]' \
-      '--claims[judge claims on the whole search]' \
+      '--claims=-[judge claims on the whole search]::how:(prove)' \
       '*--known=[judge claims, by the blocks of another stream too]:stream:_files' \
       '--explain=-[show what is behind a verdict or a refusal]::what:(answer all)' \
       '--names=[explain by the table of names of the MiniZinc compiler]:table of names:_files' \

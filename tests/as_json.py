@@ -16,7 +16,7 @@ import sys
 TOP = os.path.dirname(os.path.dirname(os.path.abspath(__file__)))
 FOLDERS = "examples", "tests/explained", "tests/corpus/by_hand"
 NAMES = "model.names"  # where a folder has it, it goes with what explains
-OPTIONS = "", "--complete", "--cut", "--claims"
+OPTIONS = "", "--complete", "--cut", "--claims", "--claims=prove"
 EXPLAINING = "", "--explain", "--explain=all"
 FAULTS = {
     "printed": "printed {name}",
@@ -59,6 +59,9 @@ def block_line(it):
 
 def claim_line(it):
     told = it.get("refuted_by")
+    if "proved" in it:
+        nodes = "1 node" if it["proved"] == 1 else f"{it['proved']} nodes"
+        return f"claim: {it['claim']} proved, {nodes}"
     if not told:
         return f"claim: {it['claim']} not judged"
     block = f"{'known ' if 'file' in told else ''}block {told['block']}"

@@ -59,6 +59,11 @@ def main(program):
     expect("--explain=a, by bash", {it for it in explained if it.startswith("al")},
            by_bash("check", "--explain", "=", "al"))
     expect("--explain=, by zsh", explained, set(re.search(r"what:\((.*)\)", zsh)[1].split()))
+    claimed = set(re.findall(r'"(\w+)"', re.search(r"CLAIMED.*= (.*);", words)[1]))
+    expect("--claims=, by bash", claimed, by_bash("check", "--claims", "="))
+    expect("--claims=p, by bash", claimed, by_bash("check", "--claims", "=", "p"))
+    expect("--claims=, by zsh", claimed, set(re.search(r"how:\((.*)\)", zsh)[1].split()))
+    expect("--complete-steps=, by bash", set(), by_bash("check", "--complete-steps", "="))
     expect("a file behind --names", set(), by_bash("check", "--names", "m"))
     expect("commands behind help, by bash", commands - {"help"}, by_bash("help", ""))
     expect("options, by bash", {"-h", "--help", "-V", "--version"}, by_bash("-"))

@@ -44,6 +44,10 @@ wrong $'error: unrecognized subcommand \'chekc\'\ndid you mean check' chekc exam
 wrong $'error: unexpected argument \'--complet\' found\ndid you mean --complete' check --complet examples/first.fzn
 wrong $'error: unexpected argument \'--complete\' found\ndid you mean check --complete' --complete check examples/first.fzn
 wrong $'error: invalid value \'al\' for \'--explain[=<explain>]\'\n  [possible values: answer, all]\ndid you mean all' check --explain=al examples/first.fzn
+wrong $'error: invalid value \'prov\' for \'--claims[=<claims>]\'\n  [possible values: prove]\ndid you mean prove' check --claims=prov examples/first.fzn
+wrong "error: invalid value 'ten' for '--complete-steps <N>': invalid digit found in string" check --complete --complete-steps ten examples/first.fzn
+wrong "error: invalid value '9223372036854775808' for '--complete-steps <N>': 9223372036854775808 is not in 0..=9223372036854775807" check --complete-steps=9223372036854775808 examples/first.fzn
+wrong "error: --complete-steps is given as '1' and as '2'" check --complete-steps 1 --complete-steps 2 examples/first.fzn
 wrong "error: --explain is given as 'answer' and as 'all'" check --explain --explain=all examples/first.fzn
 wrong "error: --names is given as 'a' and as 'b'" check --explain --names a --names b examples/first.fzn
 wrong "error: unexpected argument 'examples/first.out' found" show examples/first.fzn examples/first.out
@@ -62,7 +66,7 @@ for words in help --help -h 'help check' 'check --help' 'show -h'; do
   # shellcheck disable=SC2086
   expect "a request for help: $words" 5 "$page" "$usage" "$program" $words
 done
-for word in check show --large --complete --cut --claims --known --explain --names --json --print-all --version STREAM; do
+for word in check show --large --complete --complete-steps --cut --claims --known --explain --names --json --print-all --version STREAM; do
   expect "help names $word" 0 '' '' grep -q -- "$word" "$folder/page"
 done
 version="fzcheck $(sed -n 's/^## \([0-9][0-9.]*\).*/\1/p' CHANGELOG.md | head -1)"
@@ -101,6 +105,13 @@ printf 'var 0..9: x;\nvar 0..9: y;\nconstraint int_mod(x,3,y);\nsolve satisfy;\n
 printf 'x = 7;\n----------\n' >"$folder/left.out"
 expect 'a value that was left out' 2 $'block 1: undecided: no value for y\nundecided: block 1' '' "$program" check "$folder/left.fzn" "$folder/left.out"
 expect 'a value that is looked for' 0 "$accepted" '' "$program" check --complete "$folder/left.fzn" "$folder/left.out"
+# The one sum of these numbers that is 205 is found by more steps than a model so small has for itself.
+{ printf 'var 0..400: s;\n'; printf 'var 0..1: %s;\n' a b c d e f g h; } >"$folder/sum.fzn"
+printf 'constraint int_lin_eq([31,37,41,43,47,53,59,61,-1],[a,b,c,d,e,f,g,h,s],0);\nsolve satisfy;\n' >>"$folder/sum.fzn"
+printf 's = 205;\n----------\n' >"$folder/sum.out"
+expect 'a value that is looked for by many steps' 0 "$accepted" '' "$program" check --complete "$folder/sum.fzn" "$folder/sum.out"
+expect 'a value that is looked for by few steps' 2 $'block 1: undecided: no value for a\nundecided: block 1' '' \
+  "$program" check --complete --complete-steps 0 "$folder/sum.fzn" "$folder/sum.out"
 # What known streams refute. Which of their blocks refute nothing is told on standard error.
 deliveries=examples/deliveries
 # stream NAME LINE..: a known stream, with a block of each line.
@@ -148,6 +159,8 @@ refutes 'several streams' 1 "$front"$'refuted by known block 2 of three.out\nrej
 refutes 'no solution' 1 $'claim: =====UNSATISFIABLE===== refuted by known block 1\nrejected: claim after block 0' '' --known equal.out model.fzn none.out
 refutes 'no solution, by no satisfied block' 3 $'claim: =====UNSATISFIABLE===== not judged\nno blocks' 'violated.out: block 1: violated: constraint 1 int_ne' --known violated.out model.fzn none.out
 refutes 'a stream given twice' 1 "$refuted" '' --known other_stream.txt --known other_stream.txt model.fzn stream.txt
+prove() { in_folder "$program" check --claims=prove "$@"; }
+expect 'known: with --claims=prove, another solver' 1 "$refuted" '' prove --known other_stream.txt model.fzn stream.txt
 as_claims='--known without --claims: claims are judged as if it were there'
 expect 'known: without --claims' 1 "$refuted" "$as_claims" in_folder "$program" check --known other_stream.txt model.fzn stream.txt
 expect 'known: without --claims, a block that refutes nothing' 0 "$unrefuted" "$as_claims"$'\nviolated.out: block 1: violated: constraint 1 int_ne' \

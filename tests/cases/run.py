@@ -53,6 +53,20 @@ def sets():
         yield "fz_hostile sets ask TEXT", text, "", "".join(map(told, asked))
 
 
+def many():
+    """Cases of 120 variables that are all different, of which a block has every other one. Any
+    order of the other numbers will do, but not where there is one too few."""
+    names = [f"x{n}" for n in range(120)]
+    stream = "".join(f"x{n} = {n + 1};\n" for n in range(0, 120, 2)) + "-" * 10 + "\n"
+    for greatest, answer in (
+        (120, "block 1: satisfied\naccepted: blocks 1\n"),
+        (119, "block 1: violated: constraint 1 fzn_all_different_int\nrejected: block 1\n"),
+    ):
+        text = "".join(f"var 1..{greatest}: {name};\n" for name in names)
+        text += f"constraint fzn_all_different_int([{','.join(names)}]);\nsolve satisfy;\n"
+        yield "fzcheck check --complete TEXT STREAM", text, stream, answer
+
+
 def readable(out):
     """What CALLS prints, with byte ranges and ranges as `A..B`, and names as they are written."""
     out = re.sub(r"(?:Span|Range) \{ (?:start|lo): (-?\d+), (?:end|hi): (-?\d+) \}", r"\1..\2", out)
@@ -107,6 +121,8 @@ def cases():
                 yield name, (command, want, "", want)  # what is shown is shown as itself
     for case in sets():
         yield "sets", case
+    for case in many():
+        yield "many", case
 
 
 def main():

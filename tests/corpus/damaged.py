@@ -11,6 +11,7 @@ satisfied that none extends. Where it would take a power that isn't known, a blo
 undecided. Prints how many of the blocks that nothing extends are violated, and ends with
 'N passed, M failed'; the files of a wrong verdict are kept."""
 import itertools
+import math
 import os
 import random
 import subprocess
@@ -50,9 +51,9 @@ class Small:
         self.kinds = [rand.choice(kinds) for _ in range(rand.randint(4, 8))]
         self.domains = [rand.choice(DOMAINS[kind]) for kind in self.kinds]
         self.solution = slow.Values(enumerate(map(rand.choice, self.domains)))
-        self.constraints = []
+        self.constraints, self.goal = [], "satisfy"
         for _ in range(rand.randint(3, 7)):
-            self.add(rand.choice(CORE if rand.random() < 0.6 else NAMES))
+            self.add()
 
     def term(self, kind, fixed):
         own = [n for n, k in enumerate(self.kinds) if k == kind]
@@ -65,8 +66,9 @@ class Small:
             return [self.term(kind[1], fixed) for _ in range(length)]
         return self.term(kind, fixed)
 
-    def add(self, name):
-        """Adds a constraint of the name that the solution satisfies, where one is soon found."""
+    def add(self):
+        """Adds a constraint that the solution satisfies, where one of its name is soon found."""
+        name = self.rand.choice(CORE if self.rand.random() < 0.6 else NAMES)
         row = slow.Row(name)
         lists = [place for place, kind in enumerate(row.kinds) if kind.startswith("[")]
         for _ in range(300):
@@ -84,13 +86,14 @@ class Small:
                 return
 
     def text(self):
-        lines = []
-        for number, (kind, domain) in enumerate(zip(self.kinds, self.domains)):
-            lines.append(f"var {domain_text(domain, kind)}: x{number};")
+        lines = [f"var {self.type_text(number)}: x{number};" for number in range(len(self.kinds))]
         for name, row, args in self.constraints:
             words = ",".join(map(argument_text, args))
             lines.append(f"constraint {name}({words}){self.note(row, args)};")
-        return "\n".join(lines) + "\nsolve satisfy;\n"
+        return "\n".join([*lines, f"solve {self.goal};\n"])
+
+    def type_text(self, number):
+        return domain_text(self.domains[number], self.kinds[number])
 
     def note(self, row, args):
         """Half of the results are defined."""
@@ -103,22 +106,39 @@ class Small:
         """The verdict that is right beside `undecided`: `satisfied` where some values of the other
         variables make a solution, `violated` where none do, and neither where that rests on what
         isn't known. None where there are too many to try."""
-        missing = [n for n in range(len(self.kinds)) if n not in values]
-        size = 1
-        for number in missing:
-            size *= len(self.domains[number])
-        if size > MOST_TRIED:
+        if self.size(n for n in range(len(self.kinds)) if n not in values) > MOST_TRIED:
             return None
         if any(values[n] not in self.domains[n] for n in values):
             return "violated"
         right = "violated"
-        for chosen in itertools.product(*(self.domains[n] for n in missing)):
-            whole = slow.Values({**values, **dict(zip(missing, chosen))})
-            if all(holds(row, args, whole) for _, row, args in self.constraints):
+        for whole in self.extensions(slow.Values(values)):
+            if self.is_solution(whole):
                 return "satisfied"
-            if all(holds(row, args, whole, True) for _, row, args in self.constraints):
-                right = "undecided"
+            right = "undecided"
         return right
+
+    def size(self, numbers):
+        return math.prod(len(self.domains[n]) for n in numbers)
+
+    def is_solution(self, values):
+        return all(holds(row, args, values) for _, row, args in self.constraints)
+
+    def extensions(self, values):
+        """The values of all variables, these among them, that satisfy each constraint that is
+        known."""
+        found = [values]
+        for number in range(len(self.kinds)):
+            found = self.extended(found, number)
+        return found
+
+    def extended(self, found, number):
+        """Those of the next variable too. A constraint is tried at the last of its variables."""
+        due = [(row, args) for _, row, args in self.constraints if last_variable(args) == number]
+        for values in found:
+            for value in [values[number]] if number in values else self.domains[number]:
+                whole = slow.Values({**values, number: value})
+                if all(holds(row, args, whole, True) for row, args in due):
+                    yield whole
 
 
 def holds(row, args, values, unknown=False):
@@ -129,6 +149,11 @@ def holds(row, args, values, unknown=False):
         return unknown
     except OverflowError:
         return False
+
+
+def last_variable(args):
+    terms = [t for a in args for t in (a if isinstance(a, list) else [a])]
+    return max((what for sort, what in terms if sort == "var"), default=0)
 
 
 def value_text(value):
@@ -168,22 +193,30 @@ def damaged(model, printed, rand):
     return {**printed, number: rand.choice(others)}
 
 
-def write(folder, model, blocks):
+def write(folder, *texts):
     """The paths of the model and the stream."""
     paths = [os.path.join(folder, name) for name in ("model.fzn", "stream.txt")]
-    for path, text in zip(paths, (model.text(), "".join(map(block_text, blocks)))):
+    for path, text in zip(paths, texts):
         with open(path, "w") as f:
             f.write(text)
     return paths
 
 
+def report(program, folder, options, *texts):
+    """What the program writes of a model and a stream."""
+    words = [program, "check", *options, *write(folder, *texts)]
+    try:
+        ran = subprocess.run(words, capture_output=True, text=True, timeout=MOST_SECONDS)
+    except subprocess.TimeoutExpired:
+        return f"more than {MOST_SECONDS} seconds"
+    return ran.stdout + ran.stderr
+
+
 def verdicts(program, folder, model, blocks):
     """The verdict on each block of a stream, or what the program writes where that is not one."""
-    paths = write(folder, model, blocks)
-    words = [program, "check", "--complete", *paths]
-    ran = subprocess.run(words, capture_output=True, text=True, timeout=MOST_SECONDS)
-    told = [line.split(": ")[1] for line in ran.stdout.splitlines() if line.startswith("block ")]
-    return told if len(told) == len(blocks) else [ran.stdout + ran.stderr] * len(blocks)
+    told = report(program, folder, ["--complete"], model, "".join(map(block_text, blocks)))
+    words = [line.split(": ")[1] for line in told.splitlines() if line.startswith("block ")]
+    return words if len(words) == len(blocks) else [told] * len(blocks)
 
 
 def main():
@@ -199,7 +232,8 @@ def main():
             if not printed:
                 continue
             blocks = [damaged(model, printed, rand) for _ in range(DAMAGED)]
-            for block, told in zip(blocks, verdicts(program, folder, model, blocks)):
+            text = model.text()
+            for block, told in zip(blocks, verdicts(program, folder, text, blocks)):
                 right = model.right_verdict(block)
                 if right is None:
                     continue
@@ -210,7 +244,7 @@ def main():
                 else:
                     failed += 1
                     kept = tempfile.mkdtemp(prefix=f"damaged-{seed}-{number}-")
-                    write(kept, model, [block])
+                    write(kept, text, block_text(block))
                     print(f"{kept}: {told}, and it should be {right} or undecided")
     print(f"{refuted} of {without} blocks that nothing extends are violated")
     print(f"{passed} passed, {failed} failed")

@@ -29,7 +29,7 @@ in_domain m A k (ConstraintPoint j p) solution at = tt
 
 -- ---- bounds of which nothing is known
 
-none_there : (xs : List Variable) (n : ℕ) → value_at (map (λ x. None) xs) n ≡ None
+pub none_there : (xs : List Variable) (n : ℕ) → value_at (map (λ x. None) xs) n ≡ None
 none_there [] n = refl
 none_there (x ∷ xs) zero = refl
 none_there (x ∷ xs) (suc n) = none_there xs n

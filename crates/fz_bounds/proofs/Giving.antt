@@ -25,6 +25,11 @@ given_back [] n v w e = refl
 given_back (o ∷ K) zero v w e = ap (λ p. p ∷ K) (sym e)
 given_back (o ∷ K) (suc n) v w e = ap (λ L. o ∷ L) (given_back K n v w e)
 
+pub given_twice : (K : Partial) (n : ℕ) (v w : Value) → give (give K n v) n w ≡ give K n w
+given_twice [] n v w = refl
+given_twice (o ∷ K) zero v w = refl
+given_twice (o ∷ K) (suc n) v w = ap (λ L. o ∷ L) (given_twice K n v w)
+
 pub given_there : (K : Partial) (n : ℕ) (v w : Value) → value_at K n ≡ Some w
     → value_at (give K n v) n ≡ Some v
 given_there [] n v w e = cc

@@ -10,7 +10,7 @@ use Rattle.fz_model.specs.declared.Kind.TheVariants.{Int as IntKind, Bool as Boo
 use Rattle.fz_model.specs.Meaning.{Assignment, Model, Point, inside as is_within, points, value_at, whole}
 use Rattle.fz_model.specs.States.{HoldsIfKnown}
 use Rattle.fz_model.specs.declared.Domain.{Domain}
-use Rattle.fz_model.specs.Relations.{kind_of, same_kind}
+use Rattle.fz_model.specs.Relations.{kind_of}
 use Rattle.fz_model.proofs.Steps.{some_of}
 use Rattle.fz_model.proofs.Values.{no}
 use Rattle.fz_bounds.proofs.Giving.{given_back}
@@ -65,14 +65,6 @@ module _ (B : Ranges) (n : ℕ) (e : KindEnds) (at : AreEndsAt B n e) where
       (subst (λ j. is_at_most (number_as k h) (number_as j e.high) ≡ true) same (numbers_in_order k h e.high high))
       (subst (λ D. IsInside D A) c inside)
 
-  -- bounds of the same variable among others
-  pub as_inside : (D C : Ranges) (A : Assignment) (k : Kind) (l h : ℤ)
-      → C ≡ narrowed D n (number_as k l) (number_as k h) → k ≡ e.kind → l ≡ e.low → h ≡ e.high
-      → IsInside B A → IsInside D A → IsInside C A
-  as_inside D C A k l h c same low high inside there =
-      let (a, is, from, to) = value_between A inside in
-      still_inside D C A n k a l h c (is ∙ ap (λ j. Some (number_as j a)) (sym same)) (omega (arith, ints)) (omega (arith, ints)) there
-
   -- the bounds are put back
   pub restored : (C D : Ranges) (v w : Value) (k : Kind) (l h : ℤ) → C ≡ narrowed B n v w
       → D ≡ narrowed C n (number_as k l) (number_as k h) → k ≡ e.kind → l ≡ e.low → h ≡ e.high
@@ -85,40 +77,6 @@ module _ (B : Ranges) (n : ℕ) (e : KindEnds) (at : AreEndsAt B n e) where
         lowest = given_back B.lowest n v (number_as k l) low_is i;
         highest = given_back B.highest n w (number_as k h) high_is i;
       })
-
-  -- an end that nothing has
-  module _ (A : Assignment) (k : Kind) (same : k ≡ e.kind) (number : ℤ) (nowhere : IsInside (narrowed B n (number_as k number) (number_as k number)) A → ⊥) (inside : IsInside B A) where
-    differs : (a : ℤ) → value_at (whole A) n ≡ Some (number_as k a) → a ≡ number → ⊥
-    differs a is equal =
-        nowhere (still_inside B (narrowed B n (number_as k number) (number_as k number)) A n k a number number refl is (omega (arith, ints)) (omega (arith, ints)) inside)
-
-    above_end : (a : ℤ) → number ≤ℤ a → (a ≡ number → ⊥) → (number +ℤ pos 1) ≤ℤ a
-    above_end a h f = elim (apart number a) [
-      | inl less ↦ omega (arith, ints)
-      | inr more ↦ absurd (f (omega (arith, ints)))
-    ]
-
-    below_end : (a : ℤ) → a ≤ℤ number → (a ≡ number → ⊥) → a ≤ℤ (number -ℤ pos 1)
-    below_end a h f = elim (apart a number) [
-      | inl less ↦ omega (arith, ints)
-      | inr more ↦ absurd (f (omega (arith, ints)))
-    ]
-
-    pub without_low : (C : Ranges) (l h : ℤ) → C ≡ narrowed B n (number_as k l) (number_as k h)
-        → number ≡ e.low → l ≡ (number +ℤ pos 1) → h ≡ e.high → IsInside C A
-    without_low C l h c is_low low high =
-        let (a, is, from, to) = value_between A inside in
-        let value : value_at (whole A) n ≡ Some (number_as k a) = is ∙ ap (λ j. Some (number_as j a)) (sym same) in
-        let more : (number +ℤ pos 1) ≤ℤ a = above_end a (omega (arith, ints)) (differs a value) in
-        still_inside B C A n k a l h c value (omega (arith, ints)) (omega (arith, ints)) inside
-
-    pub without_high : (C : Ranges) (l h : ℤ) → C ≡ narrowed B n (number_as k l) (number_as k h)
-        → number ≡ e.high → l ≡ e.low → h ≡ (number -ℤ pos 1) → IsInside C A
-    without_high C l h c is_high low high =
-        let (a, is, from, to) = value_between A inside in
-        let value : value_at (whole A) n ≡ Some (number_as k a) = is ∙ ap (λ j. Some (number_as j a)) (sym same) in
-        let less : a ≤ℤ (number -ℤ pos 1) = below_end a (omega (arith, ints)) (differs a value) in
-        still_inside B C A n k a l h c value (omega (arith, ints)) (omega (arith, ints)) inside
 
 -- ---- what a point excludes
 
@@ -195,12 +153,6 @@ pub left_inside : (m : Model) (k : ℕ) (B C : Ranges) (n : ℕ) (e : KindEnds) 
 left_inside m k B C n e low high l h at below above c least most p here A inside holds =
     let (a, is, from, to) = left_between m k B n e low high at below above p here A inside holds in
     still_inside B C A n e.kind a l h c is (subst (λ z. z ≤ℤ a) (sym least) from) (subst (λ z. a ≤ℤ z) (sym most) to) inside
-
-pub kinds_same : (j k : Kind) → same_kind j k ≡ true → j ≡ k
-kinds_same IntKind IntKind e = refl
-kinds_same BoolKind BoolKind e = refl
-kinds_same SetKind SetKind e = refl
-kinds_same _ _ e = no e
 
 pub if_ok : {T E : Type 0} (r : Result T E) (P Q : T → Type 0) → ((x : T) → P x → Q x) → IfOk r P
     → IfOk r Q

@@ -84,21 +84,6 @@ impl Bounds {
         })
     }
 
-    /// Bounds of their own that are no narrower.
-    ///
-    /// # Errors
-    ///
-    /// Out of memory.
-    pub fn copy(&self, alloc: Global, model: &Model<'_>) -> Result<Bounds, AllocError>
-        ensures inside { IfOk result (λ b. (A : Assignment) → IsInside self.now A → IsInside b A) }
-    {
-        let mut bounds = Bounds::unknown(alloc, model)?;
-        for number in 0..model.variables().len() {
-            bounds.bound_as(alloc, self, number)?;
-        }
-        Ok(bounds)
-    }
-
     /// Gives a variable the bounds of its domain, where a point is that and it has some.
     fn bound(&mut self, point: &PointParts<'_, '_>)
         ensures { (A : Assignment) → IsInside self.old A → IsInDomain A (point_view point.now)
@@ -118,38 +103,11 @@ impl Bounds {
             → HasEach values.now (whole A) → IsInside self.new A) }
     {
         if let Some(value) = values.get(number) {
-            self.fix(alloc, number, value)?;
+            let low = value.copy(alloc)?;
+            let high = value.copy(alloc)?;
+            let only = value.copy(alloc)?;
+            self.write(number, low, high, Some(only));
         }
-        Ok(())
-    }
-
-    /// Gives a variable the bounds that it has among others.
-    fn bound_as(&mut self, alloc: Global, others: &Bounds, number: usize) -> Result<(), AllocError>
-        ensures { IfOk result (λ _. (A : Assignment) → IsInside self.old A → IsInside others.now A
-            → IsInside self.new A) }
-    {
-        if let Some(value) = others.fixed.get(number) {
-            self.fix(alloc, number, value)?;
-            return Ok(());
-        }
-        if let Some(ends) = others.ends(number) {
-            self.narrow(number, ends.kind, ends.low, ends.high);
-        }
-        Ok(())
-    }
-
-    /// Gives a variable a value.
-    ///
-    /// # Errors
-    ///
-    /// Out of memory.
-    pub fn fix(&mut self, alloc: Global, number: usize, value: &Value) -> Result<(), AllocError>
-        ensures { IfOk result (λ _. self.new ≡ narrowed self.old number value.now value.now) }
-    {
-        let low = value.copy(alloc)?;
-        let high = value.copy(alloc)?;
-        let only = value.copy(alloc)?;
-        self.write(number, low, high, Some(only));
         Ok(())
     }
 

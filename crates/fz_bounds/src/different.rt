@@ -11,6 +11,18 @@ ghost use Rattle.fz_bounds.specs.Within.{NumbersLie, given};
 use crate::bounded::BoundedConstraint;
 use crate::outlook::Outlook;
 
+/// Numbers that differ by less are told apart by what was seen.
+const APART: usize = 1024;
+
+/// Notes that a number is seen, and tells whether it may have been seen before.
+fn was_seen(seen: &mut [bool; APART], number: i64) -> bool {
+    let place = usize::try_from(number.rem_euclid(1024)).unwrap_or(0);
+    match seen.get_mut(place) {
+        Some(mark) => std::mem::replace(mark, true),
+        None => true,
+    }
+}
+
 impl<'s, 'a> BoundedConstraint<'s, 'a> {
     /// Whether an element before a place can only be this number.
     fn stands_before(&self, place: usize, number: i64) -> bool
@@ -53,9 +65,10 @@ impl<'s, 'a> BoundedConstraint<'s, 'a> {
         if self.are_crowded() {
             return Outlook::Never;
         }
+        let mut seen = [false; APART];
         for place in 0..self.count(0) {
             if let Some(number) = self.only_at(0, place) {
-                if self.stands_before(place, number) {
+                if was_seen(&mut seen, number) && self.stands_before(place, number) {
                     return Outlook::Never;
                 }
             }

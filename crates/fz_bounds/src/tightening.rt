@@ -1,27 +1,25 @@
 //! Narrower bounds of a variable, where a point shows them.
 
-ghost use Rattle.std.specs.Prelude.{◌≡◌, ◌<◌, pos, ◌+ℤ◌, ◌-ℤ◌, IfOk, IsTrue, OnErr, Some, length, slice_get};
+ghost use Rattle.std.specs.Prelude.{◌≡◌, ◌<◌, pos, ◌+ℤ◌, ◌-ℤ◌, IfOk, IsTrue, OnErr, length};
 ghost use Rattle.std.specs.Int.{int_max, int_min};
-ghost use Rattle.fz_model.specs.Meaning.{Assignment, Point, points, whole};
-ghost use Rattle.fz_model.specs.States.{HoldsIfKnown};
-ghost use Rattle.fz_bounds.specs.Bounds.{IsInside, NumberNeverHolds, narrowed, number_as};
-ghost use Rattle.fz_bounds.specs.Ends.{AreEndsAt, Excludes};
-ghost use Rattle.fz_bounds.specs.declared.tightening.Tightened.TheVariants.{Empty, Unshown};
+ghost use Rattle.fz_model.specs.Meaning.{Assignment, points};
+ghost use Rattle.fz_bounds.specs.Bounds.{IsInside};
+ghost use Rattle.fz_bounds.specs.Ends.{AreEndsAt, Excludes, IsTightened};
 
 use crate::bounds::Bounds;
 use crate::ends::KindEnds;
 use crate::refuting::cannot_hold;
-use fz_store::{Kind, Model, same_kind};
+use fz_store::Model;
 use std::alloc::{AllocError, Global};
 
 /// So many numbers of a variable are tried one by one.
 const TRIED: i64 = 1_000;
 
 /// What a point takes from the bounds of a variable.
-#[derive(Clone, Copy, PartialEq, Eq)]
+#[derive(Clone, Copy)]
 pub enum Tightened {
-    /// The bounds are as narrow as was asked.
-    Narrowed,
+    /// The bounds are as narrow as was asked, and were these.
+    Narrowed(KindEnds),
     /// They would have no number: the point holds nowhere inside the bounds.
     Empty,
     /// The point doesn't show it. The bounds stay as they were.
@@ -55,13 +53,8 @@ impl Bounds {
         high: i64,
     ) -> Result<Tightened, AllocError>
         requires in_range { point < length (points model.now) }
-        ensures kept { IfOk result (λ t. (p : Point) → slice_get (points model.now) point ≡ Some p
-            → (A : Assignment) → IsInside self.old A → HoldsIfKnown (whole A) p
-            → IsInside self.new A) }
+        ensures told { IfOk result (IsTightened model.now point variable self.old self.new) }
         ensures within { (A : Assignment) → IsInside self.new A → IsInside self.old A }
-        ensures empty { IfOk result (λ t. t ≡ Empty
-            → NumberNeverHolds model.now point self.old) }
-        ensures unshown { IfOk result (λ t. t ≡ Unshown → self.new ≡ self.old) }
         ensures unchanged { OnErr result (self.new ≡ self.old) }
     {
         let Some(ends) = self.ends(variable) else {
@@ -85,33 +78,7 @@ impl Bounds {
             return Ok(Tightened::Empty);
         }
         self.narrow(variable, ends.kind, least, most);
-        Ok(Tightened::Narrowed)
-    }
-
-    /// Drops the least or the greatest number of a variable's bounds, where it is this one and
-    /// others are left, and tells whether it did. The caller knows that nothing it looks for gives
-    /// the variable that number. It takes no memory.
-    pub fn take(&mut self, variable: usize, kind: Kind, number: i64) -> bool
-        ensures kept { (A : Assignment) → IsInside self.old A
-            → (IsInside (narrowed self.old variable (number_as kind number)
-            (number_as kind number)) A → ⊥) → IsInside self.new A }
-        ensures within { (A : Assignment) → IsInside self.new A → IsInside self.old A }
-    {
-        let Some(ends) = self.ends(variable) else {
-            return false;
-        };
-        if !same_kind(kind, ends.kind) || ends.low >= ends.high {
-            return false;
-        }
-        if number == ends.low {
-            self.narrow(variable, kind, number + 1, ends.high);
-            return true;
-        }
-        if number == ends.high {
-            self.narrow(variable, kind, ends.low, number - 1);
-            return true;
-        }
-        false
+        Ok(Tightened::Narrowed(ends))
     }
 
     /// Whether the point cannot hold with a number within the bounds that is below `low`.

@@ -6,11 +6,10 @@ use Rattle.fz_judge.specs.of_model.Meaning.{Model}
 use Rattle.fz_judge.specs.of_stream.declared.block.Block as the_block
 use Rattle.fz_judge.specs.of_stream.declared.reading.Claim.{Claim}
 use Rattle.fz_judge.specs.of_stream.Found.{EndsWithin, HasPlaces, IsReadAs, block_of}
-use Rattle.fz_judge.specs.of_stream.Parts.{blocks_in}
+use Rattle.fz_judge.specs.of_stream.Parts.{StreamPart, BlockPart, ClaimPart, blocks_in}
 use Rattle.fz_judge.specs.of_filling.BlockFaults.{AllFit}
-use Rattle.fz_judge.specs.of_filling.declared.completion.Completion.{Completion}
 use Rattle.fz_judge.specs.of_filling.declared.completion.Completion.TheVariants.{Off}
-use Rattle.fz_judge.specs.of_filling.Verdict.{Answer}
+use Rattle.fz_judge.specs.of_filling.Verdict.{Answer, answer_of}
 use Rattle.fz_judge.specs.of_syntax.View.{bare_items}
 use Rattle.fz_judge.specs.of_filling.Judged.{IsBlockRefusal}
 use Rattle.fz_judge.specs.of_filling.View.{verdict_view}
@@ -20,27 +19,58 @@ use Rattle.fz_check.specs.declared.claims.Claims.TheVariants.{NotJudged}
 use Rattle.fz_check.specs.declared.error.CheckError.{CheckError}
 use Rattle.fz_check.specs.declared.error.CheckError.TheVariants as errors
 use Rattle.fz_check.specs.declared.jury.Jury.{Jury}
+use Rattle.fz_check.specs.declared.options.Options.{Options}
 use Rattle.fz_check.specs.Claims.{AreOutcomes, IsReportWith, Outcome, account, behind_block, no_account, standard_options, verdicts_of}
-use Rattle.fz_check.specs.Claims.Entry.{BlockEntry}
+use Rattle.fz_check.specs.Claims.Outcome.{OfBlock, OfClaim}
 use Rattle.fz_check.specs.Report.{in_order}
 use Rattle.fz_check.specs.Telling.{HasJudged, IsJudgingRefusal, IsUnjudged, JudgesOneMore, last_outcome}
-use Rattle.fz_check.proofs.ClaimLemmas.{account_append, all_outcomes, answer_of_account, answer_unjudged, have_each, told_unjudged}
+use Rattle.fz_check.proofs.ClaimLemmas.{account_append, all_outcomes, answer_is_told, answer_of_account, answer_unjudged, told_unjudged, verdicts_append}
 use Rattle.fz_check.proofs.JuryLemmas.{first_state, judged_more, judged_none}
 
+-- blocks that were read, as parts
+abbrev parts_of : List the_block.Block → List StreamPart
+parts_of bs = map BlockPart (map block_of bs)
+
 -- a block with an outcome fits the model
-all_fit : (c : Completion) (m : Model) (filled found : Option ℤ) (bs : List the_block.Block)
-    (os : List Outcome) → AreOutcomes c m filled found (map block_of bs) os
+all_fit : (o : Options) (m : Model) (filled found : Option ℤ) (bs : List the_block.Block)
+    (os : List Outcome) → AreOutcomes o m filled found (parts_of bs) os
     → AllByRecursion (λ (b : the_block.Block). AllFit m (bare_items b.items.items)) bs
-all_fit c m filled found [] os h = tt
-all_fit c m filled found (b ∷ bs) [] h = absurd h
-all_fit c m filled found (b ∷ bs) (o ∷ os) h =
-    (h.0.is_filled.fits, all_fit c m o.filled o.found bs os h.1)
+all_fit o m filled found [] os h = tt
+all_fit o m filled found (b ∷ bs) [] h = absurd h
+all_fit o m filled found (b ∷ bs) (OfClaim kind shown ∷ os) h = absurd h
+all_fit o m filled found (b ∷ bs) (OfBlock k ∷ os) h =
+    (h.0.is_filled.fits, all_fit o m k.filled k.found bs os h.1)
+
+-- the outcomes of blocks, and none that shows a claim, as outcomes of all parts
+abbrev with_claims : List StreamPart → List Outcome → List Outcome
+with_claims [] os = os
+with_claims (ClaimPart kind ∷ ps) os = OfClaim kind None ∷ with_claims ps os
+with_claims (BlockPart block ∷ ps) [] = []
+with_claims (BlockPart block ∷ ps) (o ∷ os) = o ∷ with_claims ps os
+
+-- The parts have outcomes with these verdicts.
+abbrev HaveAlso : Options → Model → Option ℤ → Option ℤ → List StreamPart → List Outcome → Type 0
+HaveAlso o m filled found ps os = AreOutcomes o m filled found ps (with_claims ps os)
+    × (verdicts_of (with_claims ps os) ≡ verdicts_of os)
+
+have_also : (o : Options) (m : Model) (filled found : Option ℤ) (ps : List StreamPart)
+    (os : List Outcome) → AreOutcomes o m filled found (map BlockPart (blocks_in ps)) os
+    → HaveAlso o m filled found ps os
+have_also o m filled found [] [] are = (tt, refl)
+have_also o m filled found [] (k ∷ os) are = absurd are
+have_also o m filled found (ClaimPart kind ∷ ps) os are =
+    let (rest, same) = have_also o m filled found ps os are in ((refl, tt, rest), same)
+have_also o m filled found (BlockPart block ∷ ps) [] are = absurd are
+have_also o m filled found (BlockPart block ∷ ps) (OfClaim kind shown ∷ os) are = absurd are
+have_also o m filled found (BlockPart block ∷ ps) (OfBlock b ∷ os) (is, are) =
+    let (rest, same) = have_also o m b.filled b.found ps os are in
+    ((is, rest), ap (λ vs. b.verdict ∷ vs) same)
 
 -- So many blocks were judged, with these verdicts, and no claim was heard of.
 pub record JudgedSoFar (m : Model) (blocks : List the_block.Block) (i : ℕ) (j : Jury) (verdicts : List the_verdict.Verdict) : Type 0 where
   pub outcomes : List Outcome
-  pub judged : HasJudged Off m j.judge (map block_of (take i blocks)) outcomes
-  pub account_is : j.account ≡ account m.aim NotJudged no_account (map BlockEntry outcomes)
+  pub judged : HasJudged standard_options m j.judge (parts_of (take i blocks)) outcomes
+  pub account_is : j.account ≡ account m.aim NotJudged no_account outcomes
   pub counted : j.account.blocks ≡ i
   pub verdicts_are : map verdict_view verdicts ≡ verdicts_of outcomes
 
@@ -49,7 +79,7 @@ pub judged_first : (m : Model) (blocks : List the_block.Block) (j : Jury) (verdi
     → JudgedSoFar m blocks 0 j verdicts
 judged_first m blocks j verdicts judge account none = record {
   outcomes = [];
-  judged = judged_none Off m j.judge judge;
+  judged = judged_none standard_options m j.judge judge;
   account_is = account;
   counted = ap (λ (a : Account). a.blocks) account;
   verdicts_are = ap (map verdict_view) none;
@@ -69,18 +99,18 @@ module _ (m : Model) (blocks : List the_block.Block) (i : ℕ) (j : Jury) (verdi
     judged_next j' v more one pushed =
         let out = last_outcome j'.judge (verdict_view v) in
         let aim = ap (λ (n : Model). n.aim) h.judged.same_model in
-        let account_next : j'.account ≡ behind_block m.aim (account m.aim NotJudged no_account (map BlockEntry h.outcomes)) out.verdict out.filled out.found =
+        let account_next : j'.account ≡ behind_block m.aim (account m.aim NotJudged no_account h.outcomes) out.verdict out.filled out.found =
         one.account_is ∙ (λ k. behind_block (aim k) (h.account_is k) out.verdict out.filled out.found) in
-        let blocks_next = ap (map block_of) front ∙ map-append block_of (take i blocks) (b ∷ []) in
+        let parts_next = ap parts_of front ∙ ap (map BlockPart) (map-append block_of (take i blocks) (b ∷ []))
+        ∙ map-append BlockPart (map block_of (take i blocks)) (block_of b ∷ []) in
         record {
-          outcomes = h.outcomes ++ out ∷ [];
-          judged = subst (λ bs. HasJudged Off m j'.judge bs (h.outcomes ++ out ∷ [])) (sym blocks_next)
-              (judged_more Off m j j' (map block_of (take i blocks)) h.outcomes (block_of b) (verdict_view v) one h.judged);
-          account_is = account_next ∙ sym (ap (account m.aim NotJudged no_account) (map-append BlockEntry h.outcomes (out ∷ []))
-              ∙ account_append m.aim NotJudged no_account (map BlockEntry h.outcomes) (BlockEntry out ∷ []));
+          outcomes = h.outcomes ++ OfBlock out ∷ [];
+          judged = subst (λ ps. HasJudged standard_options m j'.judge ps (h.outcomes ++ OfBlock out ∷ [])) (sym parts_next)
+              (judged_more standard_options m j j' (parts_of (take i blocks)) h.outcomes (block_of b) (verdict_view v) one h.judged);
+          account_is = account_next ∙ sym (account_append m.aim NotJudged no_account h.outcomes (OfBlock out ∷ []));
           counted = ap (λ (a : Account). a.blocks) one.account_is ∙ ap (λ n. n + 1) h.counted;
           verdicts_are = ap (map verdict_view) pushed ∙ map-append verdict_view verdicts (v ∷ []) ∙ ap (λ l. l ++ verdict_view v ∷ []) h.verdicts_are
-              ∙ sym (map-append (λ (o : Outcome). o.verdict) h.outcomes (out ∷ []));
+              ∙ sym (verdicts_append h.outcomes (OfBlock out ∷ []));
         }
 
     -- the block is refused
@@ -92,7 +122,7 @@ module _ (m : Model) (blocks : List the_block.Block) (i : ℕ) (j : Jury) (verdi
       after = drop (i + 1) blocks;
       blocks_are = sym (take-append-drop i blocks) ∙ ap (λ l. take i blocks ++ l) back;
       numbered = omega (arith, u.0, h.counted, length-take i blocks, lt);
-      none_before = all_fit Off m None None (take i blocks) h.outcomes (all_outcomes Off m (map block_of (take i blocks)) h.outcomes j.judge.before j.judge.found h.judged.goes_on);
+      none_before = all_fit standard_options m None None (take i blocks) h.outcomes (all_outcomes standard_options m (parts_of (take i blocks)) h.outcomes j.judge.before j.judge.found h.judged.goes_on);
       tells = subst (λ n. IsBlockRefusal n b e) h.judged.same_model (u.2 places within);
       not_memory = u.1;
     }
@@ -104,16 +134,21 @@ module _ (m : Model) (blocks : List the_block.Block) (i : ℕ) (j : Jury) (verdi
       → (claims : List Claim) → (bytes : List ℕ) → IsReadAs bytes (map block_of blocks) claims
       → IsReportWith standard_options m bytes (in_order 0 (map verdict_view verdicts) claims) answer
   judged_all answer end is claims bytes read =
-      let all : map block_of (take i blocks) ≡ blocks_in read.parts = ap (map block_of) (take_all i blocks end) ∙ read.blocks_are in
-      let judged : HasJudged Off m j.judge (blocks_in read.parts) h.outcomes = subst (λ bs. HasJudged Off m j.judge bs h.outcomes) all h.judged in
-      let have = all_outcomes Off m (blocks_in read.parts) h.outcomes j.judge.before j.judge.found judged.goes_on in
+      let all : parts_of (take i blocks) ≡ map BlockPart (blocks_in read.parts) =
+      ap parts_of (take_all i blocks end) ∙ ap (map BlockPart) read.blocks_are in
+      let have = subst (λ ps. AreOutcomes standard_options m None None ps h.outcomes) all
+      (all_outcomes standard_options m (parts_of (take i blocks)) h.outcomes j.judge.before j.judge.found h.judged.goes_on) in
+      let (also, same) = have_also standard_options m None None read.parts h.outcomes have in
+      let outcomes = with_claims read.parts h.outcomes in
       record {
         parts = read.parts;
         text_of_stream = read.text;
-        outcomes = h.outcomes;
-        have_outcomes = have;
-        answer_is = is ∙ ap answer_of_account h.account_is ∙ answer_unjudged m h.outcomes read.parts;
-        events_are = (λ k. in_order 0 (h.verdicts_are k) (read.claims_are k)) ∙ sym (told_unjudged m.aim no_account h.outcomes read.parts refl (have_each Off m None None (blocks_in read.parts) h.outcomes have));
+        outcomes = outcomes;
+        have_outcomes = also;
+        answer_is = is ∙ ap answer_of_account h.account_is ∙ answer_is_told m NotJudged h.outcomes
+            ∙ answer_unjudged m h.outcomes ∙ ap answer_of (sym same) ∙ sym (answer_unjudged m outcomes);
+        events_are = (λ k. in_order 0 ((h.verdicts_are ∙ sym same) k) (read.claims_are k))
+            ∙ sym (told_unjudged standard_options m no_account None None read.parts outcomes refl refl also);
       }
 
 -- what holds of each block holds of the one at a place

@@ -1,23 +1,22 @@
 -- What is told of claims as the parts of a stream come, one more at the end; and what is told as
--- refuted is false.
-use Rattle.std.proofs.Common.{◌≡◌, ℕ, suc, ◌+◌, ℤ, Bool, true, false, cond, nat_le, List, [], ◌∷◌, ◌++◌, length, map, Option, Some, None, option_map, refl, sym, ap, ◌∙◌, subst, subst₂, append_assoc, append-nil, add-zero, arith}
-use Rattle.std.proofs.lemmas.List.{length-map}
-use Rattle.std.specs.Prelude.{IfSome, ⊤, ◌≤◌}
+-- refuted is false, and what is told as proved true.
+use Rattle.std.proofs.Common.{◌≡◌, ℕ, suc, ◌+◌, ℤ, Bool, true, false, cond, nat_le, List, [], ◌∷◌, ◌++◌, length, Option, Some, None, option_map, refl, sym, ap, ◌∙◌, subst, subst₂, append_assoc, append-nil, add-zero, arith}
+use Rattle.std.specs.Prelude.{IfSome, ◌≤◌}
 use Rattle.std.specs.List.{AllByRecursion}
 use Rattle.std.specs.Option.{option_or}
 use Rattle.fz_judge.specs.of_model.Meaning.{Aim, Model, objective}
-use Rattle.fz_judge.specs.of_stream.declared.line.ClaimKind.{ClaimKind}
 use Rattle.fz_judge.specs.of_stream.declared.reading.Claim.{Claim}
 use Rattle.fz_judge.specs.of_stream.Found.{claims_in}
 use Rattle.fz_judge.specs.of_stream.Parts.{blocks_in, SolutionBlock, StreamPart, BlockPart, ClaimPart}
+use Rattle.fz_judge.specs.of_search.Claims.{is_better}
 use Rattle.fz_judge.specs.of_filling.declared.completion.Completion.{Completion}
 use Rattle.fz_judge.specs.of_filling.declared.completion.Completion.TheVariants.{Off, On}
 use Rattle.fz_judge.specs.of_filling.Judged.{JudgeState, IsJudged}
 use Rattle.fz_judge.specs.of_filling.Verdict.{Answer, Verdict, answer_by, answer_of, first_number, is_undecided, is_violated}
 use Rattle.fz_judge.specs.of_filling.Completed.{AreTold}
 use Rattle.fz_judge.specs.of_filling.Completed.AreTold.{NoneLeft, OneMore}
-use Rattle.fz_judge.specs.of_filling.Verdict.Answer.{Accepted, Rejected, UndecidedAt, NoBlocks, ClaimRejected}
-use Rattle.fz_judge.specs.of_filling.Verdict.Verdict.{Satisfied, Violated, Undecided}
+use Rattle.fz_judge.specs.of_filling.Verdict.Answer.{Accepted, Rejected, ClaimRejected}
+use Rattle.fz_judge.specs.of_filling.Verdict.Verdict.{Satisfied}
 use Rattle.fz_judge.proofs.of_filling.Accepted.{satisfied_solves}
 use Rattle.fz_judge.proofs.of_filling.Completing.{compared, satisfied_under}
 use Rattle.fz_check.specs.declared.claims.Saying.{Saying}
@@ -30,94 +29,73 @@ use Rattle.fz_check.specs.declared.claims.Refuter.TheVariants as refuters
 use Rattle.fz_check.specs.declared.claims.Known.{Known}
 use Rattle.fz_check.specs.declared.claims.Claims.{Claims}
 use Rattle.fz_check.specs.declared.claims.Claims.TheVariants.{NotJudged, Judged as ClaimsJudged}
+use Rattle.fz_check.specs.declared.claims.Proofs.TheVariants as proving
 use Rattle.fz_check.specs.declared.account.Account.{Account}
-use Rattle.fz_check.specs.Claims.{Entry, IsFalse, Outcome, HasSolutionWith, IsOutcome, IsSolvedWith, AreOutcomes, Knows, KnowsOf, IsTrueOf, account, answer_told, answer_with, behind, behind_block, behind_claim, best_refuter, better_of, best_with, claim_event, entries, entry_told, first_of, is_better, is_satisfied, known_refuter, known_with, late_earliest, late_events, late_refuted, late_waiting, no_account, own_refuter, refuter, refutes, saying, statement, told, verdicts_of}
-use Rattle.fz_check.specs.Claims.Entry.{BlockEntry, ClaimEntry}
+use Rattle.fz_check.specs.declared.options.Options.{Options}
+use Rattle.fz_check.specs.Claims.{IsFalse, IsShown, IsTrueClaim, Outcome, HasSolutionWith, HaveOutcomes, IsOutcome, IsSolvedWith, AreOutcomes, Knows, KnowsOf, IsTrueOf, account, answer_told, answer_with, behind, behind_block, behind_claim, best_refuter, better_of, best_with, claim_event, first_of, is_satisfied, known_refuter, known_with, late_earliest, late_events, late_refuted, late_waiting, no_account, outcome_told, own_refuter, refuter, refutes, saying, statement, told, verdicts_of}
+use Rattle.fz_check.specs.Claims.Outcome.{OfBlock, OfClaim}
 use Rattle.fz_check.specs.Telling.{OutcomesGoOn}
 use Rattle.fz_check.proofs.EventLemmas.{comes_by, comes_later}
-use Rattle.fz_check.specs.Report.{Event, claims_by, claims_past, in_order}
-use Rattle.fz_check.specs.Report.Event.{Judged, Claimed}
+use Rattle.fz_check.specs.Report.{Event, claimed, claims_by, claims_past, in_order}
+use Rattle.fz_check.specs.Report.Event.{Judged}
 
--- ---- one more entry
-
-pub entries_claim : (os : List Outcome) (ps : List StreamPart) (kind : ClaimKind)
-    → entries os (ps ++ ClaimPart kind ∷ []) ≡ entries os ps ++ ClaimEntry kind ∷ []
-entries_claim os [] kind = refl
-entries_claim os (ClaimPart k ∷ ps) kind = ap (λ es. ClaimEntry k ∷ es) (entries_claim os ps kind)
-entries_claim [] (BlockPart b ∷ ps) kind = entries_claim [] ps kind
-entries_claim (o ∷ os) (BlockPart b ∷ ps) kind =
-    ap (λ es. BlockEntry o ∷ es) (entries_claim os ps kind)
-
-pub entries_block : (os : List Outcome) (ps : List StreamPart) (o : Outcome) (b : SolutionBlock)
-    → length os ≡ length (blocks_in ps)
-    → entries (os ++ o ∷ []) (ps ++ BlockPart b ∷ []) ≡ entries os ps ++ BlockEntry o ∷ []
-entries_block [] [] o b e = refl
-entries_block (p ∷ os) [] o b e = absurd (omega arith)
-entries_block os (ClaimPart k ∷ ps) o b e =
-    ap (λ es. ClaimEntry k ∷ es) (entries_block os ps o b e)
-entries_block [] (BlockPart d ∷ ps) o b e = absurd (omega arith)
-entries_block (p ∷ os) (BlockPart d ∷ ps) o b e =
-    ap (λ es. BlockEntry p ∷ es) (entries_block os ps o b (omega arith))
+-- ---- one more outcome
 
 module _ (aim : Aim) (c : Claims) where
-  pub account_append : (a : Account) (es fs : List Entry)
-      → account aim c a (es ++ fs) ≡ account aim c (account aim c a es) fs
-  account_append a [] fs = refl
-  account_append a (e ∷ es) fs = account_append (behind aim c a e) es fs
+  pub account_append : (a : Account) (os ks : List Outcome)
+      → account aim c a (os ++ ks) ≡ account aim c (account aim c a os) ks
+  account_append a [] ks = refl
+  account_append a (o ∷ os) ks = account_append (behind aim c a o) os ks
 
-  pub told_append : (a : Account) (es fs : List Entry)
-      → told aim c a (es ++ fs) ≡ told aim c a es ++ told aim c (account aim c a es) fs
-  told_append a [] fs = refl
-  told_append a (e ∷ es) fs =
-      let next = behind aim c a e in
-      ap (λ l. entry_told aim c a e ++ l) (told_append next es fs)
-      ∙ sym (append_assoc (entry_told aim c a e) (told aim c next es) (told aim c (account aim c next es) fs))
+  pub told_append : (a : Account) (os ks : List Outcome)
+      → told aim c a (os ++ ks) ≡ told aim c a os ++ told aim c (account aim c a os) ks
+  told_append a [] ks = refl
+  told_append a (o ∷ os) ks =
+      let next = behind aim c a o in
+      ap (λ l. outcome_told aim c a o ++ l) (told_append next os ks)
+      ∙ sym (append_assoc (outcome_told aim c a o) (told aim c next os) (told aim c (account aim c next os) ks))
 
-module _ (c : Completion) (m : Model) (bs : List SolutionBlock) (os : List Outcome) (filled found : Option ℤ) (go : OutcomesGoOn c m bs os filled found) where
-  pub outcomes_more : (b : SolutionBlock) (o : Outcome) → IsOutcome c m filled found b o
-      → OutcomesGoOn c m (bs ++ b ∷ []) (os ++ o ∷ []) o.filled o.found
-  outcomes_more b o is = λ more others are.
-      subst₂ (AreOutcomes c m None None) (sym (append_assoc bs (b ∷ []) more)) (sym (append_assoc os (o ∷ []) others))
-      (go (b ∷ more) (o ∷ others) (is, are))
+pub verdicts_append : (os ks : List Outcome)
+    → verdicts_of (os ++ ks) ≡ verdicts_of os ++ verdicts_of ks
+verdicts_append [] ks = refl
+verdicts_append (OfClaim kind shown ∷ os) ks = verdicts_append os ks
+verdicts_append (OfBlock b ∷ os) ks = ap (λ vs. b.verdict ∷ vs) (verdicts_append os ks)
 
-  pub all_outcomes : AreOutcomes c m None None bs os
-  all_outcomes = subst₂ (AreOutcomes c m None None) (append-nil bs) (append-nil os) (go [] [] tt)
+module _ (o : Options) (m : Model) (ps : List StreamPart) (os : List Outcome) (filled found : Option ℤ) (go : OutcomesGoOn o m ps os filled found) where
+  pub outcomes_more : (p : StreamPart) (k : Outcome) (filled_next found_next : Option ℤ)
+      → ((more : List StreamPart) (others : List Outcome) → AreOutcomes o m filled_next found_next more others
+      → AreOutcomes o m filled found (p ∷ more) (k ∷ others))
+      → OutcomesGoOn o m (ps ++ p ∷ []) (os ++ k ∷ []) filled_next found_next
+  outcomes_more p k filled_next found_next one = λ more others are.
+      subst₂ (AreOutcomes o m None None) (sym (append_assoc ps (p ∷ []) more)) (sym (append_assoc os (k ∷ []) others))
+      (go (p ∷ more) (k ∷ others) (one more others are))
+
+  pub all_outcomes : AreOutcomes o m None None ps os
+  all_outcomes = subst₂ (AreOutcomes o m None None) (append-nil ps) (append-nil os) (go [] [] tt)
 
 -- the verdicts of outcomes
-pub outcomes_told : {c : Completion} {m : Model} {filled found : Option ℤ} (bs : List SolutionBlock)
-    (os : List Outcome) → AreOutcomes c m filled found bs os
-    → AreTold c m filled found bs (verdicts_of os)
-outcomes_told [] [] are = NoneLeft
-outcomes_told {c} {m} (b ∷ bs) (o ∷ os) (is, are) = OneMore is.filling is.is_filled is.is_told (subst (λ f. AreTold c m f o.found bs (verdicts_of os)) is.filled_is (outcomes_told bs os are))
-outcomes_told _ _ are = absurd are
+pub outcomes_told : (o : Options) (m : Model) (filled found : Option ℤ) (ps : List StreamPart)
+    (os : List Outcome) → AreOutcomes o m filled found ps os
+    → AreTold o.completion m filled found (blocks_in ps) (verdicts_of os)
+outcomes_told o m filled found [] [] are = NoneLeft
+outcomes_told o m filled found (BlockPart block ∷ ps) (OfBlock b ∷ os) (is, are) = OneMore is.filling is.is_filled is.is_told
+    (subst (λ f. AreTold o.completion m f b.found (blocks_in ps) (verdicts_of os)) is.filled_is (outcomes_told o m b.filled b.found ps os are))
+outcomes_told o m filled found (ClaimPart kind ∷ ps) (OfClaim k shown ∷ os) (is, shows, are) =
+    outcomes_told o m filled found ps os are
+outcomes_told o m filled found _ _ are = absurd are
 
 -- each block has one
-pub have_each : (c : Completion) (m : Model) (filled found : Option ℤ) (bs : List SolutionBlock)
-    (os : List Outcome) → AreOutcomes c m filled found bs os → length os ≡ length bs
-have_each c m filled found [] [] are = refl
-have_each c m filled found (b ∷ bs) (o ∷ os) are =
-    ap suc (have_each c m o.filled o.found bs os are.1)
-have_each c m filled found _ _ are = absurd are
+have_each : (o : Options) (m : Model) (filled found : Option ℤ) (ps : List StreamPart)
+    (os : List Outcome) → AreOutcomes o m filled found ps os
+    → length (verdicts_of os) ≡ length (blocks_in ps)
+have_each o m filled found [] [] are = refl
+have_each o m filled found (BlockPart block ∷ ps) (OfBlock b ∷ os) are =
+    ap suc (have_each o m b.filled b.found ps os are.1)
+have_each o m filled found (ClaimPart kind ∷ ps) (OfClaim k shown ∷ os) are =
+    have_each o m filled found ps os are.2
+have_each o m filled found _ _ are = absurd are
 
 -- ---- the answer follows from the account
-
-abbrev verdicts_in : List Entry → List Verdict
-verdicts_in [] = []
-verdicts_in (ClaimEntry kind ∷ es) = verdicts_in es
-verdicts_in (BlockEntry o ∷ es) = o.verdict ∷ verdicts_in es
-
-verdicts_entries : (os : List Outcome) (ps : List StreamPart) → length os ≡ length (blocks_in ps)
-    → verdicts_in (entries os ps) ≡ verdicts_of os
-verdicts_entries [] [] e = refl
-verdicts_entries (o ∷ os) [] e = absurd (omega arith)
-verdicts_entries os (ClaimPart k ∷ ps) e = verdicts_entries os ps e
-verdicts_entries [] (BlockPart b ∷ ps) e = absurd (omega arith)
-verdicts_entries (o ∷ os) (BlockPart b ∷ ps) e =
-    ap (λ vs. o.verdict ∷ vs) (verdicts_entries os ps (omega arith))
-
-verdicts_blocks : (os : List Outcome) → verdicts_in (map BlockEntry os) ≡ verdicts_of os
-verdicts_blocks [] = refl
-verdicts_blocks (o ∷ os) = ap (λ vs. o.verdict ∷ vs) (verdicts_blocks os)
 
 or_none : (x : Option ℕ) → x ≡ option_or x None
 or_none None = refl
@@ -135,14 +113,14 @@ Tallies a b vs = (b.blocks ≡ a.blocks + length vs)
     × (b.violated ≡ option_or a.violated (first_number (a.blocks + 1) is_violated vs))
     × (b.undecided ≡ option_or a.undecided (first_number (a.blocks + 1) is_undecided vs))
 
-tallied : (aim : Aim) (c : Claims) (a : Account) (es : List Entry)
-    → Tallies a (account aim c a es) (verdicts_in es)
+tallied : (aim : Aim) (c : Claims) (a : Account) (os : List Outcome)
+    → Tallies a (account aim c a os) (verdicts_of os)
 tallied aim c a [] = (sym (add-zero a.blocks), or_none a.violated, or_none a.undecided)
-tallied aim c a (ClaimEntry kind ∷ es) = tallied aim c (behind_claim aim c a kind) es
-tallied aim c a (BlockEntry o ∷ es) =
-    let t = tallied aim c (behind_block aim a o.verdict o.filled o.found) es in
+tallied aim c a (OfClaim kind shown ∷ os) = tallied aim c (behind_claim aim c a kind) os
+tallied aim c a (OfBlock o ∷ os) =
+    let t = tallied aim c (behind_block aim a o.verdict o.filled o.found) os in
     let n = a.blocks + 1 in
-    let vs = verdicts_in es in
+    let vs = verdicts_of os in
     let next : n + 1 ≡ suc n = omega arith in (
       omega (arith, t.0),
       t.1 ∙ first_then a.violated (is_violated o.verdict) n (first_number (n + 1) is_violated vs)
@@ -155,30 +133,19 @@ tallied aim c a (BlockEntry o ∷ es) =
 abbrev pub answer_of_account : Account → Answer
 answer_of_account a = answer_with a.refuted (answer_by a.violated a.undecided a.blocks)
 
-answers : (aim : Aim) (c : Claims) (es : List Entry)
-    → answer_of_account (account aim c no_account es)
-    ≡ answer_with (account aim c no_account es).refuted (answer_of (verdicts_in es))
-answers aim c es =
-    let t = tallied aim c no_account es in
-    let count : (account aim c no_account es).blocks ≡ length (verdicts_in es) = omega (arith, t.0) in
-    λ i. answer_with (account aim c no_account es).refuted (answer_by (t.1 i) (t.2 i) (count i))
+pub answer_is_told : (m : Model) (c : Claims) (os : List Outcome)
+    → answer_of_account (account m.aim c no_account os) ≡ answer_told m c os
+answer_is_told m c os =
+    let t = tallied m.aim c no_account os in
+    let count : (account m.aim c no_account os).blocks ≡ length (verdicts_of os) = omega (arith, t.0) in
+    λ i. answer_with (account m.aim c no_account os).refuted (answer_by (t.1 i) (t.2 i) (count i))
 
-pub answer_is_told : (m : Model) (c : Claims) (os : List Outcome) (ps : List StreamPart)
-    → length os ≡ length (blocks_in ps)
-    → answer_of_account (account m.aim c no_account (entries os ps)) ≡ answer_told m c os ps
-answer_is_told m c os ps each =
-    let refuted = (account m.aim c no_account (entries os ps)).refuted in
-    answers m.aim c (entries os ps)
-    ∙ ap (λ vs. answer_with refuted (answer_of vs)) (verdicts_entries os ps each)
-
-pub blocks_told : (aim : Aim) (c : Claims) (os : List Outcome) (ps : List StreamPart)
-    → length os ≡ length (blocks_in ps)
-    → (account aim c no_account (entries os ps)).blocks ≡ length (blocks_in ps)
-blocks_told aim c os ps each =
-    let t = tallied aim c no_account (entries os ps) in
-    let count : (account aim c no_account (entries os ps)).blocks ≡ length (verdicts_in (entries os ps)) = omega (arith, t.0) in
-    count ∙ ap length (verdicts_entries os ps each)
-    ∙ length-map os (λ (o : Outcome). o.verdict) ∙ each
+pub blocks_told : (o : Options) (m : Model) (ps : List StreamPart) (os : List Outcome)
+    → HaveOutcomes o m ps os
+    → (account m.aim o.claims no_account os).blocks ≡ length (blocks_in ps)
+blocks_told o m ps os have =
+    let t = tallied m.aim o.claims no_account os in
+    omega (arith, t.0, have_each o m None None ps os have)
 
 -- ---- where claims aren't judged
 
@@ -187,26 +154,21 @@ late_unjudged : (aim : Aim) (w : Option Statement) (is : Bool) (found : Option �
 late_unjudged aim None is found none = refl
 late_unjudged aim (Some s) is found none = absurd cc
 
-pub refuted_unjudged : (aim : Aim) (a : Account) (es : List Entry) → a.waiting ≡ None
-    → (account aim NotJudged a es).refuted ≡ a.refuted
+pub refuted_unjudged : (aim : Aim) (a : Account) (os : List Outcome) → a.waiting ≡ None
+    → (account aim NotJudged a os).refuted ≡ a.refuted
 refuted_unjudged aim a [] none = refl
-refuted_unjudged aim a (ClaimEntry kind ∷ es) none =
-    refuted_unjudged aim (behind_claim aim NotJudged a kind) es none
-refuted_unjudged aim a (BlockEntry o ∷ es) none =
+refuted_unjudged aim a (OfClaim kind shown ∷ os) none =
+    refuted_unjudged aim (behind_claim aim NotJudged a kind) os none
+refuted_unjudged aim a (OfBlock o ∷ os) none =
     let late = late_unjudged aim a.waiting (is_satisfied o.verdict) o.found none in
-    refuted_unjudged aim (behind_block aim a o.verdict o.filled o.found) es (ap (λ s. late_waiting s a.waiting) late ∙ none)
+    refuted_unjudged aim (behind_block aim a o.verdict o.filled o.found) os (ap (λ s. late_waiting s a.waiting) late ∙ none)
     ∙ ap (λ s. late_earliest s a.refuted) late
 
--- the answer where only the blocks were heard of
-pub answer_unjudged : (m : Model) (os : List Outcome) (ps : List StreamPart)
-    → answer_of_account (account m.aim NotJudged no_account (map BlockEntry os))
-    ≡ answer_told m NotJudged os ps
-answer_unjudged m os ps =
-    let here = refuted_unjudged m.aim no_account (map BlockEntry os) refl in
-    let there = refuted_unjudged m.aim no_account (entries os ps) refl in
-    answers m.aim NotJudged (map BlockEntry os)
-    ∙ ap (λ r. answer_with r (answer_of (verdicts_in (map BlockEntry os)))) (here ∙ sym there)
-    ∙ ap (λ vs. answer_with (account m.aim NotJudged no_account (entries os ps)).refuted (answer_of vs)) (verdicts_blocks os)
+-- the answer is that of the verdicts
+pub answer_unjudged : (m : Model) (os : List Outcome)
+    → answer_told m NotJudged os ≡ answer_of (verdicts_of os)
+answer_unjudged m os =
+    ap (λ r. answer_with r (answer_of (verdicts_of os))) (refuted_unjudged m.aim no_account os refl)
 
 claims_later : (n : ℕ) (ps : List StreamPart) (c : Claim) (cs : List Claim)
     → claims_in n ps ≡ c ∷ cs → n ≤ c.after
@@ -222,37 +184,45 @@ none_by : (n : ℕ) (cs : List Claim)
 none_by n [] later = (refl, refl)
 none_by n (c ∷ cs) later = let l = later c cs refl in comes_later n c cs (omega (arith, l))
 
-pub told_unjudged : (aim : Aim) (a : Account) (os : List Outcome) (ps : List StreamPart)
-    → a.waiting ≡ None → length os ≡ length (blocks_in ps)
-    → told aim NotJudged a (entries os ps) ≡ in_order a.blocks (verdicts_of os) (claims_in a.blocks ps)
-told_unjudged aim a [] [] none each = refl
-told_unjudged aim a (o ∷ os) [] none each = absurd (omega arith)
-told_unjudged aim a [] (ClaimPart k ∷ ps) none each =
-    ap (λ es. Claimed k ∷ es) (told_unjudged aim (behind_claim aim NotJudged a k) [] ps none each)
-told_unjudged aim a (o ∷ os) (ClaimPart k ∷ ps) none each =
+-- a claim that comes by now is told first
+claim_first : (n : ℕ) (vs : List Verdict) (c : Claim) (cs : List Claim) → c.after ≤ n
+    → in_order n vs (c ∷ cs) ≡ claimed c ∷ in_order n vs cs
+claim_first n [] c cs le = refl
+claim_first n (v ∷ vs) c cs le =
+    let by = comes_by n c cs le in
+    λ i. (by.0 i) ++ Judged (n + 1) v ∷ in_order (n + 1) vs (by.1 i)
+
+none_shown : (c : Claims) (m : Model) (s : Saying) (shown : Option ℕ) → c ≡ NotJudged
+    → IsShown c m s shown → shown ≡ None
+none_shown c m s None unasked shows = refl
+none_shown c m s (Some n) unasked shows = absurd (subst (λ d. IsShown d m s (Some n)) unasked shows)
+
+pub told_unjudged : (o : Options) (m : Model) (a : Account) (filled found : Option ℤ)
+    (ps : List StreamPart) (os : List Outcome) → o.claims ≡ NotJudged → a.waiting ≡ None
+    → AreOutcomes o m filled found ps os
+    → told m.aim NotJudged a os ≡ in_order a.blocks (verdicts_of os) (claims_in a.blocks ps)
+told_unjudged o m a filled found [] [] unasked none are = refl
+told_unjudged o m a filled found (ClaimPart kind ∷ ps) (OfClaim k shown ∷ os) unasked none (is, shows, are) =
     let n = a.blocks in
-    let cs = claims_in n ps in
-    let c : Claim = record { after = n; kind = k } in
-    let by = comes_by n c cs (omega arith) in
-    let here : claims_by n (c ∷ cs) ++ Judged (n + 1) o.verdict ∷ in_order (n + 1) (verdicts_of os) (claims_past n (c ∷ cs))
-    ≡ Claimed k ∷ (claims_by n cs ++ Judged (n + 1) o.verdict ∷ in_order (n + 1) (verdicts_of os) (claims_past n cs)) =
-    λ i. (by.0 i) ++ Judged (n + 1) o.verdict ∷ in_order (n + 1) (verdicts_of os) (by.1 i) in
-    ap (λ es. Claimed k ∷ es) (told_unjudged aim (behind_claim aim NotJudged a k) (o ∷ os) ps none each)
-    ∙ sym here
-told_unjudged aim a [] (BlockPart b ∷ ps) none each = absurd (omega arith)
-told_unjudged aim a (o ∷ os) (BlockPart b ∷ ps) none each =
+    let c : Claim = record { after = n; kind = kind } in
+    let rest = told_unjudged o m (behind_claim m.aim NotJudged a k) filled found ps os unasked none are in
+    let no = none_shown o.claims m (saying k filled) shown unasked shows in
+    (λ i. claim_event (statement a (is i)) None (no i) ∷ rest i)
+    ∙ sym (claim_first n (verdicts_of os) c (claims_in n ps) (omega arith))
+told_unjudged o m a filled found (BlockPart block ∷ ps) (OfBlock b ∷ os) unasked none (is, are) =
     let n = a.blocks in
     let cs = claims_in (n + 1) ps in
-    let next = behind_block aim a o.verdict o.filled o.found in
-    let late = late_unjudged aim a.waiting (is_satisfied o.verdict) o.found none in
+    let next = behind_block m.aim a b.verdict b.filled b.found in
+    let late = late_unjudged m.aim a.waiting (is_satisfied b.verdict) b.found none in
     let waits : next.waiting ≡ None = ap (λ s. late_waiting s a.waiting) late ∙ none in
     let by = none_by n cs (claims_later (n + 1) ps) in
-    let behind_none : claims_by n cs ++ Judged (n + 1) o.verdict ∷ in_order (n + 1) (verdicts_of os) (claims_past n cs)
-    ≡ Judged (n + 1) o.verdict ∷ in_order (n + 1) (verdicts_of os) cs =
-    λ i. (by.0 i) ++ Judged (n + 1) o.verdict ∷ in_order (n + 1) (verdicts_of os) (by.1 i) in
-    ap (λ s. Judged (n + 1) o.verdict ∷ (late_events s (n + 1) ++ told aim NotJudged next (entries os ps))) late
-    ∙ ap (λ es. Judged (n + 1) o.verdict ∷ es) (told_unjudged aim next os ps waits (omega arith))
+    let behind_none : claims_by n cs ++ Judged (n + 1) b.verdict ∷ in_order (n + 1) (verdicts_of os) (claims_past n cs)
+    ≡ Judged (n + 1) b.verdict ∷ in_order (n + 1) (verdicts_of os) cs =
+    λ i. (by.0 i) ++ Judged (n + 1) b.verdict ∷ in_order (n + 1) (verdicts_of os) (by.1 i) in
+    ap (λ s. Judged (n + 1) b.verdict ∷ (late_events s (n + 1) ++ told m.aim NotJudged next os)) late
+    ∙ ap (λ es. Judged (n + 1) b.verdict ∷ es) (told_unjudged o m next b.filled b.found ps os unasked waits are)
     ∙ sym behind_none
+told_unjudged o m a filled found _ _ unasked none are = absurd are
 
 -- ---- what a block tells
 
@@ -279,7 +249,7 @@ pub has_solution : (m : Model) (block : SolutionBlock) (o : Option ℤ) → IsSo
     → HasSolutionWith m o
 has_solution m block o (A, extends, solution, is) = (A, solution, is)
 
--- ---- what is refuted is false
+-- ---- what is refuted is false, and what is shown true
 
 satisfied_is : (v : Verdict) → is_satisfied v ≡ true → v ≡ Satisfied
 satisfied_is Satisfied e = refl
@@ -339,13 +309,20 @@ module _ (m : Model) where
   refuter_false : (c : Claims) (a : Account) (s : Saying) → KnowsOf m c → IsSound a
       → IfSome (refuter m.aim c a s) (λ _. IsFalse m s)
   refuter_false NotJudged a s knows sound = tt
-  refuter_false (ClaimsJudged k) a s knows sound =
+  refuter_false (ClaimsJudged k p) a s knows sound =
       either_false s (own_refuter a s) (known_refuter m.aim k s) (own_false a s sound) (known_false k s knows)
 
-  claim_true : (s : Statement) (by : Option Refuter) → IfSome by (λ _. IsFalse m s.says)
-      → IsTrueOf m (claim_event s.kind (option_map (λ (r : Refuter). record { claim = s; by = r }) by))
-  claim_true s None h = tt
-  claim_true s (Some by) h = h
+  shown_true : (c : Claims) (s : Saying) (nodes : ℕ) → IsShown c m s (Some nodes) → IsTrueClaim m s
+  shown_true NotJudged s nodes shows = absurd shows
+  shown_true (ClaimsJudged k proving.Off) s nodes shows = absurd shows
+  shown_true (ClaimsJudged k proving.On) s nodes shows = shows
+
+  claim_true : (c : Claims) (s : Statement) (by : Option Refuter) (shown : Option ℕ)
+      → IfSome by (λ _. IsFalse m s.says) → IsShown c m s.says shown
+      → IsTrueOf m (claim_event s (option_map (λ (r : Refuter). record { claim = s; by = r }) by) shown)
+  claim_true c s (Some by) shown h shows = h
+  claim_true c s None (Some nodes) h shows = shown_true c s.says nodes shows
+  claim_true c s None None h shows = tt
 
   -- it stays so
   one_more_sound : (before : Option ℕ) (v : Verdict) (found : Option ℤ) (number : ℕ)
@@ -368,39 +345,25 @@ module _ (m : Model) where
   late_true None number es h rest = rest
   late_true (Some s) number es h rest = (h, rest)
 
-  -- a satisfied block has a solution with its objective
-  abbrev IsSolved : Entry → Type 0
-  IsSolved (BlockEntry o) = o.verdict ≡ Satisfied → HasSolutionWith m o.found
-  IsSolved (ClaimEntry kind) = ⊤
-
-  pub all_solved : (by : Completion) (filled found : Option ℤ) (bs : List SolutionBlock)
-      (os : List Outcome) (ps : List StreamPart) → AreOutcomes by m filled found bs os
-      → AllByRecursion IsSolved (entries os ps)
-  all_solved by filled found bs os [] are = tt
-  all_solved by filled found bs os (ClaimPart kind ∷ ps) are =
-      (tt, all_solved by filled found bs os ps are)
-  all_solved by filled found bs [] (BlockPart b ∷ ps) are = all_solved by filled found bs [] ps are
-  all_solved by filled found [] (o ∷ os) (BlockPart b ∷ ps) are = absurd are
-  all_solved by filled found (d ∷ bs) (o ∷ os) (BlockPart b ∷ ps) are = (
-    λ e. has_solution m d o.found (are.0.solved e),
-    all_solved by o.filled o.found bs os ps are.1,
+  pub all_true : (o : Options) (a : Account) (found : Option ℤ) (ps : List StreamPart)
+      (os : List Outcome) → KnowsOf m o.claims → IsSound a → AreOutcomes o m a.objective found ps os
+      → AllByRecursion (IsTrueOf m) (told m.aim o.claims a os)
+  all_true o a found [] [] knows sound are = tt
+  all_true o a found (ClaimPart kind ∷ ps) (OfClaim k shown ∷ os) knows sound (is, shows, are) = (
+    claim_true o.claims (statement a k) (refuter m.aim o.claims a (saying k a.objective)) shown
+        (refuter_false o.claims a (saying k a.objective) knows sound) shows,
+    all_true o (behind_claim m.aim o.claims a k) found ps os knows sound are,
   )
-
-  pub all_true : (c : Claims) (a : Account) (es : List Entry) → KnowsOf m c → IsSound a
-      → AllByRecursion IsSolved es → AllByRecursion (IsTrueOf m) (told m.aim c a es)
-  all_true c a [] knows sound solved = tt
-  all_true c a (ClaimEntry kind ∷ es) knows sound solved = (
-    claim_true (statement a kind) (refuter m.aim c a (saying kind a.objective)) (refuter_false c a (saying kind a.objective) knows sound),
-    all_true c (behind_claim m.aim c a kind) es knows sound solved.1,
-  )
-  all_true c a (BlockEntry o ∷ es) knows sound solved =
-      let next = behind_block m.aim a o.verdict o.filled o.found in
-      let sound_next : IsSound next = one_more_sound a.satisfied o.verdict o.found (a.blocks + 1) solved.0 sound in (
+  all_true o a found (BlockPart block ∷ ps) (OfBlock b ∷ os) knows sound (is, are) =
+      let next = behind_block m.aim a b.verdict b.filled b.found in
+      let solved : b.verdict ≡ Satisfied → HasSolutionWith m b.found = λ e. has_solution m block b.found (is.solved e) in
+      let sound_next : IsSound next = one_more_sound a.satisfied b.verdict b.found (a.blocks + 1) solved sound in (
         tt,
-        late_true (late_refuted m.aim a.waiting (is_satisfied o.verdict) o.found) (a.blocks + 1) _
-            (late_false a.waiting (is_satisfied o.verdict) o.found (λ e. solved.0 (satisfied_is o.verdict e)))
-            (all_true c next es knows sound_next solved.1),
+        late_true (late_refuted m.aim a.waiting (is_satisfied b.verdict) b.found) (a.blocks + 1) _
+            (late_false a.waiting (is_satisfied b.verdict) b.found (λ e. solved (satisfied_is b.verdict e)))
+            (all_true o next b.found ps os knows sound_next are),
       )
+  all_true o a found _ _ knows sound are = absurd are
 
   -- ---- what is known of other streams
 

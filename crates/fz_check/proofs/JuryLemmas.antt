@@ -1,118 +1,125 @@
 -- One more block is judged and accounted for, and one more part is told.
-use Rattle.std.proofs.Common.{◌≡◌, ℕ, suc, List, [], ◌∷◌, ◌++◌, length, None, refl, sym, ap, ◌∙◌, subst, subst₂, append-nil}
+use Rattle.std.proofs.Common.{◌≡◌, ℕ, suc, List, [], ◌∷◌, ◌++◌, None, refl, sym, ap, ◌∙◌, subst, subst₂, append-nil}
 use Rattle.fz_judge.specs.of_model.Meaning.{Model}
 use Rattle.fz_judge.specs.of_stream.declared.block.Block as the_block
 use Rattle.fz_judge.specs.of_stream.declared.line.ClaimKind.{ClaimKind}
 use Rattle.fz_judge.specs.of_stream.Found.{EndsWithin, HasPlaces, block_of}
-use Rattle.fz_judge.specs.of_stream.Parts.{blocks_in, SolutionBlock, StreamPart, BlockPart, ClaimPart}
+use Rattle.fz_judge.specs.of_stream.Parts.{SolutionBlock, StreamPart, BlockPart, ClaimPart}
 use Rattle.fz_judge.specs.of_filling.declared.completion.Completion.{Completion}
 use Rattle.fz_judge.specs.of_filling.Verdict.{Answer, Verdict}
-use Rattle.fz_judge.proofs.of_filling.Loops.{blocks_with_block, blocks_with_claim}
 use Rattle.fz_judge.specs.of_filling.Judged.{JudgeState, IsBlockRefusal}
 use Rattle.fz_check.specs.declared.account.Account.{Account}
 use Rattle.fz_check.specs.declared.error.CheckError.{CheckError}
 use Rattle.fz_check.specs.declared.error.CheckError.TheVariants as errors
 use Rattle.fz_check.specs.declared.jury.Jury.{Jury}
 use Rattle.fz_check.specs.declared.options.Options.{Options}
-use Rattle.fz_check.specs.Claims.{Entry, HaveOutcomes, IsOutcome, Outcome, account, answer_told, behind, behind_claim, block_told, claim_told, entries, entry_told, no_account, told, told_of}
-use Rattle.fz_check.specs.Claims.Entry.{BlockEntry, ClaimEntry}
+use Rattle.fz_check.specs.Claims.{HaveOutcomes, IsOutcome, IsShown, Outcome, account, answer_told, behind, block_told, no_account, outcome_told, saying, told_of}
+use Rattle.fz_check.specs.Claims.Outcome.{OfBlock, OfClaim}
 use Rattle.fz_check.specs.Report.{AreOf, Event}
-use Rattle.fz_check.specs.Telling.{HasJudged, HasTold, IsUnjudged, IsUntold, JudgesOneMore, TellsOneMore, last_outcome}
-use Rattle.fz_check.proofs.ClaimLemmas.{account_append, all_outcomes, answer_is_told, answer_of_account, blocks_told, entries_block, entries_claim, have_each, outcomes_more, told_append}
+use Rattle.fz_check.specs.Telling.{HasJudged, HasTold, HearsOneMore, IsUnjudged, IsUntold, JudgesOneMore, TellsOneMore, last_outcome}
+use Rattle.fz_check.proofs.ClaimLemmas.{account_append, all_outcomes, answer_is_told, answer_of_account, blocks_told, outcomes_more, told_append}
 use Rattle.fz_check.proofs.EventLemmas.{more_of}
 
 abbrev pub first_state : Completion → Model → JudgeState
 first_state c m =
     record { model = m; completion = c; before = None; found = None; refuted = None }
 
-pub judged_none : (c : Completion) (m : Model) (j : JudgeState) → j ≡ first_state c m
-    → HasJudged c m j [] []
-judged_none c m j is =
-    subst (λ k. HasJudged c m k [] []) (sym is)
+pub judged_none : (o : Options) (m : Model) (j : JudgeState) → j ≡ first_state o.completion m
+    → HasJudged o m j [] []
+judged_none o m j is =
+    subst (λ k. HasJudged o m k [] []) (sym is)
     (record { same_model = refl; same_completion = refl; goes_on = λ more others are. are })
 
-pub judged_more : (c : Completion) (m : Model) (j j' : Jury) (bs : List SolutionBlock)
+pub judged_more : (o : Options) (m : Model) (j j' : Jury) (ps : List StreamPart)
     (os : List Outcome) (block : SolutionBlock) (v : Verdict) → JudgesOneMore j j' block v
-    → HasJudged c m j.judge bs os
-    → HasJudged c m j'.judge (bs ++ block ∷ []) (os ++ last_outcome j'.judge v ∷ [])
-judged_more c m j j' bs os block v one h = record {
-  same_model = one.same_model ∙ h.same_model;
-  same_completion = one.same_completion ∙ h.same_completion;
-  goes_on = outcomes_more c m bs os j.judge.before j.judge.found h.goes_on block (last_outcome j'.judge v)
-      (subst₂ (λ d n. IsOutcome d n j.judge.before j.judge.found block (last_outcome j'.judge v)) h.same_completion h.same_model one.outcome);
-}
+    → HasJudged o m j.judge ps os
+    → HasJudged o m j'.judge (ps ++ BlockPart block ∷ []) (os ++ OfBlock (last_outcome j'.judge v) ∷ [])
+judged_more o m j j' ps os block v one h =
+    let out = last_outcome j'.judge v in
+    let is = subst₂ (λ d n. IsOutcome d n j.judge.before j.judge.found block out) h.same_completion h.same_model one.outcome in
+    record {
+      same_model = one.same_model ∙ h.same_model;
+      same_completion = one.same_completion ∙ h.same_completion;
+      goes_on = outcomes_more o m ps os j.judge.before j.judge.found h.goes_on (BlockPart block) (OfBlock out) out.filled out.found (λ more others are. (is, are));
+    }
 
 pub told_none : (o : Options) (m : Model) (j : Jury) → j.judge ≡ first_state o.completion m
     → j.account ≡ no_account → j.claims ≡ o.claims → HasTold o m j [] []
 told_none o m j judge account claims = record {
-  judged = judged_none o.completion m j.judge judge;
+  judged = judged_none o m j.judge judge;
   claims_are = claims;
   account_is = account;
+  same_objective = ap (λ (a : Account). a.objective) account ∙ sym (ap (λ (s : JudgeState). s.before) judge);
 }
 
 module _ (o : Options) (m : Model) (j : Jury) (parts : List StreamPart) (os : List Outcome) (h : HasTold o m j parts os) where
-  abbrev pub have_outcomes : HaveOutcomes o.completion m parts os
-  have_outcomes = all_outcomes o.completion m (blocks_in parts) os j.judge.before j.judge.found h.judged.goes_on
-
-  each : length os ≡ length (blocks_in parts)
-  each = have_each o.completion m None None (blocks_in parts) os have_outcomes
+  abbrev pub have_outcomes : HaveOutcomes o m parts os
+  have_outcomes = all_outcomes o m parts os j.judge.before j.judge.found h.judged.goes_on
 
   -- the numbers give the answer
   pub answer_is : (answer : Answer) → answer ≡ answer_of_account j.account
-      → answer ≡ answer_told m o.claims os parts
-  answer_is answer is = is ∙ ap answer_of_account h.account_is ∙ answer_is_told m o.claims os parts each
+      → answer ≡ answer_told m o.claims os
+  answer_is answer is = is ∙ ap answer_of_account h.account_is ∙ answer_is_told m o.claims os
 
   same_aim : j.judge.model.aim ≡ m.aim
   same_aim = ap (λ (n : Model). n.aim) h.judged.same_model
 
-  -- one more entry is told, by this line
-  tells_entry : (text : Event → List ℕ → Type 0) (j' : Jury) (part : StreamPart) (e : Entry)
-      (more : List Outcome) (line : List ℕ)
-      → entries more (parts ++ part ∷ []) ≡ entries os parts ++ e ∷ []
-      → HasJudged o.completion m j'.judge (blocks_in (parts ++ part ∷ [])) more
-      → j'.claims ≡ j.claims → j'.account ≡ behind j.judge.model.aim j.claims j.account e
-      → AreOf text (entry_told j.judge.model.aim j.claims j.account e) line
+  -- one more outcome is told, by this line
+  tells_outcome : (text : Event → List ℕ → Type 0) (j' : Jury) (part : StreamPart) (k : Outcome)
+      (line : List ℕ) → HasJudged o m j'.judge (parts ++ part ∷ []) (os ++ k ∷ [])
+      → j'.claims ≡ j.claims → j'.account ≡ behind j.judge.model.aim j.claims j.account k
+      → j'.account.objective ≡ j'.judge.before
+      → AreOf text (outcome_told j.judge.model.aim j.claims j.account k) line
       → TellsOneMore o text m j' parts os part line
-  tells_entry text j' part e more line are judged claims accounted is =
-      let before = entries os parts in
-      let now = account m.aim o.claims no_account before in
-      let one = entry_told m.aim o.claims now e in
-      let own : entry_told j.judge.model.aim j.claims j.account e ≡ one =
-      λ i. entry_told (same_aim i) (h.claims_are i) (h.account_is i) e in
-      let after : behind j.judge.model.aim j.claims j.account e ≡ behind m.aim o.claims now e =
-      λ i. behind (same_aim i) (h.claims_are i) (h.account_is i) e in
-      let all : told_of m o.claims more (parts ++ part ∷ []) ≡ told_of m o.claims os parts ++ one =
-      ap (told m.aim o.claims no_account) are ∙ told_append m.aim o.claims no_account before (e ∷ []) ∙ ap (λ l. told_of m o.claims os parts ++ l) (append-nil one) in
+  tells_outcome text j' part k line judged claims accounted objective is =
+      let now = account m.aim o.claims no_account os in
+      let one = outcome_told m.aim o.claims now k in
+      let own : outcome_told j.judge.model.aim j.claims j.account k ≡ one =
+      λ i. outcome_told (same_aim i) (h.claims_are i) (h.account_is i) k in
+      let after : behind j.judge.model.aim j.claims j.account k ≡ behind m.aim o.claims now k =
+      λ i. behind (same_aim i) (h.claims_are i) (h.account_is i) k in
+      let all : told_of m o.claims (os ++ k ∷ []) ≡ told_of m o.claims os ++ one =
+      told_append m.aim o.claims no_account os (k ∷ []) ∙ ap (λ l. told_of m o.claims os ++ l) (append-nil one) in
       record {
-        more = more;
+        more = os ++ k ∷ [];
         told = record {
           judged = judged;
           claims_are = claims ∙ h.claims_are;
-          account_is = accounted ∙ after
-              ∙ sym (ap (account m.aim o.claims no_account) are ∙ account_append m.aim o.claims no_account before (e ∷ []));
+          account_is = accounted ∙ after ∙ sym (account_append m.aim o.claims no_account os (k ∷ []));
+          same_objective = objective;
         };
         lines = λ bytes others. subst (λ es. AreOf text es (bytes ++ line)) (sym all)
-            (more_of text (told_of m o.claims os parts) one bytes line others (subst (λ es. AreOf text es line) own is));
+            (more_of text (told_of m o.claims os) one bytes line others (subst (λ es. AreOf text es line) own is));
       }
 
-  pub tells_claim : (text : Event → List ℕ → Type 0) (j' : Jury) (kind : ClaimKind) (line : List ℕ)
-      → j'.account ≡ behind_claim j.judge.model.aim j.claims j.account kind
-      → (j'.judge ≡ j.judge) × (j'.claims ≡ j.claims)
-      → AreOf text (claim_told j.judge.model.aim j.claims j.account kind ∷ []) line
+  heard_more : (j' : Jury) (kind : ClaimKind) (e : Event) (one : HearsOneMore j j' kind e)
+      → HasJudged o m j'.judge (parts ++ ClaimPart kind ∷ []) (os ++ OfClaim kind one.shown ∷ [])
+  heard_more j' kind e one =
+      let shows = subst (λ f. IsShown o.claims m (saying kind f) one.shown) h.same_objective
+      (subst₂ (λ c n. IsShown c n (saying kind j.account.objective) one.shown) h.claims_are h.judged.same_model one.is_shown) in
+      subst (λ s. HasJudged o m s (parts ++ ClaimPart kind ∷ []) (os ++ OfClaim kind one.shown ∷ [])) (sym one.same_judge)
+      (record {
+        same_model = h.judged.same_model;
+        same_completion = h.judged.same_completion;
+        goes_on = outcomes_more o m parts os j.judge.before j.judge.found h.judged.goes_on (ClaimPart kind) (OfClaim kind one.shown)
+            j.judge.before j.judge.found (λ more others are. (refl, shows, are));
+      })
+
+  pub tells_claim : (text : Event → List ℕ → Type 0) (j' : Jury) (kind : ClaimKind) (e : Event)
+      (line : List ℕ) → HearsOneMore j j' kind e → AreOf text (e ∷ []) line
       → TellsOneMore o text m j' parts os (ClaimPart kind) line
-  tells_claim text j' kind line heard same is =
-      tells_entry text j' (ClaimPart kind) (ClaimEntry kind) os line (entries_claim os parts kind)
-      (subst₂ (λ bs k. HasJudged o.completion m k bs os) (sym (blocks_with_claim parts kind)) (sym same.0) h.judged) same.1 heard is
+  tells_claim text j' kind e line one is =
+      tells_outcome text j' (ClaimPart kind) (OfClaim kind one.shown) line (heard_more j' kind e one) one.same_claims one.account_is
+      (ap (λ (a : Account). a.objective) one.account_is ∙ h.same_objective ∙ sym (ap (λ (s : JudgeState). s.before) one.same_judge))
+      (subst (λ f. AreOf text (f ∷ []) line) one.event_is is)
 
   pub tells_block : (text : Event → List ℕ → Type 0) (j' : Jury) (block : SolutionBlock) (v : Verdict)
       (line : List ℕ) → JudgesOneMore j j' block v
       → AreOf text (block_told j.judge.model.aim j.account (last_outcome j'.judge v)) line
       → TellsOneMore o text m j' parts os (BlockPart block) line
   tells_block text j' block v line one is =
-      let out = last_outcome j'.judge v in
-      tells_entry text j' (BlockPart block) (BlockEntry out) (os ++ out ∷ []) line (entries_block os parts out block each)
-      (subst (λ bs. HasJudged o.completion m j'.judge bs (os ++ out ∷ [])) (sym (blocks_with_block parts block)) (judged_more o.completion m j j' (blocks_in parts) os block v one h.judged))
-      one.same_claims one.account_is is
+      tells_outcome text j' (BlockPart block) (OfBlock (last_outcome j'.judge v)) line (judged_more o m j j' parts os block v one h.judged)
+      one.same_claims one.account_is (ap (λ (a : Account). a.objective) one.account_is) is
 
   pub leaves_block : (most : ℕ) (block : the_block.Block) (e : CheckError)
       → IsUnjudged most j block e → HasPlaces block → EndsWithin most block → IsUntold m parts (BlockPart (block_of block)) e
@@ -120,7 +127,7 @@ module _ (o : Options) (m : Model) (j : Jury) (parts : List StreamPart) (os : Li
     block = block;
     places = places;
     part_is = refl;
-    number_is = u.0 ∙ ap suc (ap (λ (a : Account). a.blocks) h.account_is ∙ blocks_told m.aim o.claims os parts each);
+    number_is = u.0 ∙ ap suc (ap (λ (a : Account). a.blocks) h.account_is ∙ blocks_told o m parts os have_outcomes);
     not_memory = u.1;
     refused = subst (λ l. IsBlockRefusal l block e) h.judged.same_model (u.2 places within);
   }

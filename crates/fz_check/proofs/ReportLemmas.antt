@@ -17,10 +17,10 @@ use Rattle.fz_judge.proofs.of_filling.Completing.{accepted_judged}
 use Rattle.fz_judge.proofs.of_filling.Each.{each_satisfied, each_violated, each_not_better}
 use Rattle.fz_check.specs.Headline.{HasSolutionsWithin}
 use Rattle.fz_check.specs.declared.options.Options.{Options}
-use Rattle.fz_check.specs.Claims.{HasReportWith, IsReportWith, IsTrueOf, account, entries, no_account, verdicts_of}
+use Rattle.fz_check.specs.Claims.{HasReportWith, IsReportWith, IsTrueOf, account, no_account, verdicts_of}
 use Rattle.fz_check.specs.Report.{Event}
 use Rattle.fz_check.specs.Reported.{AreBorneOut}
-use Rattle.fz_check.proofs.ClaimLemmas.{accepted_without, all_solved, all_true, outcomes_told}
+use Rattle.fz_check.proofs.ClaimLemmas.{accepted_without, all_true, outcomes_told}
 
 pub borne_out : (completion : Completion) (t : LocatedTree) (blocks : List SolutionBlock)
     (vs : List Verdict) → HasNoFault t → AreVerdicts completion (model_of t) blocks vs
@@ -39,7 +39,7 @@ module _ (o : Options) (model : List ℕ) (m : Model) (stream : List ℕ) (event
   verdicts = verdicts_of r.outcomes
 
   are : AreVerdicts o.completion (model_of loaded.tree) blocks verdicts
-  are = subst (λ n. AreVerdicts o.completion n blocks verdicts) loaded.is (outcomes_told blocks r.outcomes r.have_outcomes)
+  are = subst (λ n. AreVerdicts o.completion n blocks verdicts) loaded.is (outcomes_told o m None None r.parts r.outcomes r.have_outcomes)
 
   pub reported : HasReportWith o model stream events answer
   reported = record {
@@ -48,7 +48,7 @@ module _ (o : Options) (model : List ℕ) (m : Model) (stream : List ℕ) (event
     holds = (
       r,
       subst (λ n. AreBorneOut n blocks verdicts) (sym loaded.is) (borne_out o.completion loaded.tree blocks verdicts loaded.no_fault are),
-      λ knows. subst (AllByRecursion (IsTrueOf m)) (sym r.events_are) (all_true m o.claims no_account (entries r.outcomes r.parts) knows tt (all_solved m o.completion None None blocks r.outcomes r.parts r.have_outcomes)),
+      λ knows. subst (AllByRecursion (IsTrueOf m)) (sym r.events_are) (all_true m o no_account None r.parts r.outcomes knows tt r.have_outcomes),
     );
   }
 
@@ -56,7 +56,7 @@ module _ (o : Options) (model : List ℕ) (m : Model) (stream : List ℕ) (event
   pub accepted_solutions : (count : ℕ) → answer ≡ Accepted count
       → HasSolutionsWithin o.limits model stream count
   accepted_solutions count accepted =
-      let refuted = (account m.aim o.claims no_account (entries r.outcomes r.parts)).refuted in
+      let refuted = (account m.aim o.claims no_account r.outcomes).refuted in
       let told : answer_of verdicts ≡ Accepted count = accepted_without refuted (answer_of verdicts) count (sym r.answer_is ∙ accepted) in
       let (solutions, counted, some) = accepted_solves (model_of loaded.tree) blocks verdicts count (sound_aims loaded.tree loaded.no_fault)
       (accepted_judged o.completion loaded.tree loaded.no_fault blocks verdicts count are told) told in

@@ -62,7 +62,7 @@ pub record Living (o : Options) (text : Event → List ℕ → Type 0) (m : Mode
   pub stands : StandsAt o.limits s left' given parts
   pub outcomes : List Outcome
   pub told : HasTold o m j parts outcomes
-  pub gathered : HasWritten text (told_of m o.claims outcomes parts) w w' lines
+  pub gathered : HasWritten text (told_of m o.claims outcomes) w w' lines
   pub counted : s.splitter.stage ≡ Running → j.account.blocks ≤ s.splitter.taken
 
 pub living_first : (o : Options) (text : Event → List ℕ → Type 0) (m : Model) (s : ReaderState) (j : Jury) (reads : ℕ) (left w : Option (List ℕ)) (lines : List ℕ) → HasTold o m j [] [] → j.account ≡ no_account → HasRead o.limits s [] [] → s.pieces ≡ record { pending = []; reads = reads; at_end = false } → lines ≡ [] → Living o text m reads s j left left w w lines
@@ -91,14 +91,14 @@ stands_front h f =
 module _ (o : Options) (text : Event → List ℕ → Type 0) (m : Model) (reads : ℕ) (j : Jury) (left left' w w' : Option (List ℕ)) (lines given : List ℕ) (consumes : Consumes left left' given)
     (few : length given ≤ reads * piece_size) (parts : List StreamPart) (outcomes : List Outcome) (told : HasTold o m j parts outcomes) where
   -- all of the parts were told, and of the lines that waited these are left
-  module _ (w'' : Option (List ℕ)) (rest : List ℕ) (onward : (next : Option (List ℕ)) → WritesFront w'' next rest → WritesFront w' next lines) (last : List Event) (inside : EndInside o.limits left' given parts) (are_last : AreLast o left' given parts (answer_told m o.claims outcomes parts) last) (gathered : HasWritten text (told_of m o.claims outcomes parts ++ last) w w' lines) where
+  module _ (w'' : Option (List ℕ)) (rest : List ℕ) (onward : (next : Option (List ℕ)) → WritesFront w'' next rest → WritesFront w' next lines) (last : List Event) (inside : EndInside o.limits left' given parts) (are_last : AreLast o left' given parts (answer_told m o.claims outcomes) last) (gathered : HasWritten text (told_of m o.claims outcomes ++ last) w w' lines) where
     pub stand : Stands o text m reads left left' w w'' rest
-    stand = record { given = given; consumes = consumes; few = few; parts = parts; end_inside = inside; outcomes = outcomes; have_outcomes = have_outcomes o m j parts outcomes told; last = last; are_last = are_last; front = λ next f. front_of text (told_of m o.claims outcomes parts ++ last) w w' next lines gathered (onward next f) }
+    stand = record { given = given; consumes = consumes; few = few; parts = parts; end_inside = inside; outcomes = outcomes; have_outcomes = have_outcomes o m j parts outcomes told; last = last; are_last = are_last; front = λ next f. front_of text (told_of m o.claims outcomes ++ last) w w' next lines gathered (onward next f) }
 
-  module _ (inside : EndInside o.limits left' given parts) (gathered : HasWritten text (told_of m o.claims outcomes parts) w w' lines) where
+  module _ (inside : EndInside o.limits left' given parts) (gathered : HasWritten text (told_of m o.claims outcomes) w w' lines) where
     pub stand_then : (w'' : Option (List ℕ)) (rest : List ℕ) → ((next : Option (List ℕ)) → WritesFront w'' next rest → WritesFront w' next lines)
         → Stands o text m reads left left' w w'' rest
-    stand_then w'' rest onward = stand w'' rest onward [] inside (inl refl) (subst (λ es. HasWritten text es w w' lines) (sym (append-nil (told_of m o.claims outcomes parts))) gathered)
+    stand_then w'' rest onward = stand w'' rest onward [] inside (inl refl) (subst (λ es. HasWritten text es w w' lines) (sym (append-nil (told_of m o.claims outcomes))) gathered)
 
     pub stand_so_far : Stands o text m reads left left' w w' lines
     stand_so_far = stand_then w' lines (λ next f. f)
@@ -173,7 +173,7 @@ module _ {o : Options} {text : Event → List ℕ → Type 0} {m : Model} {reads
       one : TellsOneMore o text m j' l.parts l.outcomes part line
       one = read_and_told.2
 
-      with_line : HasWritten text (told_of m o.claims one.more (l.parts ++ part ∷ [])) w w' (lines ++ line)
+      with_line : HasWritten text (told_of m o.claims one.more) w w' (lines ++ line)
       with_line = (l.gathered.0 ++ line, one.lines l.gathered.0 l.gathered.1, wrote_longer w w' l.gathered.0 lines _ (lines ++ line) line l.gathered.2 refl refl)
 
       pub living_told : (w'' : Option (List ℕ)) (lines' : List ℕ) → Wrote w' w'' (lines ++ line) lines'
@@ -222,7 +222,7 @@ module _ {o : Options} {text : Event → List ℕ → Type 0} {m : Model} {reads
     gave_all : Consumes left left'' given
     gave_all = Consumes-trans left left' left'' l.given next.pieces.pending l.consumes consumes
 
-    wrote : HasWritten text (told_of m o.claims l.outcomes l.parts) w w'' rest
+    wrote : HasWritten text (told_of m o.claims l.outcomes) w w'' rest
     wrote = (l.gathered.0, l.gathered.1, wrote_on w w' w'' _ lines rest l.gathered.2 (wrote_whole w' w'' lines rest written all_written))
 
     -- the read failed
@@ -264,25 +264,25 @@ module _ {o : Options} {text : Event → List ℕ → Type 0} {m : Model} {reads
     module _ (answer : the_answer.Answer)
         (is : answer_view answer ≡ answer_of_account j.account)
         (lines' : List ℕ) where
-      answered : answer_view answer ≡ answer_told m o.claims l.outcomes l.parts
+      answered : answer_view answer ≡ answer_told m o.claims l.outcomes
       answered = answer_is o m j l.parts l.outcomes l.told (answer_view answer) is
 
       abbrev pub last : List Event
       last = cut_events cut ++ Answered (answer_view answer) ∷ []
 
       module _ (added : Adds (AreOf text last) lines lines') where
-        gathered_all : HasWritten text (told_of m o.claims l.outcomes l.parts ++ last) w w' lines'
+        gathered_all : HasWritten text (told_of m o.claims l.outcomes ++ last) w w' lines'
         gathered_all = (
           l.gathered.0 ++ added.0,
-          more_of text (told_of m o.claims l.outcomes l.parts) last l.gathered.0 added.0 l.gathered.1 added.2,
+          more_of text (told_of m o.claims l.outcomes) last l.gathered.0 added.0 l.gathered.1 added.2,
           wrote_longer w w' l.gathered.0 lines _ lines' added.0 l.gathered.2 refl added.1,
         )
 
-        are_last : AreLast o left' l.given l.parts (answer_told m o.claims l.outcomes l.parts) last
+        are_last : AreLast o left' l.given l.parts (answer_told m o.claims l.outcomes) last
         are_last = inr (
           at_end.0,
           holds_at_end o.ending l.given l.parts cut (λ front before. IsStreamTextWithin o.limits front l.parts
-              × (last ≡ before ++ Answered (answer_told m o.claims l.outcomes l.parts) ∷ [])) at_end.1
+              × (last ≡ before ++ Answered (answer_told m o.claims l.outcomes) ∷ [])) at_end.1
               (λ front t. (t, ap (λ a. cut_events cut ++ Answered a ∷ []) answered)),
         )
 
@@ -293,7 +293,7 @@ module _ {o : Options} {text : Event → List ℕ → Type 0} {m : Model} {reads
         told_here : (front : List ℕ) → IsStreamTextWithin o.limits front l.parts
             → IsToldWith o (cut_events cut) text m front w w' lines' (answer_view answer)
         told_here front t = record {
-          events = told_of m o.claims l.outcomes l.parts;
+          events = told_of m o.claims l.outcomes;
           report = record {
             parts = l.parts;
             text_of_stream = t;

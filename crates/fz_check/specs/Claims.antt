@@ -1,13 +1,12 @@
--- Which claims of a solver on its whole search are refuted, and by which block (this project's
--- profile). A claim is refuted by one solution; that a claim is so is never told.
-use Rattle.std.specs.Prelude.{◌≡◌, ℕ, ℤ, Bool, true, false, cond, List, [], ◌∷◌, ◌++◌, map, Option, Some, None, IfSome, int_lt, nat_le, ◌+◌, option_map, ⊤}
+-- Which claims of a solver on its whole search are refuted, and by which block, and which are
+-- proved (this project's profile). A claim is refuted by one solution.
+use Rattle.std.specs.Prelude.{◌≡◌, ℕ, ℤ, Bool, true, false, cond, List, [], ◌∷◌, ◌++◌, Option, Some, None, IfSome, nat_le, ◌+◌, option_map, ⊤}
 use Rattle.std.specs.List.{AllByRecursion}
 use Rattle.std.specs.Option.{option_or}
 use Rattle.fz_judge.specs.of_syntax.Places.{standard_limits}
 use Rattle.fz_judge.specs.of_model.Located.{LocatedTree}
 use Rattle.fz_judge.specs.of_model.Names.{HasNoFault, model_of}
 use Rattle.fz_judge.specs.of_model.Meaning.{Aim, Model, Partial, Assignment, IsSolution, objective, whole}
-use Rattle.fz_judge.specs.of_model.Meaning.Aim.{Satisfy, Minimize, Maximize}
 use Rattle.fz_judge.specs.of_stream.declared.line.ClaimKind.{ClaimKind}
 use Rattle.fz_judge.specs.of_stream.declared.line.ClaimKind.TheVariants.{Complete, Unsatisfiable}
 use Rattle.fz_judge.specs.of_stream.Found.{claims_in}
@@ -19,6 +18,7 @@ use Rattle.fz_judge.specs.of_filling.Completed.{IsToldBy}
 use Rattle.fz_judge.specs.of_filling.Verdict.{Verdict, Answer, IsFilled, answer_of, is_undecided, is_violated, verdict}
 use Rattle.fz_judge.specs.of_filling.Verdict.Verdict.{Satisfied}
 use Rattle.fz_judge.specs.of_filling.Verdict.Answer.{Rejected, ClaimRejected}
+use Rattle.fz_judge.specs.of_search.Claims.{HasNoneBeyond, beats, is_better}
 use Rattle.fz_check.specs.declared.claims.Saying.{Saying}
 use Rattle.fz_check.specs.declared.claims.Saying.TheVariants.{Nothing, NoSolution, NoneBetter}
 use Rattle.fz_check.specs.declared.claims.Statement.{Statement}
@@ -30,20 +30,15 @@ use Rattle.fz_check.specs.declared.claims.Refuter.TheVariants as refuters
 use Rattle.fz_check.specs.declared.claims.Known.{Known}
 use Rattle.fz_check.specs.declared.claims.Claims.{Claims}
 use Rattle.fz_check.specs.declared.claims.Claims.TheVariants.{NotJudged, Judged as ClaimsJudged}
+use Rattle.fz_check.specs.declared.claims.Proofs.TheVariants as proving
 use Rattle.fz_check.specs.declared.account.Account.{Account}
 use Rattle.fz_check.specs.declared.options.Ending.TheVariants.{Whole}
 use Rattle.fz_check.specs.declared.options.Options.{Options}
 use Rattle.fz_check.specs.Report.{Event, in_order}
-use Rattle.fz_check.specs.Report.Event.{Judged, Claimed, Refuted}
+use Rattle.fz_check.specs.Report.Event.{Judged, Claimed, Proved, Refuted}
 use Rattle.fz_check.specs.Reported.{AreBorneOut, HoldsOfModelWithin}
 
--- ---- what a claim says, and when that is false
-
--- whether an objective is strictly better than another
-abbrev pub is_better : Aim → ℤ → ℤ → Bool
-is_better Satisfy other now = false
-is_better (Minimize t) other now = int_lt now other
-is_better (Maximize t) other now = int_lt other now
+-- ---- what a claim says, and when that is false or true
 
 -- what a claim says behind a block with this objective: that there is no solution, or none that is
 -- better
@@ -54,22 +49,39 @@ saying _ _ = Nothing
 
 -- whether a solution with this objective refutes it
 abbrev pub refutes : Aim → Saying → Option ℤ → Bool
-refutes aim NoSolution now = true
-refutes aim (NoneBetter last) (Some now) = is_better aim last now
-refutes aim _ _ = false
+refutes aim Nothing now = false
+refutes aim NoSolution now = beats aim None now
+refutes aim (NoneBetter last) now = beats aim (Some last) now
 
 -- an assignment inside all domains that satisfies every definition and constraint refutes it
 abbrev pub IsFalse : Model → Saying → Type 0
 IsFalse m s = (A : Assignment) × IsSolution m A × (refutes m.aim s (objective m (whole A)) ≡ true)
 
--- ---- what is known of a block, and of other streams
+-- it says something, and no known-solution refutes it
+abbrev pub IsTrueClaim : Model → Saying → Type 0
+IsTrueClaim m Nothing = ⊥
+IsTrueClaim m NoSolution = HasNoneBeyond m None
+IsTrueClaim m (NoneBetter last) = HasNoneBeyond m (Some last)
 
--- a verdict, the objective under the block's filling, and the one under the values with which it is
--- satisfied
-pub record Outcome : Type 0 where
+-- So many nodes of a search show that, where claims are to be proved; or none do.
+abbrev pub IsShown : Claims → Model → Saying → Option ℕ → Type 0
+IsShown c m s None = ⊤
+IsShown (ClaimsJudged k proving.On) m s (Some nodes) = IsTrueClaim m s
+IsShown _ m s (Some nodes) = ⊥
+
+-- ---- what is known of a part of the stream, and of other streams
+
+-- of a block: a verdict, the objective under the block's filling, and the one under the values with
+-- which it is satisfied
+pub record BlockOutcome : Type 0 where
   pub verdict : Verdict
   pub filled : Option ℤ
   pub found : Option ℤ
+
+-- of a part: of a block, or of a claim, with how many nodes show it
+pub data Outcome : Type 0 where
+  OfBlock : BlockOutcome → Outcome
+  OfClaim : ClaimKind → Option ℕ → Outcome
 
 -- there is a solution with this objective
 abbrev pub HasSolutionWith : Model → Option ℤ → Type 0
@@ -83,7 +95,7 @@ IsSolvedWith m block o =
 -- The outcome of a block, where the block before has these objectives. The filling and the
 -- objectives are those of its verdict; where no values are looked for, there is one objective.
 pub record IsOutcome (c : Completion) (m : Model) (filled found : Option ℤ) (block : SolutionBlock)
-    (o : Outcome) : Type 0 where
+    (o : BlockOutcome) : Type 0 where
   pub filling : Partial
   pub is_filled : IsFilled c m block filling
   pub filled_is : o.filled ≡ objective m filling
@@ -91,20 +103,25 @@ pub record IsOutcome (c : Completion) (m : Model) (filled found : Option ℤ) (b
   pub one_objective : c ≡ Off → o.found ≡ o.filled
   pub solved : o.verdict ≡ Satisfied → IsSolvedWith m block o.found
 
--- those of blocks in order, of which each hands its objectives on to the next
-abbrev pub AreOutcomes : Completion → Model → Option ℤ → Option ℤ → List SolutionBlock
-    → List Outcome → Type 0
-AreOutcomes c m filled found [] [] = ⊤
-AreOutcomes c m filled found (b ∷ bs) (o ∷ os) =
-    IsOutcome c m filled found b o × AreOutcomes c m o.filled o.found bs os
-AreOutcomes c m filled found _ _ = ⊥
+-- those of parts in order, of which each block hands its objectives on to the next
+abbrev pub AreOutcomes : Options → Model → Option ℤ → Option ℤ → List StreamPart → List Outcome
+    → Type 0
+AreOutcomes o m filled found [] [] = ⊤
+AreOutcomes o m filled found (BlockPart block ∷ ps) (OfBlock b ∷ os) =
+    IsOutcome o.completion m filled found block b × AreOutcomes o m b.filled b.found ps os
+AreOutcomes o m filled found (ClaimPart kind ∷ ps) (OfClaim claimed shown ∷ os) =
+    (claimed ≡ kind) × IsShown o.claims m (saying claimed filled) shown
+    × AreOutcomes o m filled found ps os
+AreOutcomes o m filled found _ _ = ⊥
 
 abbrev pub verdicts_of : List Outcome → List Verdict
-verdicts_of os = map (λ o. o.verdict) os
+verdicts_of [] = []
+verdicts_of (OfBlock b ∷ os) = b.verdict ∷ verdicts_of os
+verdicts_of (OfClaim kind shown ∷ os) = verdicts_of os
 
--- the blocks among the parts have these outcomes; the first is compared with nothing
-abbrev pub HaveOutcomes : Completion → Model → List StreamPart → List Outcome → Type 0
-HaveOutcomes c m parts outcomes = AreOutcomes c m None None (blocks_in parts) outcomes
+-- the parts have these outcomes; the first block is compared with nothing
+abbrev pub HaveOutcomes : Options → Model → List StreamPart → List Outcome → Type 0
+HaveOutcomes o m parts outcomes = AreOutcomes o m None None parts outcomes
 
 -- what is known of other streams is so: there are solutions, one with the best objective
 pub record Knows (m : Model) (k : Known) : Type 0 where
@@ -144,10 +161,13 @@ abbrev pub own_refuter : Account → Saying → Option Refuter
 own_refuter a NoSolution = option_map refuters.Block a.satisfied
 own_refuter a s = None
 
+abbrev pub block_refuter : Aim → Known → Account → Saying → Option Refuter
+block_refuter aim k a s =
+    option_or (own_refuter a s) (option_map refuters.Known (known_refuter aim k s))
+
 abbrev pub refuter : Aim → Claims → Account → Saying → Option Refuter
 refuter aim NotJudged a s = None
-refuter aim (ClaimsJudged k) a s =
-    option_or (own_refuter a s) (option_map refuters.Known (known_refuter aim k s))
+refuter aim (ClaimsJudged k p) a s = block_refuter aim k a s
 
 -- the claim that comes next
 abbrev pub statement : Account → ClaimKind → Statement
@@ -160,8 +180,8 @@ earliest (Some first) n = Some (cond (nat_le first n) first n)
 -- of the claims that a later block may refute the last one waits
 abbrev pub waiting : Claims → Option Refuter → Saying → Statement → Option Statement
     → Option Statement
-waiting (ClaimsJudged k) None NoSolution s before = Some s
-waiting (ClaimsJudged k) None (NoneBetter last) s before = Some s
+waiting (ClaimsJudged k p) None NoSolution s before = Some s
+waiting (ClaimsJudged k p) None (NoneBetter last) s before = Some s
 waiting _ _ _ s before = before
 
 abbrev pub refuted_by : Option Refuter → ℕ → Option ℕ → Option ℕ
@@ -226,53 +246,44 @@ abbrev pub claim_refutation : Aim → Claims → Account → ClaimKind → Optio
 claim_refutation aim c a kind = option_map (λ by. record { claim = statement a kind; by = by })
     (refuter aim c a (saying kind a.objective))
 
-abbrev pub claim_event : ClaimKind → Option Refutation → Event
-claim_event kind None = Claimed kind
-claim_event kind (Some r) = Refuted r
+-- of a claim, what refutes it, and how many nodes show it
+abbrev pub claim_event : Statement → Option Refutation → Option ℕ → Event
+claim_event s (Some r) shown = Refuted r
+claim_event s None (Some nodes) = Proved s nodes
+claim_event s None None = Claimed s.kind
 
 abbrev pub late_events : Option Statement → ℕ → List Event
 late_events None number = []
 late_events (Some s) number =
     Refuted (record { claim = s; by = refuters.Behind number }) ∷ []
 
-abbrev pub claim_told : Aim → Claims → Account → ClaimKind → Event
-claim_told aim c a kind = claim_event kind (claim_refutation aim c a kind)
+abbrev pub claim_told : Aim → Claims → Account → ClaimKind → Option ℕ → Event
+claim_told aim c a kind shown =
+    claim_event (statement a kind) (claim_refutation aim c a kind) shown
 
-abbrev pub block_told : Aim → Account → Outcome → List Event
-block_told aim a o = Judged (a.blocks + 1) o.verdict
-    ∷ late_events (late_refuted aim a.waiting (is_satisfied o.verdict) o.found) (a.blocks + 1)
+abbrev pub block_told : Aim → Account → BlockOutcome → List Event
+block_told aim a b = Judged (a.blocks + 1) b.verdict
+    ∷ late_events (late_refuted aim a.waiting (is_satisfied b.verdict) b.found) (a.blocks + 1)
 
--- a part of a stream as a report has it: a block by its outcome, or a claim
-pub data Entry : Type 0 where
-  BlockEntry : Outcome → Entry
-  ClaimEntry : ClaimKind → Entry
+abbrev pub behind : Aim → Claims → Account → Outcome → Account
+behind aim c a (OfClaim kind shown) = behind_claim aim c a kind
+behind aim c a (OfBlock b) = behind_block aim a b.verdict b.filled b.found
 
--- the parts so, where their blocks have these outcomes
-abbrev pub entries : List Outcome → List StreamPart → List Entry
-entries os [] = []
-entries os (ClaimPart kind ∷ ps) = ClaimEntry kind ∷ entries os ps
-entries [] (BlockPart b ∷ ps) = entries [] ps
-entries (o ∷ os) (BlockPart b ∷ ps) = BlockEntry o ∷ entries os ps
+abbrev pub outcome_told : Aim → Claims → Account → Outcome → List Event
+outcome_told aim c a (OfClaim kind shown) = claim_told aim c a kind shown ∷ []
+outcome_told aim c a (OfBlock b) = block_told aim a b
 
-abbrev pub behind : Aim → Claims → Account → Entry → Account
-behind aim c a (ClaimEntry kind) = behind_claim aim c a kind
-behind aim c a (BlockEntry o) = behind_block aim a o.verdict o.filled o.found
-
-abbrev pub entry_told : Aim → Claims → Account → Entry → List Event
-entry_told aim c a (ClaimEntry kind) = claim_told aim c a kind ∷ []
-entry_told aim c a (BlockEntry o) = block_told aim a o
-
--- the events of entries that come behind this account, and the account behind them
-abbrev pub told : Aim → Claims → Account → List Entry → List Event
+-- the events of outcomes that come behind this account, and the account behind them
+abbrev pub told : Aim → Claims → Account → List Outcome → List Event
 told aim c a [] = []
-told aim c a (e ∷ es) = entry_told aim c a e ++ told aim c (behind aim c a e) es
+told aim c a (o ∷ os) = outcome_told aim c a o ++ told aim c (behind aim c a o) os
 
-abbrev pub account : Aim → Claims → Account → List Entry → Account
+abbrev pub account : Aim → Claims → Account → List Outcome → Account
 account aim c a [] = a
-account aim c a (e ∷ es) = account aim c (behind aim c a e) es
+account aim c a (o ∷ os) = account aim c (behind aim c a o) os
 
-abbrev pub told_of : Model → Claims → List Outcome → List StreamPart → List Event
-told_of m c os ps = told m.aim c no_account (entries os ps)
+abbrev pub told_of : Model → Claims → List Outcome → List Event
+told_of m c os = told m.aim c no_account os
 
 -- What stands first in the stream rejects it: a violated block, or a refuted claim, which comes
 -- after so many blocks.
@@ -281,9 +292,9 @@ answer_with None answer = answer
 answer_with (Some n) (Rejected block) = cond (nat_le block n) (Rejected block) (ClaimRejected n)
 answer_with (Some n) answer = ClaimRejected n
 
-abbrev pub answer_told : Model → Claims → List Outcome → List StreamPart → Answer
-answer_told m c os ps =
-    answer_with (account m.aim c no_account (entries os ps)).refuted (answer_of (verdicts_of os))
+abbrev pub answer_told : Model → Claims → List Outcome → Answer
+answer_told m c os =
+    answer_with (account m.aim c no_account os).refuted (answer_of (verdicts_of os))
 
 -- ---- the report
 
@@ -291,31 +302,39 @@ answer_told m c os ps =
 -- ones
 abbrev pub standard_options : Options
 standard_options =
-    record { completion = Off; ending = Whole; claims = NotJudged; limits = standard_limits }
+    record {
+      completion = Off;
+      steps = 4000000;
+      ending = Whole;
+      claims = NotJudged;
+      limits = standard_limits;
+    }
 
 -- The stream's bytes are a text of parts within the limits. The report tells of each part in order,
--- of a block with its verdict and of a claim whether it is refuted; the answer follows from these.
+-- of a block with its verdict and of a claim whether it is refuted or proved; the answer follows
+-- from these.
 pub record IsReportWith (o : Options) (m : Model) (stream : List ℕ) (events : List Event)
     (answer : Answer) : Type 0 where
   pub parts : List StreamPart
   pub text_of_stream : IsStreamTextWithin o.limits stream parts
   pub outcomes : List Outcome
-  pub have_outcomes : HaveOutcomes o.completion m parts outcomes
-  pub answer_is : answer ≡ answer_told m o.claims outcomes parts
-  pub events_are : events ≡ told_of m o.claims outcomes parts
+  pub have_outcomes : HaveOutcomes o m parts outcomes
+  pub answer_is : answer ≡ answer_told m o.claims outcomes
+  pub events_are : events ≡ told_of m o.claims outcomes
 
 -- what an event says of a claim is so
 abbrev pub IsTrueOf : Model → Event → Type 0
 IsTrueOf m (Refuted r) = IsFalse m r.claim.says
+IsTrueOf m (Proved s nodes) = IsTrueClaim m s.says
 IsTrueOf m _ = ⊤
 
 -- what is known of other streams is so
 abbrev pub KnowsOf : Model → Claims → Type 0
 KnowsOf m NotJudged = ⊤
-KnowsOf m (ClaimsJudged k) = Knows m k
+KnowsOf m (ClaimsJudged k p) = Knows m k
 
--- The events are the report of the tree's model on the stream, its verdicts are borne out, and each
--- claim that it tells as refuted is false.
+-- The events are the report of the tree's model on the stream, its verdicts are borne out, each
+-- claim that it tells as refuted is false, and each that it tells as proved is true.
 abbrev pub HasReportWith : Options → List ℕ → List ℕ → List Event → Answer → Type 0
 HasReportWith o model stream events answer = HoldsOfModelWithin o.limits model
     (λ m. (r : IsReportWith o m stream events answer)
@@ -326,19 +345,19 @@ abbrev pub HasReport : List ℕ → List ℕ → List Event → Answer → Type 
 HasReport = HasReportWith standard_options
 
 -- What the lines tell that were written is so, also where the stream is refused behind them: their
--- verdicts are borne out, and each claim that they tell as refuted is false.
+-- verdicts are borne out, each claim that they tell as refuted is false, and each that they tell as
+-- proved is true.
 abbrev pub WrittenLinesAreBorneOut : Type 0
-WrittenLinesAreBorneOut = (claims : Claims) (c : Completion) (t : LocatedTree)
-    (parts : List StreamPart) (outcomes : List Outcome) → HasNoFault t
-    → HaveOutcomes c (model_of t) parts outcomes
+WrittenLinesAreBorneOut = (o : Options) (t : LocatedTree) (parts : List StreamPart)
+    (outcomes : List Outcome) → HasNoFault t → HaveOutcomes o (model_of t) parts outcomes
     → AreBorneOut (model_of t) (blocks_in parts) (verdicts_of outcomes)
-    × (KnowsOf (model_of t) claims
-    → AllByRecursion (IsTrueOf (model_of t)) (told_of (model_of t) claims outcomes parts))
+    × (KnowsOf (model_of t) o.claims
+    → AllByRecursion (IsTrueOf (model_of t)) (told_of (model_of t) o.claims outcomes))
 
 -- where claims aren't judged, the events are the verdicts and the claims in their order, and the
 -- answer is that of the verdicts
 abbrev pub UnaskedClaimsAreNotJudged : Type 0
-UnaskedClaimsAreNotJudged = (c : Completion) (m : Model) (ps : List StreamPart) (os : List Outcome)
-    → (HaveOutcomes c m ps os
-    → told_of m NotJudged os ps ≡ in_order 0 (verdicts_of os) (claims_in 0 ps))
-    × (answer_told m NotJudged os ps ≡ answer_of (verdicts_of os))
+UnaskedClaimsAreNotJudged = (o : Options) (m : Model) (ps : List StreamPart) (os : List Outcome)
+    → (o.claims ≡ NotJudged → HaveOutcomes o m ps os
+    → told_of m NotJudged os ≡ in_order 0 (verdicts_of os) (claims_in 0 ps))
+    × (answer_told m NotJudged os ≡ answer_of (verdicts_of os))

@@ -1,6 +1,6 @@
 -- What a check tells of a stream: the events of a report, and the line of each (this project's
 -- profile).
-use Rattle.std.specs.Prelude.{◌≡◌, ℕ, ◌+◌, List, [], ◌∷◌, ◌++◌, cond, map, nat_le, codes, decimal, flat_map}
+use Rattle.std.specs.Prelude.{◌≡◌, ℕ, ◌+◌, List, [], ◌∷◌, ◌++◌, cond, map, nat_eq, nat_le, codes, decimal, flat_map}
 use Rattle.std.specs.Fmt.{signed_decimal}
 use Rattle.fz_judge.specs.of_syntax.Span.{Span}
 use Rattle.fz_judge.specs.of_stream.declared.line.ClaimKind.{ClaimKind}
@@ -15,12 +15,15 @@ use Rattle.fz_check.specs.declared.claims.Refutation.{Refutation}
 use Rattle.fz_check.specs.declared.claims.Refuter.{Refuter}
 use Rattle.fz_check.specs.declared.claims.Refuter.TheVariants as refuters
 use Rattle.fz_check.specs.declared.claims.Source.{Source}
+use Rattle.fz_check.specs.declared.claims.Statement.{Statement}
 
--- the verdict on the block of this number, from 1; a claim that isn't refuted; one that is, with
--- what refutes it; what was cut off; the answer
+-- the verdict on the block of this number, from 1; a claim that is neither proved nor refuted; one
+-- that so many nodes of a search show; one that is refuted, with what refutes it; what was cut off;
+-- the answer
 pub data Event : Type 0 where
   Judged : ℕ → Verdict → Event
   Claimed : ClaimKind → Event
+  Proved : Statement → ℕ → Event
   Refuted : Refutation → Event
   CutOff : Span → Event
   Answered : Answer → Event
@@ -98,9 +101,14 @@ abbrev pub place_text : ℕ → Refuter → List ℕ
 place_text after (refuters.Behind n) = codes "claim after block " ++ decimal after ++ codes ": "
 place_text after _ = codes "claim: "
 
+abbrev pub nodes_text : ℕ → List ℕ
+nodes_text nodes = decimal nodes ++ cond (nat_eq nodes 1) (codes " node") (codes " nodes")
+
 abbrev pub event_text : Event → List ℕ
 event_text (Judged n v) = codes "block " ++ decimal n ++ codes ": " ++ verdict_text v
 event_text (Claimed k) = codes "claim: " ++ claim_text k ++ codes " not judged"
+event_text (Proved s nodes) =
+    codes "claim: " ++ claim_text s.kind ++ codes " proved, " ++ nodes_text nodes
 event_text (Refuted r) = place_text r.claim.after r.by ++ claim_text r.claim.kind
     ++ codes " refuted by " ++ refuter_text r.by
 event_text (CutOff span) = codes "cut: " ++ decimal span.start ++ codes ".." ++ decimal span.end

@@ -90,8 +90,8 @@ pub record StopsAfterEvents (o : Options) (text : Event → List ℕ → Type 0)
   pub reads : Consumes left left' given
   pub parts : List StreamPart
   pub outcomes : List Outcome
-  pub have_outcomes : HaveOutcomes o.completion m parts outcomes
-  pub writes : Writes text (told_of m o.claims outcomes parts) written written'
+  pub have_outcomes : HaveOutcomes o m parts outcomes
+  pub writes : Writes text (told_of m o.claims outcomes) written written'
   pub why : EndsFor o m left' given parts e
 
 -- no event, or that of the answer where the bytes have ended, behind what was cut off
@@ -110,10 +110,10 @@ pub record WritesFrontOfEvents (o : Options) (text : Event → List ℕ → Type
   pub parts : List StreamPart
   pub end_inside : EndInside o.limits left' given parts
   pub outcomes : List Outcome
-  pub have_outcomes : HaveOutcomes o.completion m parts outcomes
+  pub have_outcomes : HaveOutcomes o m parts outcomes
   pub last : List Event
-  pub are_last : AreLast o left' given parts (answer_told m o.claims outcomes parts) last
-  pub writes : WritesFrontOf text (told_of m o.claims outcomes parts ++ last) written written'
+  pub are_last : AreLast o left' given parts (answer_told m o.claims outcomes) last
+  pub writes : WritesFrontOf text (told_of m o.claims outcomes ++ last) written written'
 
 -- a failed write, or out of memory
 abbrev pub IsUnwritten : CheckError → Type 0

@@ -5,13 +5,13 @@ use Rattle.std.specs.Io.KnownBytes.{Appends, Consumes, IsAtEnd}
 use Rattle.fz_judge.specs.of_syntax.Limits.{Limits}
 use Rattle.fz_judge.specs.of_model.Meaning.{Model}
 use Rattle.fz_judge.specs.of_stream.declared.block.Block as the_block
+use Rattle.fz_judge.specs.of_stream.declared.line.ClaimKind.{ClaimKind}
 use Rattle.fz_judge.specs.of_stream.declared.error.StreamError.{StreamError}
 use Rattle.fz_judge.specs.of_stream.declared.error.StreamError.TheVariants as stream
 use Rattle.fz_judge.specs.of_stream.declared.error.StreamError.TheVariants.{Memory as StreamMemory}
 use Rattle.fz_judge.specs.of_stream.Faults.{IsStreamFault}
 use Rattle.fz_judge.specs.of_stream.Found.{EndsWithin, HasPlaces}
-use Rattle.fz_judge.specs.of_stream.Parts.{blocks_in, SolutionBlock, StreamPart, Frame, IsStreamTextWithin}
-use Rattle.fz_judge.specs.of_filling.declared.completion.Completion.{Completion}
+use Rattle.fz_judge.specs.of_stream.Parts.{SolutionBlock, StreamPart, Frame, IsStreamTextWithin}
 use Rattle.fz_judge.specs.of_filling.Verdict.{Answer, Verdict}
 use Rattle.fz_judge.specs.of_filling.declared.error.BlockError.TheVariants.{Memory}
 use Rattle.fz_judge.specs.of_filling.Judged.{IsBlockRefusal, JudgeState}
@@ -25,7 +25,7 @@ use Rattle.fz_check.specs.declared.jury.Jury.{Jury}
 use Rattle.fz_check.specs.declared.reader.Step.{Step}
 use Rattle.fz_check.specs.declared.reader.Step.TheVariants.{End}
 use Rattle.fz_check.specs.Cutting.{HoldsOfJudged, IsCutOff}
-use Rattle.fz_check.specs.Claims.{AreOutcomes, HaveOutcomes, IsOutcome, IsReportWith, Outcome, account, answer_told, behind_block, entries, no_account, told_of}
+use Rattle.fz_check.specs.Claims.{AreOutcomes, BlockOutcome, HaveOutcomes, IsOutcome, IsReportWith, IsShown, Outcome, account, answer_told, behind_block, behind_claim, claim_told, no_account, saying, told_of}
 use Rattle.fz_check.specs.Report.{AreOf, Event}
 use Rattle.fz_check.specs.Report.Event.{CutOff, Answered}
 use Rattle.fz_check.specs.Refused.{HasStreamFault, IsFirstFault}
@@ -55,22 +55,22 @@ abbrev pub cut_events : Option Span → List Event
 cut_events None = []
 cut_events (Some span) = CutOff span ∷ []
 
--- The outcomes of blocks that come behind these, which leave such objectives, go on from them.
-abbrev pub OutcomesGoOn : Completion → Model → List SolutionBlock → List Outcome → Option ℤ
-    → Option ℤ → Type 0
-OutcomesGoOn c m blocks outcomes filled found =
-    (more : List SolutionBlock) (others : List Outcome) → AreOutcomes c m filled found more others
-    → AreOutcomes c m None None (blocks ++ more) (outcomes ++ others)
+-- The outcomes of parts that come behind these, which leave such objectives, go on from them.
+abbrev pub OutcomesGoOn : Options → Model → List StreamPart → List Outcome → Option ℤ → Option ℤ
+    → Type 0
+OutcomesGoOn o m parts outcomes filled found =
+    (more : List StreamPart) (others : List Outcome) → AreOutcomes o m filled found more others
+    → AreOutcomes o m None None (parts ++ more) (outcomes ++ others)
 
--- The blocks were judged with these outcomes. What is judged from here on goes on from them.
-pub record HasJudged (c : Completion) (m : Model) (j : JudgeState) (blocks : List SolutionBlock)
+-- The parts were judged with these outcomes. What is judged from here on goes on from them.
+pub record HasJudged (o : Options) (m : Model) (j : JudgeState) (parts : List StreamPart)
     (outcomes : List Outcome) : Type 0 where
   pub same_model : j.model ≡ m
-  pub same_completion : j.completion ≡ c
-  pub goes_on : OutcomesGoOn c m blocks outcomes j.before j.found
+  pub same_completion : j.completion ≡ o.completion
+  pub goes_on : OutcomesGoOn o m parts outcomes j.before j.found
 
 -- the outcome of the block that was judged last, with this verdict
-abbrev pub last_outcome : JudgeState → Verdict → Outcome
+abbrev pub last_outcome : JudgeState → Verdict → BlockOutcome
 last_outcome j v = record { verdict = v; filled = j.before; found = j.found }
 
 -- the next block was judged, with this verdict, and is accounted for
@@ -83,6 +83,15 @@ pub record JudgesOneMore (j j' : Jury) (block : SolutionBlock) (v : Verdict) : T
   pub account_is : j'.account
       ≡ behind_block j.judge.model.aim j.account v j'.judge.before j'.judge.found
 
+-- the next claim was judged, with this told of it, and is accounted for
+pub record HearsOneMore (j j' : Jury) (kind : ClaimKind) (e : Event) : Type 0 where
+  pub shown : Option ℕ
+  pub is_shown : IsShown j.claims j.judge.model (saying kind j.account.objective) shown
+  pub event_is : e ≡ claim_told j.judge.model.aim j.claims j.account kind shown
+  pub same_judge : j'.judge ≡ j.judge
+  pub same_claims : j'.claims ≡ j.claims
+  pub account_is : j'.account ≡ behind_claim j.judge.model.aim j.claims j.account kind
+
 -- the next block is refused, with its number, or memory ran out; the block is one that ends within
 -- so many bytes
 abbrev pub IsUnjudged : ℕ → Jury → the_block.Block → CheckError → Type 0
@@ -91,12 +100,13 @@ IsUnjudged most j block (errors.Block n e) = (n ≡ suc j.account.blocks) × (e 
 IsUnjudged most j block errors.Memory = ⊤
 IsUnjudged most j block _ = ⊥
 
--- The blocks among the parts were judged with these outcomes, and the parts are accounted for.
+-- The parts were judged with these outcomes, and are accounted for.
 pub record HasTold (o : Options) (m : Model) (j : Jury) (parts : List StreamPart)
     (outcomes : List Outcome) : Type 0 where
-  pub judged : HasJudged o.completion m j.judge (blocks_in parts) outcomes
+  pub judged : HasJudged o m j.judge parts outcomes
   pub claims_are : j.claims ≡ o.claims
-  pub account_is : j.account ≡ account m.aim o.claims no_account (entries outcomes parts)
+  pub account_is : j.account ≡ account m.aim o.claims no_account outcomes
+  pub same_objective : j.account.objective ≡ j.judge.before
 
 -- One more part was told, by this line, whatever was told of those before it.
 pub record TellsOneMore (o : Options) (text : Event → List ℕ → Type 0) (m : Model) (j : Jury)
@@ -104,8 +114,8 @@ pub record TellsOneMore (o : Options) (text : Event → List ℕ → Type 0) (m 
     : Type 0 where
   pub more : List Outcome
   pub told : HasTold o m j (parts ++ part ∷ []) more
-  pub lines : (bytes : List ℕ) → AreOf text (told_of m o.claims outcomes parts) bytes
-      → AreOf text (told_of m o.claims more (parts ++ part ∷ [])) (bytes ++ line)
+  pub lines : (bytes : List ℕ) → AreOf text (told_of m o.claims outcomes) bytes
+      → AreOf text (told_of m o.claims more) (bytes ++ line)
 
 -- the next part is refused, so it is not told, or memory ran out
 abbrev pub IsUntold : Model → List StreamPart → StreamPart → CheckError → Type 0
@@ -151,11 +161,11 @@ pub record Stands (o : Options) (text : Event → List ℕ → Type 0) (m : Mode
   pub parts : List StreamPart
   pub end_inside : EndInside o.limits left' given parts
   pub outcomes : List Outcome
-  pub have_outcomes : HaveOutcomes o.completion m parts outcomes
+  pub have_outcomes : HaveOutcomes o m parts outcomes
   pub last : List Event
-  pub are_last : AreLast o left' given parts (answer_told m o.claims outcomes parts) last
+  pub are_last : AreLast o left' given parts (answer_told m o.claims outcomes) last
   pub front : (next : Option (List ℕ)) → WritesFront written' next lines
-      → WritesFrontOf text (told_of m o.claims outcomes parts ++ last) written next
+      → WritesFrontOf text (told_of m o.claims outcomes ++ last) written next
 
 -- no more could be written, or the check ends for this error once all of the lines that wait are
 abbrev pub StopsOnceWritten : Options → (Event → List ℕ → Type 0) → Model → Option (List ℕ)

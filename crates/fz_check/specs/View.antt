@@ -8,7 +8,7 @@ use Rattle.fz_check.specs.declared.event.Event as the_event
 use Rattle.fz_check.specs.declared.event.Event.TheVariants as events
 use Rattle.fz_check.specs.declared.report.Report.{Report}
 use Rattle.fz_check.specs.Report.{Event, in_order}
-use Rattle.fz_check.specs.Report.Event.{Judged, Claimed, Refuted, CutOff, Answered}
+use Rattle.fz_check.specs.Report.Event.{Judged, Claimed, Proved, Refuted, CutOff, Answered}
 
 abbrev pub answer_view : Answer → plain.Answer
 answer_view (answers.Accepted n) = plain.Answer.Accepted n
@@ -20,6 +20,7 @@ answer_view (answers.ClaimRejected n) = plain.Answer.ClaimRejected n
 abbrev pub event_view : the_event.Event → Event
 event_view (events.Block j) = Judged j.number (verdict_view j.verdict)
 event_view (events.Claim k) = Claimed k
+event_view (events.Proved s nodes) = Proved s nodes
 event_view (events.Refuted r) = Refuted r
 event_view (events.Cut span) = CutOff span
 event_view (events.Answer a) = Answered (answer_view a)

@@ -6,7 +6,7 @@ ghost use Rattle.std.specs.Option.{option_or};
 ghost use Rattle.fz_judge.specs.of_model.Parts.{goal_view};
 ghost use Rattle.fz_judge.specs.of_filling.Verdict.{answer_by, is_undecided, is_violated};
 ghost use Rattle.fz_judge.specs.of_filling.View.{verdict_view};
-ghost use Rattle.fz_check.specs.Claims.{answer_with, behind_block, behind_claim, claim_refutation, earliest, is_satisfied, late_refuted, no_account, refuter};
+ghost use Rattle.fz_check.specs.Claims.{answer_with, behind_block, behind_claim, block_refuter, claim_refutation, earliest, is_satisfied, late_refuted, no_account, statement};
 ghost use Rattle.fz_check.specs.View.{answer_view};
 
 use crate::claims::{Claims, Known, Refutation, Refuter, Saying, Statement, refutes, said_by};
@@ -124,10 +124,21 @@ impl Account {
         }
     }
 
+    /// The claim that comes next.
+    pub(crate) fn statement(&self, kind: ClaimKind) -> Statement
+        ensures { result ≡ statement self.now kind }
+    {
+        Statement {
+            after: self.blocks,
+            kind,
+            says: said_by(kind, self.objective),
+        }
+    }
+
     /// The block that refutes what is said, where one does: the first satisfied one before it, or
     /// else a known one.
     fn refuter<'k>(&self, goal: &Goal, known: &Known<'k>, says: Saying) -> Option<Refuter<'k>>
-        ensures { result ≡ refuter (goal_view goal.now) (Claims.Judged known.now) self.now says }
+        ensures { result ≡ block_refuter (goal_view goal.now) known.now self.now says }
     {
         if let Saying::NoSolution = says
             && let Some(number) = self.satisfied
@@ -151,19 +162,17 @@ impl Account {
             ≡ claim_refutation (goal_view goal.now) claims.now self.old kind }
         ensures heard { self.new ≡ behind_claim (goal_view goal.now) claims.now self.old kind }
     {
-        let Claims::Judged(known) = claims else {
+        let Claims::Judged(known, _) = claims else {
             return None;
         };
-        let after = self.blocks;
-        let says = said_by(kind, self.objective);
-        let claim = Statement { after, kind, says };
-        match self.refuter(goal, known, says) {
+        let claim = self.statement(kind);
+        match self.refuter(goal, known, claim.says) {
             Some(by) => {
-                self.refuted = earliest(self.refuted, after);
+                self.refuted = earliest(self.refuted, claim.after);
                 Some(Refutation { claim, by })
             }
             None => {
-                if !matches!(says, Saying::Nothing) {
+                if !matches!(claim.says, Saying::Nothing) {
                     self.waiting = Some(claim);
                 }
                 None

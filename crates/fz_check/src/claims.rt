@@ -2,7 +2,8 @@
 
 ghost use Rattle.std.specs.Prelude.{◌≡◌, None};
 ghost use Rattle.fz_judge.specs.of_model.Parts.{goal_view};
-ghost use Rattle.fz_check.specs.Claims.{is_better, known_refuter, known_with, refutes, saying};
+ghost use Rattle.fz_judge.specs.of_search.Claims.{is_better};
+ghost use Rattle.fz_check.specs.Claims.{known_refuter, known_with, refutes, saying};
 
 use fz_store::Goal;
 use fz_stream::ClaimKind;
@@ -66,11 +67,18 @@ pub struct Known<'k> {
     pub best: Option<Best<'k>>,
 }
 
+/// Whether a claim that no block refutes is to be proved.
+#[derive(Clone, Copy)]
+pub enum Proofs {
+    Off,
+    On,
+}
+
 /// Whether claims are judged, and by what they are refuted but the stream's own blocks.
 #[derive(Clone, Copy)]
 pub enum Claims<'k> {
     NotJudged,
-    Judged(Known<'k>),
+    Judged(Known<'k>, Proofs),
 }
 
 fn is_better(goal: &Goal, other: i64, now: i64) -> bool

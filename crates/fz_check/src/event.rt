@@ -6,8 +6,8 @@ ghost use Rattle.fz_check.specs.View.{event_view};
 ghost use Rattle.fz_check.specs.Writing.{Adds};
 
 use crate::account::Answer;
-use crate::claims::Refutation;
-use crate::line::{push_answer, push_block, push_claim, push_cut, push_refutation};
+use crate::claims::{Refutation, Statement};
+use crate::line::{push_answer, push_block, push_claim, push_cut, push_proof, push_refutation};
 use fz_filling::Verdict;
 use fz_index::Refutation as BoundsRefutation;
 use fz_store::Model;
@@ -36,8 +36,10 @@ pub struct Judged<'e, 'a> {
 #[derive(Clone, Copy)]
 pub enum Event<'e, 'a> {
     Block(Judged<'e, 'a>),
-    /// A claim that isn't refuted, at its place.
+    /// A claim that is neither refuted nor proved, at its place.
     Claim(ClaimKind),
+    /// A claim that is proved, at its place, and by how many nodes of a search.
+    Proved(Statement, usize),
     /// A claim that is refuted: at its place, or behind the block that refutes it.
     Refuted(Refutation<'e>),
     /// What was cut off, where the stream ends inside a block.
@@ -70,6 +72,7 @@ impl Taker for TextTaker {
         match event {
             Event::Block(judged) => push_block(line, judged.number, &judged.verdict),
             Event::Claim(kind) => push_claim(line, *kind),
+            Event::Proved(claim, nodes) => push_proof(line, claim, *nodes),
             Event::Refuted(refutation) => push_refutation(line, refutation),
             Event::Cut(span) => push_cut(line, *span),
             Event::Answer(answer) => push_answer(line, *answer),

@@ -4,19 +4,20 @@ ghost use Rattle.std.specs.Prelude.{◌≡◌, ◌+◌, ◌<◌, None, IfOk, IfE
 ghost use Rattle.fz_judge.specs.of_filling.Verdict.{answer_by};
 ghost use Rattle.fz_judge.specs.of_stream.Found.{block_of};
 ghost use Rattle.fz_judge.specs.of_filling.View.{verdict_view};
-ghost use Rattle.fz_check.specs.Claims.{answer_with, behind_claim, claim_refutation, is_satisfied, late_refuted, no_account};
-ghost use Rattle.fz_check.specs.Telling.{IsUnjudged, JudgesOneMore};
-ghost use Rattle.fz_check.specs.View.{answer_view};
+ghost use Rattle.fz_check.specs.Claims.{IsShown, answer_with, is_satisfied, late_refuted, no_account};
+ghost use Rattle.fz_check.specs.Telling.{HearsOneMore, IsUnjudged, JudgesOneMore};
+ghost use Rattle.fz_check.specs.View.{answer_view, event_view};
 
 use crate::account::{Account, Answer};
-use crate::claims::{Claims, Refutation, Statement};
+use crate::claims::{Claims, Proofs, Saying, Statement};
 use crate::error::CheckError;
+use crate::event::Event;
 use crate::options::Options;
 use fz_filling::{BlockError, Verdict};
 use fz_judge::Judge;
 use fz_store::Model;
 use fz_stream::{Block, ClaimKind};
-use std::alloc::Global;
+use std::alloc::{AllocError, Global};
 
 /// A judge of a model's blocks, and an account of what it judged.
 #[derive(Drop)]
@@ -40,7 +41,7 @@ impl<'m, 'a, 'k> Jury<'m, 'a, 'k> {
         ensures claims { result.claims ≡ options.entry.claims }
     {
         Jury {
-            judge: Judge::completing(model, options.completion),
+            judge: Judge::completing(model, options.completion, options.steps),
             account: Account::new(),
             claims: options.claims,
         }
@@ -73,17 +74,45 @@ impl<'m, 'a, 'k> Jury<'m, 'a, 'k> {
         Ok((verdict, late))
     }
 
-    /// Judges the next claim of the stream. It gives the solution that refutes it, if there is one.
-    pub(crate) fn hear_claim(&mut self, kind: ClaimKind) -> Option<Refutation<'k>>
-        ensures refutation { result ≡ claim_refutation self.old.judge.model.aim self.old.claims
-            self.old.account kind }
-        ensures heard { self.new.account ≡ behind_claim self.old.judge.model.aim self.old.claims
-            self.old.account kind }
-        ensures counted { self.new.account.blocks ≡ self.old.account.blocks }
-        ensures same { (self.new.judge ≡ self.old.judge) × (self.new.claims ≡ self.old.claims) }
+    /// How many nodes show what a claim says, where that is asked for, and some do.
+    fn shown(&mut self, alloc: Global, says: Saying) -> Result<Option<usize>, AllocError>
+        ensures shown { IfOk result (IsShown self.old.claims self.old.judge.model says) }
+        ensures same_judge { self.new.judge ≡ self.old.judge }
+        ensures same_account { self.new.account ≡ self.old.account }
+        ensures same_claims { self.new.claims ≡ self.old.claims }
     {
+        let Claims::Judged(_, proofs) = self.claims else {
+            return Ok(None);
+        };
+        let Proofs::On = proofs else {
+            return Ok(None);
+        };
+        match says {
+            Saying::Nothing => Ok(None),
+            Saying::NoSolution => self.judge.shows(alloc, None),
+            Saying::NoneBetter(last) => self.judge.shows(alloc, Some(last)),
+        }
+    }
+
+    /// Judges the next claim of the stream, and gives what is told of it. Where no block refutes
+    /// it, it may be proved.
+    pub(crate) fn hear_claim(
+        &mut self,
+        alloc: Global,
+        kind: ClaimKind,
+    ) -> Result<Event<'k, 'k>, AllocError>
+        ensures heard { IfOk result (λ e. HearsOneMore self.old self.new kind (event_view e)) }
+        ensures counted { OnOk result (self.new.account.blocks ≡ self.old.account.blocks) }
+    {
+        let claim = self.account.statement(kind);
         let goal = self.judge.model().goal();
-        self.account.hear_claim(goal, &self.claims, kind)
+        if let Some(refutation) = self.account.hear_claim(goal, &self.claims, kind) {
+            return Ok(Event::Refuted(refutation));
+        }
+        match self.shown(alloc, claim.says)? {
+            Some(nodes) => Ok(Event::Proved(claim, nodes)),
+            None => Ok(Event::Claim(kind)),
+        }
     }
 
     /// The answer on what was judged.

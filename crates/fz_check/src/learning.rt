@@ -105,7 +105,7 @@ pub fn learn<'k, R: Read, L: Listener>(
     ensures knows { Knows model.now known.old → Knows model.now known.new }
 {
     let mut parts = PartReader::new(alloc, reads, options.limits);
-    let mut judge = Judge::completing(model, options.completion);
+    let mut judge = Judge::completing(model, options.completion, options.steps);
     loop {
         match parts.advance(Ending::Whole) {
             Ok(Step::Part) => {

@@ -29,7 +29,7 @@ ghost use Rattle.fz_check.specs.Cutting.{IsCutOnlyWhereOpen};
 
 pub use account::Answer;
 pub use checking::{check, read_model, show, show_printing_all, show_with};
-pub use claims::{Best, Claims, Known, Refutation, Refuter, Saying, Source, Statement};
+pub use claims::{Best, Claims, Known, Proofs, Refutation, Refuter, Saying, Source, Statement};
 pub use error::CheckError;
 pub use event::{Event, Judged, Taker, TextTaker};
 pub use fz_filling::{BlockError, Completion, Fault, Reason, Verdict, fill, fill_with_steps};
@@ -44,7 +44,7 @@ pub use report::{Report, report_text};
 pub use streaming::{MOST_READS, check_events, check_stream, check_stream_up_to};
 
 /// What the lines say that were written before a refusal is so, as it is of a report: of the
-/// verdicts and of the claims that are refuted.
+/// verdicts, and of the claims that are refuted or proved.
 pub fn written_lines_are_borne_out()
     ensures { WrittenLinesAreBorneOut }
 {}

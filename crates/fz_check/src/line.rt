@@ -1,13 +1,13 @@
 //! The lines of a report, one at a time.
 
 ghost use Rattle.std.specs.Prelude.{◌≡◌, ◌++◌, ◌∷◌, [], IfOk, OnOk, codes, decimal};
-ghost use Rattle.fz_check.specs.Report.{claim_text, event_line, place_text, refuter_text, verdict_text};
-ghost use Rattle.fz_check.specs.Report.Event.{Answered, Claimed, CutOff, Judged, Refuted};
+ghost use Rattle.fz_check.specs.Report.{claim_text, event_line, nodes_text, place_text, refuter_text, verdict_text};
+ghost use Rattle.fz_check.specs.Report.Event.{Answered, Claimed, CutOff, Judged, Proved, Refuted};
 ghost use Rattle.fz_judge.specs.of_filling.View.{verdict_view};
 ghost use Rattle.fz_check.specs.View.{answer_view};
 
 use crate::account::Answer;
-use crate::claims::{Refutation, Refuter};
+use crate::claims::{Refutation, Refuter, Statement};
 use crate::text::{push_bytes, push_count, push_fault, push_reason};
 use fz_filling::Verdict;
 use fz_stream::{ClaimKind, Span};
@@ -35,6 +35,34 @@ pub(crate) fn push_claim(text: &mut Vec<u8>, kind: ClaimKind) -> Result<(), Allo
     push_bytes(text, b"claim: ")?;
     push_bytes(text, claim_text(kind))?;
     push_bytes(text, b" not judged\n")?;
+    Ok(())
+}
+
+/// Adds how many nodes there are, with the LF.
+fn push_nodes(text: &mut Vec<u8>, nodes: usize) -> Result<(), AllocError>
+    ensures { OnOk result (text.new.items ≡ text.old.items ++ (nodes_text nodes ++ 10 ∷ [])) }
+{
+    push_count(text, nodes)?;
+    if nodes == 1 {
+        push_bytes(text, b" node\n")
+    } else {
+        push_bytes(text, b" nodes\n")
+    }
+}
+
+/// Adds the line of a claim that so many nodes show.
+pub(crate) fn push_proof(
+    text: &mut Vec<u8>,
+    claim: &Statement,
+    nodes: usize,
+) -> Result<(), AllocError>
+    ensures { OnOk result (text.new.items
+        ≡ text.old.items ++ event_line (Proved claim.now nodes)) }
+{
+    push_bytes(text, b"claim: ")?;
+    push_bytes(text, claim_text(claim.kind))?;
+    push_bytes(text, b" proved, ")?;
+    push_nodes(text, nodes)?;
     Ok(())
 }
 

@@ -2,6 +2,7 @@
 
 use crate::claims::Claims;
 use fz_filling::Completion;
+use fz_judge::STEPS;
 use fz_stream::Limits;
 
 /// What becomes of a stream that ends inside a block, such as that of a solver that was killed.
@@ -18,6 +19,10 @@ pub enum Ending {
 pub struct Options<'k> {
     /// Whether values are searched for that the solver left out.
     pub completion: Completion,
+    /// The most steps of a search for values, each time that it goes through a tree, and 100 more
+    /// for each point of the model and each scalar in it. One that proves a claim may take ten
+    /// times as many.
+    pub steps: usize,
     pub ending: Ending,
     pub claims: Claims<'k>,
     /// The limits of the model's text, and of the text of a block with the line after it.
@@ -29,6 +34,7 @@ impl Options<'static> {
     /// standard ones.
     pub const STANDARD: Options<'static> = Options {
         completion: Completion::Off,
+        steps: STEPS,
         ending: Ending::Whole,
         claims: Claims::NotJudged,
         limits: Limits::STANDARD,

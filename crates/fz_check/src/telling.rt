@@ -105,9 +105,9 @@ fn tell_part<T: Taker>(
             };
             make_block_line(taker, line, judged, refuted)
         }
-        Part::Claim(kind) => match jury.hear_claim(*kind) {
-            Some(refutation) => make_line(taker, line, &Event::Refuted(refutation)),
-            None => make_line(taker, line, &Event::Claim(*kind)),
+        Part::Claim(kind) => match jury.hear_claim(alloc, *kind) {
+            Ok(event) => make_line(taker, line, &event),
+            Err(_) => Err(CheckError::Memory),
         },
     }
 }

@@ -10,8 +10,8 @@ pub const VERSION: &str = "fzcheck 0.4.0";
 pub const HELP: &str = "\
 fzcheck: checks the output of a FlatZinc solver against its model
 
-fzcheck check [--large] [--complete] [--cut] [--claims] [--known STREAM]..
-        [--explain[=all] [--names FILE]] [--json] MODEL [STREAM]
+fzcheck check [--large] [--complete] [--complete-steps N] [--cut] [--claims[=prove]]
+        [--known STREAM].. [--explain[=all] [--names FILE]] [--json] MODEL [STREAM]
     Judges each solution block of the file STREAM, or of standard input where it is left out,
     against the model in the file MODEL. There is a line for each block and claim, and then the
     answer. An option that is given twice counts once.
@@ -19,10 +19,17 @@ fzcheck check [--large] [--complete] [--cut] [--claims] [--known STREAM]..
                 to 134,217,728 elements, in the place of 1,048,576, and blocks as large
     --complete  looks for values that the solver left out, and judges what it finds; where bounds
                 prove that there are none, the block is violated
+    --complete-steps N
+                sets the work of each search, of --complete and of --claims=prove: N steps in the
+                place of 4,000,000, of which a claim may take ten times as many, and 100 more for
+                each point of the model and each scalar in it
     --cut       where the stream ends inside a block, as that of a solver does that was killed,
                 judges what comes before that block, and tells the byte range of what it left out
     --claims    judges claims on the whole search as far as a satisfied block refutes them: that
                 there is no solution, or none better than the last one
+    --claims=prove
+                the same, and proves those that no block refutes, where a search of its own comes
+                to its end, and tells by how many nodes
     --known STREAM
                 as --claims, and up to 64 times: the blocks of another solver's stream, each judged
                 by itself before all others, refute claims too

@@ -1,9 +1,10 @@
 //! The words of the command line.
 
-ghost use Rattle.std.specs.Prelude.{◌≡◌, ◌≢◌, [], true, false};
-ghost use Rattle.fz_command.specs.declared.words.Judging.TheVariants.{Asked, Implied, Nothing};
+ghost use Rattle.std.specs.Prelude.{◌≡◌, ◌≢◌, [], IfNone, IfSome};
+ghost use Rattle.fz_command.specs.declared.words.Judging.TheVariants.{Asked, Implied, Nothing, Proving};
 
 use crate::pages::VERSION;
+use clap::builder::ValueParser;
 use clap::error::ErrorKind;
 use clap::{Arg, ArgAction, ArgMatches, Command, Error};
 use std::alloc::{AllocError, Global};
@@ -48,6 +49,8 @@ pub enum Size {
 pub struct CheckOptions {
     /// Whether values that the solver left out are searched for.
     pub completes: bool,
+    /// The most steps of a search, where a number is asked for.
+    pub steps: Option<usize>,
     /// Whether a block is cut off in which the stream ends.
     pub cuts: bool,
     pub judging: Judging,
@@ -62,22 +65,25 @@ pub enum Judging {
     Nothing,
     /// They are, by `--claims`.
     Asked,
+    /// They are, and each that no block refutes is to be proved, by `--claims=prove`.
+    Proving,
     /// They are, since `--known` names streams, though `--claims` isn't there.
     Implied,
 }
 
 impl Judging {
-    fn of(claims: bool, known: &[&str]) -> Judging
-        ensures asked { claims ≡ true → result ≡ Asked }
-        ensures implied { claims ≡ false → known.now ≢ [] → result ≡ Implied }
-        ensures nothing { claims ≡ false → known.now ≡ [] → result ≡ Nothing }
+    /// By what the uses of `--claims` name, where there are some.
+    fn of(claims: Option<&[&str]>, known: &[&str]) -> Judging
+        ensures asked { IfSome claims.entry (λ named. named.now ≡ [] → result ≡ Asked) }
+        ensures proving { IfSome claims.entry (λ named. named.now ≢ [] → result ≡ Proving) }
+        ensures implied { IfNone claims.entry (known.now ≢ [] → result ≡ Implied) }
+        ensures nothing { IfNone claims.entry (known.now ≡ [] → result ≡ Nothing) }
     {
-        if claims {
-            Judging::Asked
-        } else if known.is_empty() {
-            Judging::Nothing
-        } else {
-            Judging::Implied
+        match claims {
+            Some([]) => Judging::Asked,
+            Some(_) => Judging::Proving,
+            None if known.is_empty() => Judging::Nothing,
+            None => Judging::Implied,
         }
     }
 }
@@ -189,12 +195,14 @@ fn request_of<'a>(alloc: Global, matches: &ArgMatches<'a>) -> Result<Request<'a>
 fn check_of<'a>(alloc: Global, given: &ArgMatches<'a>) -> Result<Request<'a>, Refused> {
     let model = model_of(given)?;
     let names = only(alloc, given, "names")?;
+    let steps = only(alloc, given, "complete-steps")?;
     let explains = explaining_of(only(alloc, given, "explain")?);
     let known = known_of(alloc, given)?;
     let options = CheckOptions {
         completes: given.get_flag("complete"),
+        steps: steps.and_then(|number| number.parse().ok()),
         cuts: given.get_flag("cut"),
-        judging: Judging::of(given.get_flag("claims"), &known),
+        judging: Judging::of(given.get_strs("claims"), &known),
         explains,
         form: form_of(given),
         size: size_of(given),
@@ -313,12 +321,35 @@ fn check_command<'a>(alloc: Global) -> Result<Command<'a>, AllocError> {
     over_model(alloc, "check")?
         .arg(file_word(alloc, "STREAM"))?
         .arg(flag(alloc, "complete"))?
+        .arg(steps_option(alloc))?
         .arg(flag(alloc, "cut"))?
-        .arg(flag(alloc, "claims"))?
+        .arg(claims_option(alloc))?
         .arg(known_option(alloc))?
         .arg(flag(alloc, "json"))?
         .arg(explain_option(alloc))?
         .arg(names_option(alloc)?)
+}
+
+/// The option that is `--complete-steps N`.
+fn steps_option<'a>(alloc: Global) -> Arg<'a> {
+    Arg::new(alloc, "complete-steps")
+        .long("complete-steps")
+        .value_name("N")
+        .action(ArgAction::Append)
+        .value_parser(ValueParser::unsigned(0, i64::MAX as u64))
+}
+
+/// What `--claims` may name.
+const CLAIMED: [&str; 1] = ["prove"];
+
+/// The option that is `--claims`, or `--claims=prove`.
+fn claims_option<'a>(alloc: Global) -> Arg<'a> {
+    Arg::new(alloc, "claims")
+        .long("claims")
+        .action(ArgAction::Append)
+        .num_args(0..=1)
+        .require_equals(true)
+        .value_parser(CLAIMED.as_slice())
 }
 
 /// The most known streams.

@@ -3,7 +3,7 @@
 use crate::notes::{Known, Note, Origin, by_its_domain, giver_of, note_with};
 use crate::remarks::Remarks;
 use crate::verdict::Reading;
-use fz_index::{Left, Narrower, Narrowing};
+use fz_index::{Ends, Left, Narrower, Narrowing};
 use fz_store::{Kind, Model};
 use std::alloc::{AllocError, Global};
 
@@ -59,8 +59,7 @@ fn narrower_of(
             giver_of(alloc, reading, &reading.model.point(point))
         }
         Narrower::Point(_) => Ok(Origin::Nothing),
-        Narrower::Trial(number) => {
-            let (low, high) = (number, number);
+        Narrower::Trial(Ends { low, high }) => {
             let tried = bounds_text(alloc, Bounds { low, high, kind })?;
             let giver = format!(in alloc; "a trial of {tried}")?;
             Ok(Origin::Given(giver, None, Remarks::none(alloc)))

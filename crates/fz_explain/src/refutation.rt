@@ -10,8 +10,13 @@ use crate::verdict::Reading;
 use fz_index::Refutation;
 use std::alloc::{AllocError, Global};
 
-/// What is said behind the bounds.
-const NONE_WILL_DO: &str = "no choice of these will do here";
+/// What is said behind the bounds, where so many choices were tried.
+fn none_will_do(alloc: Global, tried: usize) -> Result<String, AllocError> {
+    if tried <= 1 {
+        return String::from_str(alloc, "no choice of these will do here");
+    }
+    format!(in alloc; "no choice of the values left out will do: {tried} were tried")
+}
 
 /// Adds the variables in the point that can't hold: those with a value, and those without one with
 /// their bounds, and what narrowed these.
@@ -36,5 +41,5 @@ pub(crate) fn note_refutation(
             .push(note_on_bounds(alloc, reading, *left, step)?)?;
     }
     note_chain(alloc, reading, message, point, steps)?;
-    message.note(String::from_str(alloc, NONE_WILL_DO)?)
+    message.note(none_will_do(alloc, refutation.tried)?)
 }

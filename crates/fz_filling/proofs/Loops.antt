@@ -1,4 +1,4 @@
--- Lists of blocks and parts as a loop builds them, one more at the end: verdicts and answers.
+-- Lists of blocks as a loop builds them, one more at the end: verdicts and answers.
 use Rattle.std.proofs.Common.{◌≡◌, ℕ, suc, ◌+◌, ℤ, Bool, true, false, cond, List, [], ◌∷◌, ◌++◌, length, Option, Some, None, refl, sym, ap, subst₂, ◌∙◌, arith, append-nil, append_assoc, add-zero}
 use Rattle.std.specs.Option.{option_or}
 use Rattle.fz_index.specs.of_model.Meaning.{Model, Partial, objective}
@@ -6,8 +6,7 @@ use Rattle.fz_filling.specs.declared.completion.Completion.{Completion}
 use Rattle.fz_filling.specs.Completed.{AreTold, AreVerdicts, IsToldBy}
 use Rattle.fz_filling.specs.Completed.AreTold.{NoneLeft, OneMore}
 use Rattle.fz_filling.specs.Verdict.{Verdict, verdict, IsFilled, first_number}
-use Rattle.fz_stream.specs.declared.line.ClaimKind.{ClaimKind}
-use Rattle.fz_stream.specs.Parts.{SolutionBlock, StreamPart, BlockPart, ClaimPart, blocks_in}
+use Rattle.fz_stream.specs.Parts.{SolutionBlock}
 
 -- ---- verdicts: what is judged after these blocks, with the objective kept, goes on from them
 
@@ -24,20 +23,6 @@ goes_on_after c m blocks vs filled found kept block v F goes is_filled told = λ
 pub goes_on_judged : (c : Completion) (m : Model) (blocks : List SolutionBlock) (vs : List Verdict)
     (filled found : Option ℤ) → GoesOn c m blocks vs filled found → AreVerdicts c m blocks vs
 goes_on_judged c m blocks vs filled found goes = subst₂ (λ bs us. AreVerdicts c m bs us) (append-nil blocks) (append-nil vs) (goes [] [] NoneLeft)
-
--- ---- the blocks among parts
-
-pub blocks_with_block : (ps : List StreamPart) (b : SolutionBlock)
-    → blocks_in (ps ++ BlockPart b ∷ []) ≡ blocks_in ps ++ b ∷ []
-blocks_with_block [] b = refl
-blocks_with_block (BlockPart c ∷ ps) b = ap (λ bs. c ∷ bs) (blocks_with_block ps b)
-blocks_with_block (ClaimPart k ∷ ps) b = blocks_with_block ps b
-
-pub blocks_with_claim : (ps : List StreamPart) (k : ClaimKind)
-    → blocks_in (ps ++ ClaimPart k ∷ []) ≡ blocks_in ps
-blocks_with_claim [] k = refl
-blocks_with_claim (BlockPart c ∷ ps) k = ap (λ bs. c ∷ bs) (blocks_with_claim ps k)
-blocks_with_claim (ClaimPart j ∷ ps) k = blocks_with_claim ps k
 
 -- ---- the first verdict of a kind
 

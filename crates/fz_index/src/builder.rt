@@ -4,7 +4,7 @@ use crate::arguments::{declared_elements, elements_in, scalar_in, slots_of};
 use crate::relations::{Shape, Terms, shape_of};
 use crate::row::{Product, Relation, Row, Visit};
 use fz_store::{
-    ConstraintParts, Form, Kind, Model, PointParts, Scalar, Scalars, Slot, Term, scalar_at,
+    Builtin, ConstraintParts, Form, Kind, Model, PointParts, Scalar, Scalars, Slot, Term, scalar_at,
 };
 use std::alloc::{AllocError, Global};
 
@@ -122,7 +122,10 @@ impl Builder {
             return Ok(Visit::Linear(row));
         }
         self.add_arguments(parts)?;
-        Ok(Visit::Plain)
+        match parts.posted.known.map(|known| (known.builtin, known.form)) {
+            Some((Builtin::FznAllDifferentInt, Form::Base)) => Ok(Visit::Different),
+            _ => Ok(Visit::Plain),
+        }
     }
 
     /// Adds all variables of a constraint that is no linear row.

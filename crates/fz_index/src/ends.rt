@@ -23,20 +23,6 @@ impl Ends {
         }
     }
 
-    /// Whether a number lies within them.
-    pub fn has(self, number: i64) -> bool {
-        self.low <= number && number <= self.high
-    }
-
-    /// The number that is so many steps from an end.
-    pub fn counted(self, from: End, steps: i64) -> Option<i64> {
-        let number = match from {
-            End::Low => self.low.checked_add(steps)?,
-            End::High => self.high.checked_sub(steps)?,
-        };
-        self.has(number).then_some(number)
-    }
-
     /// The same without so many numbers from an end on.
     pub fn less(self, from: End, count: i64) -> Ends {
         let mut left = self;
@@ -45,6 +31,17 @@ impl Ends {
             End::High => left.high = left.high.saturating_sub(count),
         }
         left
+    }
+
+    /// The same without a number, where that is an end.
+    pub fn without(self, number: i64) -> Ends {
+        if number == self.low {
+            self.less(End::Low, 1)
+        } else if number == self.high {
+            self.less(End::High, 1)
+        } else {
+            self
+        }
     }
 
     /// How far apart the ends are.
@@ -63,13 +60,5 @@ impl Ends {
     pub fn reach(self, coefficient: i64) -> i128 {
         let (low, high) = self.times(coefficient);
         high.saturating_sub(low)
-    }
-
-    /// The numbers that lie within both.
-    pub fn within(self, other: Ends) -> Ends {
-        Ends {
-            low: self.low.max(other.low),
-            high: self.high.min(other.high),
-        }
     }
 }

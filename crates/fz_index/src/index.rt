@@ -53,11 +53,6 @@ impl Search {
         }
     }
 
-    /// How many variables there are.
-    pub fn variables(&self) -> usize {
-        self.points.domains.len()
-    }
-
     /// The point that is the domain of a variable.
     pub fn domain_of(&self, variable: usize) -> usize {
         self.points.domains.get(variable).copied().unwrap_or(0)

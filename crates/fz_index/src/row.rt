@@ -82,6 +82,8 @@ impl Relation {
 pub enum Visit {
     /// as a linear row
     Linear(Row),
+    /// as variables that are all different
+    Different,
     /// variable by variable, from both ends of its bounds
     Plain,
 }

@@ -1,6 +1,7 @@
 //! A judge: blocks, one after another, against a model.
 
 ghost use Rattle.std.specs.Prelude.{◌≡◌, IfErr, IfOk, IfSome, None, option_map};
+ghost use Rattle.fz_search.specs.Claims.{HasNoneBeyond};
 ghost use Rattle.fz_search.specs.of_model.Meaning.{IsPartial, objective};
 ghost use Rattle.fz_search.specs.of_model.Overviews.{IsOverview};
 ghost use Rattle.fz_filling.specs.of_stream.Found.{EndsWithin, HasPlaces, block_of};
@@ -20,7 +21,7 @@ use fz_filling::{
 };
 use fz_index::{Refutation, Search};
 use fz_model::Overview;
-use fz_search::{Found, search};
+use fz_search::{Found, prove, search};
 use fz_store::{Model, Partial};
 use fz_stream::Block;
 use std::alloc::{AllocError, Global};
@@ -120,12 +121,18 @@ fn compared<'a>(model: &Model<'a>, before: Option<i64>, now: Option<i64>) -> Ver
 /// bounds refute the block, where they do.
 type Told<'a> = (Verdict<'a>, Option<i64>, Option<Refutation>);
 
+/// So many steps are taken at most, each time that a search goes through a tree, where no other
+/// number is asked for. Besides there are 100 for each point of the model and each scalar in it.
+pub const STEPS: usize = 4_000_000;
+
 /// A model with the objectives of the block that was judged last, why bounds refute it where they
 /// do, and what one block leaves to make the next one quicker.
 #[derive(Drop)]
 pub struct Judge<'m, 'a> {
     model: &'m Model<'a>,
     completion: Completion,
+    /// the most steps of a search
+    steps: usize,
     /// the objective of the block before under its filling
     before: Option<i64>,
     /// the objective of the block before under the values that were found for it
@@ -178,11 +185,12 @@ impl<'m, 'a> Judge<'m, 'a> {
           refuted = None;
         } }
     {
-        Judge::completing(model, Completion::Off)
+        Judge::completing(model, Completion::Off, STEPS)
     }
 
-    /// A judge that completes blocks in this way, before the first one.
-    pub fn completing(model: &'m Model<'a>, completion: Completion) -> Judge<'m, 'a>
+    /// A judge that completes blocks in this way, before the first one. Each search takes so many
+    /// steps at most, and 100 more for each point of the model and each scalar in it.
+    pub fn completing(model: &'m Model<'a>, completion: Completion, steps: usize) -> Judge<'m, 'a>
         ensures { result ≡ record {
           model = model.now;
           completion = completion;
@@ -194,6 +202,7 @@ impl<'m, 'a> Judge<'m, 'a> {
         Judge {
             model,
             completion,
+            steps,
             before: None,
             found: None,
             refuted: None,
@@ -327,7 +336,8 @@ impl<'m, 'a> Judge<'m, 'a> {
         let Reason::NoValue(_) = reason else {
             return Ok((Verdict::Undecided(reason), now, None));
         };
-        match search(alloc, self.model, filling, self.found, &mut self.search)? {
+        let known = &mut self.search;
+        match search(alloc, self.model, filling, self.found, self.steps, known)? {
             Found::Values(values) => match self.satisfied(alloc, &values, block)? {
                 Some(found) => Ok((Verdict::Satisfied, found, None)),
                 None => Ok((Verdict::Undecided(reason), now, None)),
@@ -360,6 +370,20 @@ impl<'m, 'a> Judge<'m, 'a> {
             Verdict::Satisfied => Ok(Some(now)),
             Verdict::Violated(_) | Verdict::Undecided(_) => Ok(None),
         }
+    }
+
+    /// How many nodes show that no known-solution has an objective better than `last`, or where
+    /// that is none, that there is none at all. It gives nothing where the search for that doesn't
+    /// come to its end, or finds a solution.
+    ///
+    /// # Errors
+    ///
+    /// Out of memory.
+    pub fn shows(&mut self, alloc: Global, last: Option<i64>) -> Result<Option<usize>, AllocError>
+        ensures same { self.new ≡ self.old }
+        ensures shown { IfOk result (λ o. IfSome o (λ _. HasNoneBeyond self.old.model last)) }
+    {
+        prove(alloc, self.model, last, self.steps, &mut self.search)
     }
 
     /// The verdict on the next block, under its filling: the first that fails of the printed names

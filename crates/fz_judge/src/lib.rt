@@ -8,4 +8,4 @@
 
 mod judge;
 
-pub use judge::Judge;
+pub use judge::{Judge, STEPS};

@@ -126,11 +126,19 @@ pub fn block_line(
     object.line()
 }
 
-/// The line of a claim that comes after so many blocks.
-pub fn claim_line(alloc: Global, kind: ClaimKind, after: usize) -> Result<Vec<u8>, AllocError> {
+/// The line of a claim that comes after so many blocks, and is proved by so many nodes, or isn't.
+pub fn claim_line(
+    alloc: Global,
+    kind: ClaimKind,
+    after: usize,
+    nodes: Option<usize>,
+) -> Result<Vec<u8>, AllocError> {
     let mut object = Object::new(alloc)?;
     object.word("claim", claim_text(kind))?;
     object.count("after", after)?;
+    if let Some(nodes) = nodes {
+        object.count("proved", nodes)?;
+    }
     object.line()
 }
 

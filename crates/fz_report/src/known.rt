@@ -7,7 +7,7 @@ ghost use Rattle.fz_command.specs.declared.words.Judging.TheVariants.{Nothing};
 use crate::options::{limits_of, options_of};
 use crate::reading::{Unread, open_file};
 use fz_check::{
-    BlockError, CheckError, Claims, Known, Listener, MOST_READS, Model, Source, Verdict,
+    BlockError, CheckError, Claims, Known, Listener, MOST_READS, Model, Proofs, Source, Verdict,
     block_text, learn, read_model, refusal_text,
 };
 use fz_command::{CheckOptions, Judging};
@@ -26,14 +26,16 @@ pub fn claims_of<'k>(
     ensures unasked { options.judging ≡ Nothing → IfOk result (λ claims. claims ≡ NotJudged) }
     ensures asked { options.judging ≢ Nothing → IfOk result (λ claims. claims ≢ NotJudged) }
 {
-    match options.judging {
-        Judging::Nothing => Ok(Claims::NotJudged),
-        Judging::Asked => Ok(Claims::Judged(known_of(rt, options, model, names)?)),
+    let proofs = match options.judging {
+        Judging::Nothing => return Ok(Claims::NotJudged),
+        Judging::Asked => Proofs::Off,
+        Judging::Proving => Proofs::On,
         Judging::Implied => {
             let _ = eprintln!(rt; "{AS_IF_ASKED}");
-            Ok(Claims::Judged(known_of(rt, options, model, names)?))
+            Proofs::Off
         }
-    }
+    };
+    Ok(Claims::Judged(known_of(rt, options, model, names)?, proofs))
 }
 
 /// What is told where claims are judged for their streams alone.

@@ -24,6 +24,7 @@ pub fn limits_of(size: Size) -> Limits {
 pub fn options_of(asked: CheckOptions, claims: Claims<'_>) -> Options<'_> {
     Options {
         completion: completion_of(asked.completes),
+        steps: asked.steps.unwrap_or(Options::STANDARD.steps),
         ending: if asked.cuts {
             Ending::Cut
         } else {

@@ -1,2 +1,2 @@
 pub use Rattle.fz_bounds.proofs.of_model
-pub mod Keeping
+pub mod Nodes

@@ -1,15 +1,37 @@
 -- What a search tells (this project's profile).
-use Rattle.std.specs.Prelude.{◌<◌, length, ⊤}
-use Rattle.fz_bounds.specs.of_model.Meaning.{Assignment, IsPartial, Model, Partial, points, whole}
+use Rattle.std.specs.Prelude.{◌≡◌, ℕ, ℤ, ◌<◌, Bool, true, cond, length, Option, ⊤}
+use Rattle.fz_bounds.specs.of_model.Meaning.{Aim, Assignment, IsPartial, Model, Partial, objective, points, whole}
+use Rattle.fz_bounds.specs.of_model.Meaning.Aim.{Minimize, Maximize}
+use Rattle.fz_bounds.specs.of_model.of_builtins.of_meaning.declared.term.Term.TheVariants.{Var}
 use Rattle.fz_bounds.specs.of_model.Openings.{HasEach}
 use Rattle.fz_bounds.specs.of_model.States.{IsKnownSolution}
+use Rattle.fz_search.specs.Claims.{beats}
 use Rattle.fz_search.specs.declared.found.Found.{Found}
 use Rattle.fz_search.specs.declared.found.Found.TheVariants as founds
 
--- Values are of their variables' kinds. A refutation names a point, and then no known-solution has
--- the values of the filling.
-abbrev pub IsFoundFor : Model → Partial → Found → Type 0
-IsFoundFor m F (founds.Values K) = IsPartial m K
-IsFoundFor m F (founds.Refuted r) = (r.point < length (points m))
-    × ((A : Assignment) → IsKnownSolution m A → HasEach F (whole A) → ⊥)
-IsFoundFor m F founds.Nothing = ⊤
+-- what is asked: whether a known-solution of the model has the values of a filling, and where that
+-- is told, an objective better than this
+pub record Asked : Type 0 where
+  pub model : Model
+  pub filling : Partial
+  pub last : Option ℤ
+
+-- the assignment is one that is asked for
+abbrev pub IsSought : Asked → Assignment → Type 0
+IsSought q A = IsKnownSolution q.model A × HasEach q.filling (whole A)
+    × (beats q.model.aim q.last (objective q.model (whole A)) ≡ true)
+
+-- there is a point of this number, and no such known-solution
+abbrev pub IsRefutedAt : Asked → ℕ → Type 0
+IsRefutedAt q k = (k < length (points q.model)) × ((A : Assignment) → IsSought q A → ⊥)
+
+-- Values are of their variables' kinds. A refutation names a point.
+abbrev pub IsFoundFor : Asked → Found → Type 0
+IsFoundFor q (founds.Values K) = IsPartial q.model K
+IsFoundFor q (founds.Refuted r) = IsRefutedAt q r.point
+IsFoundFor q founds.Nothing = ⊤
+
+-- the objective is this variable, of which the less or the more is the better (private functions
+-- only)
+abbrev pub IsObjective : Aim → ℕ → Bool → Type 0
+IsObjective aim n is_cost = aim ≡ cond is_cost (Minimize (Var n)) (Maximize (Var n))

@@ -1,3 +1,4 @@
 pub use Rattle.fz_bounds.specs.of_model
+pub mod Claims
 pub mod Found
-pub mod Refuted
+pub mod Tree

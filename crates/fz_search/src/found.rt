@@ -11,6 +11,14 @@ pub(crate) struct Task<'m, 'a> {
     pub(crate) known: &'m Search,
     pub(crate) model: &'m Model<'a>,
     pub(crate) filling: &'m Partial,
+    /// the set variables among them
+    pub(crate) sets: &'m [usize],
+    /// whether an integer among them has no bounds
+    pub(crate) lacks_bounds: bool,
+    /// the objective of the block before, where a better one is looked for first
+    pub(crate) before: Option<i64>,
+    /// the objective that is to be beaten
+    pub(crate) last: Option<i64>,
 }
 
 /// What a search comes to for values that a block leaves out.

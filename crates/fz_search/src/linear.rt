@@ -1,10 +1,9 @@
 //! What linear rows leave to variables: bounds, and values of Booleans.
 
-use crate::stop::Stop;
-use crate::work::Work;
+use crate::work::{Trial, Work};
 use fz_bounds::{Outlook, Range};
 use fz_index::{Ends, Product, Relation, Row, Sums};
-use fz_store::Value;
+use std::alloc::AllocError;
 
 /// The number in 64 bits, or the nearest.
 fn nearest(number: i128) -> i64 {
@@ -52,17 +51,17 @@ fn exact(rest: i128, coefficient: i64) -> Option<i64> {
 
 impl<'m, 'a> Work<'m, 'a> {
     /// Visits a linear row.
-    pub(crate) fn visit_row(&mut self, point: usize, row: Row) -> Result<(), Stop> {
+    pub(crate) fn visit_row(&mut self, row: Row) -> Result<(), AllocError> {
         let Some(truth) = row.truth else {
-            return self.impose(point, row.relation);
+            return self.impose(row.relation);
         };
         match self.truth(truth) {
-            Some(true) => self.impose(point, row.relation),
+            Some(true) => self.impose(row.relation),
             Some(false) if row.is_half => Ok(()),
-            Some(false) => self.impose(point, row.relation.negated()),
-            None => match outlook_of(row.relation, self.standing(point).sums) {
-                Outlook::Always if !row.is_half => self.give(truth, Value::Bool(true)),
-                Outlook::Never => self.give(truth, Value::Bool(false)),
+            Some(false) => self.impose(row.relation.negated()),
+            None => match outlook_of(row.relation, self.standing(self.point).sums) {
+                Outlook::Always if !row.is_half => self.propose(truth, Ends::at(1)),
+                Outlook::Never => self.propose(truth, Ends::at(0)),
                 Outlook::Always | Outlook::Open => Ok(()),
             },
         }
@@ -74,51 +73,53 @@ impl<'m, 'a> Work<'m, 'a> {
         values.has(variable).then_some(values.truth(variable))
     }
 
-    /// Takes from the variables of a point the numbers with which a relation can't hold.
-    fn impose(&mut self, point: usize, relation: Relation) -> Result<(), Stop> {
+    /// Proposes to take from the variables of the point the numbers with which a relation can't
+    /// hold.
+    fn impose(&mut self, relation: Relation) -> Result<(), AllocError> {
         match relation {
-            Relation::AtMost(number) => self.hold_all(point, number, true),
-            Relation::AtLeast(number) => self.hold_all(point, number, false),
+            Relation::AtMost(number) => self.hold_all(number, true),
+            Relation::AtLeast(number) => self.hold_all(number, false),
             Relation::Equal(number) => {
-                self.hold_all(point, number, true)?;
-                self.hold_all(point, number, false)
+                self.hold_all(number, true)?;
+                self.hold_all(number, false)
             }
-            Relation::Unequal(number) => self.part(point, number),
+            Relation::Unequal(number) => self.part(number),
         }
     }
 
-    /// Keeps each product of a point so near its least value that the sum can be at most this
+    /// Keeps each product of the point so near its least value that the sum can be at most this
     /// number, or so near its greatest that it can be at least that. Where all but one are known
     /// to move no further, only that one is looked at.
-    fn hold_all(&mut self, point: usize, number: i128, to_least: bool) -> Result<(), Stop> {
-        let standing = self.standing(point);
+    fn hold_all(&mut self, number: i128, to_least: bool) -> Result<(), AllocError> {
+        let standing = self.standing(self.point);
         let slack = if to_least {
             number.saturating_sub(standing.sums.least)
         } else {
             standing.sums.most.saturating_sub(number)
         };
         if slack < 0 {
-            return Err(Stop::Contradiction);
+            return self.try_to(Trial::Fails);
         }
-        let products = self.known.products_of(point);
+        let products = self.task.known.products_of(self.point);
         if standing.others <= slack {
             return match products.get(standing.top) {
                 Some(product) => self.hold(product, slack, to_least),
                 None => Ok(()),
             };
         }
-        self.spend(products.len())?;
+        self.spend(products.len());
         for product in products {
             self.hold(product, slack, to_least)?;
         }
-        self.measure(point);
+        self.measure();
         Ok(())
     }
 
-    /// Measures how far the products of a point can move.
-    fn measure(&mut self, point: usize) {
+    /// Measures how far the products of the point can move.
+    fn measure(&mut self) {
         let (mut top, mut furthest, mut others) = (0usize, 0i128, 0i128);
-        for (place, product) in self.known.products_of(point).iter().enumerate() {
+        let products = self.task.known.products_of(self.point);
+        for (place, product) in products.iter().enumerate() {
             let here = self.ends_of(product.variable).reach(product.coefficient);
             if here > furthest {
                 top = place;
@@ -128,13 +129,13 @@ impl<'m, 'a> Work<'m, 'a> {
                 others = others.max(here);
             }
         }
-        if let Some(standing) = self.standings.get_mut(point) {
+        if let Some(standing) = self.standings.get_mut(self.point) {
             standing.top = top;
             standing.others = others;
         }
     }
 
-    fn hold(&mut self, product: &Product, slack: i128, to_least: bool) -> Result<(), Stop> {
+    fn hold(&mut self, product: &Product, slack: i128, to_least: bool) -> Result<(), AllocError> {
         if product.coefficient == 0 {
             return Ok(());
         }
@@ -144,47 +145,39 @@ impl<'m, 'a> Work<'m, 'a> {
             return Ok(());
         }
         let left = left_of(ends, steps, (product.coefficient > 0) == to_least);
-        self.tighten(product.variable, left.low, left.high)
+        self.propose(product.variable, left)
     }
 
-    /// The sum must not be this number: takes from the only variable without a value the number
-    /// that would make it so.
-    fn part(&mut self, point: usize, number: i128) -> Result<(), Stop> {
-        if self.open_in(point) > 1 {
+    /// The sum must not be this number: proposes to take from the only variable without a value the
+    /// number that would make it so.
+    fn part(&mut self, number: i128) -> Result<(), AllocError> {
+        if self.standing(self.point).open > 1 {
             return Ok(());
         }
-        self.spend(self.known.cost_of(point))?;
+        let products = self.task.known.products_of(self.point);
+        self.spend(products.len());
         let mut rest = number;
         let mut free = None;
-        for product in self.known.products_of(point) {
+        for product in products {
             let ends = self.ends_of(product.variable);
             if product.coefficient == 0 || ends.low == ends.high {
                 rest = rest.saturating_sub(ends.times(product.coefficient).0);
             } else if free.is_some() {
                 return Ok(());
             } else {
-                free = Some(*product);
+                free = Some((*product, ends));
             }
         }
-        match free {
-            Some(product) => match exact(rest, product.coefficient) {
-                Some(number) => self.cut(product.variable, number),
-                None => Ok(()),
-            },
-            None if rest == 0 => Err(Stop::Contradiction),
+        let Some((product, ends)) = free else {
+            return if rest == 0 {
+                self.try_to(Trial::Fails)
+            } else {
+                Ok(())
+            };
+        };
+        match exact(rest, product.coefficient) {
+            Some(number) => self.propose(product.variable, ends.without(number)),
             None => Ok(()),
-        }
-    }
-
-    /// Takes a number from the bounds of a variable, where it is one of their ends.
-    fn cut(&mut self, variable: usize, number: i64) -> Result<(), Stop> {
-        let ends = self.ends_of(variable);
-        if number == ends.low {
-            self.tighten(variable, number.saturating_add(1), ends.high)
-        } else if number == ends.high {
-            self.tighten(variable, ends.low, number.saturating_sub(1))
-        } else {
-            Ok(())
         }
     }
 }

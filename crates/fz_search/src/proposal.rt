@@ -90,10 +90,6 @@ impl<'m, 'a> Proposal<'m, 'a> {
         Ok(Proposal { model, partial })
     }
 
-    pub(crate) fn model(&self) -> &'m Model<'a> {
-        self.model
-    }
-
     pub(crate) fn values(&self) -> &Partial {
         &self.partial
     }

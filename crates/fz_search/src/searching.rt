@@ -1,301 +1,196 @@
 //! The search for values.
 
-ghost use Rattle.std.specs.Prelude.{IfOk, IfSome};
+ghost use Rattle.std.specs.Prelude.{◌≡◌, None, IfOk, IfSome};
+ghost use Rattle.fz_search.specs.Claims.{HasNoneBeyond};
 ghost use Rattle.fz_search.specs.Found.{IsFoundFor};
-ghost use Rattle.fz_search.specs.Refuted.{HoldAll};
 
-use crate::conflict::{Conflict, NO_POINT};
 use crate::found::{Found, Task};
+use crate::order::Way;
 use crate::proposal::copied;
-use crate::refuting::learned;
-use crate::stop::Stop;
-use crate::work::{Budget, Work};
-use fz_bounds::Bounds;
-use fz_index::{End, Ends, Narrowing, Search, Visit, known_of};
-use fz_store::{Domain, Goal, Kind, Model, Partial, PointParts, Scalars, Slot, Term};
+use crate::tree::Tree;
+use crate::work::{Move, Work};
+use fz_bounds::Tightened;
+use fz_index::{Search, known_of};
+use fz_store::{Domain, Kind, Model, Partial};
 use std::alloc::{AllocError, Global};
 
-/// At most so many numbers are lost on one way.
-const MOST_LOST: usize = 100;
+/// So many steps more than is asked are taken for each point and each scalar in it.
+const STEPS_EACH: usize = 100;
 
-/// The variable of the objective, and the end of its bounds that is the worst value.
-#[derive(Clone, Copy)]
-struct Objective {
-    variable: usize,
-    worst: End,
-}
+/// For a claim, of which a stream mostly has one, so many times as many are taken.
+const CLAIM: usize = 10;
 
-/// The objective, where it is a variable.
-fn objective_of(goal: &Goal) -> Option<Objective> {
-    let (variable, worst) = match goal {
-        Goal::Minimize(Term::Var(number)) => (*number, End::High),
-        Goal::Maximize(Term::Var(number)) => (*number, End::Low),
-        _ => return None,
-    };
-    Some(Objective { variable, worst })
-}
-
-/// One way through the variables.
-#[derive(Clone, Copy)]
-struct Way {
-    /// the variable that gets its value before all others
-    first: Option<usize>,
-    /// the end of its bounds from which each variable gets its value
-    from: End,
-    /// the objective of the block before, where a better one is asked for
-    before: Option<i64>,
-}
-
-impl<'m, 'a> Work<'m, 'a> {
-    /// Asks for an objective that is better than the one before.
-    fn improve(&mut self, objective: Option<Objective>, before: Option<i64>) -> Result<(), Stop> {
-        let (Some(objective), Some(before)) = (objective, before) else {
-            return Ok(());
-        };
-        self.point = NO_POINT;
-        match objective.worst {
-            End::High => self.tighten(objective.variable, i64::MIN, before.saturating_sub(1)),
-            End::Low => self.tighten(objective.variable, before.saturating_add(1), i64::MAX),
-        }
-    }
-
-    /// Visits points until the agenda is empty.
-    fn settle(&mut self) -> Result<(), Stop> {
-        for _ in 0..self.budget.steps {
-            let Some(point) = self.take_first() else {
-                return Ok(());
-            };
-            self.point = point;
-            self.visit(1)?;
-            match self.known.visit_of(point) {
-                Visit::Linear(row) => self.visit_row(point, row)?,
-                Visit::Plain => self.visit_plain(point)?,
-            }
-        }
-        Err(Stop::NothingFound)
-    }
-
-    /// Gives a variable a value, where it has none. An objective gets the worst value that it can
-    /// have, which leaves later blocks the most room.
-    fn fill(
-        &mut self,
-        variable: usize,
-        objective: Option<Objective>,
-        from: End,
-    ) -> Result<(), Stop> {
-        if self.proposal.has(variable) {
-            return Ok(());
-        }
-        let from = match objective {
-            Some(objective) if objective.variable == variable => objective.worst,
-            Some(_) | None => from,
-        };
-        self.point = NO_POINT;
-        self.guess(variable, from)?;
-        self.settle()
-    }
-
-    /// Puts all points on the agenda, gives variables the only numbers that are left to them, and
-    /// keeps the elements of arrays in the arrays' domains.
-    fn begin(&mut self) -> Result<(), Stop> {
-        let model = self.proposal.model();
-        for variable in 0..model.variables().len() {
-            let Ends { low, high } = self.ends_of(variable);
-            if low == high {
-                self.point = self.known.domain_of(variable);
-                self.tighten(variable, low, high)?;
-            }
-        }
-        for point in 0..model.points() {
-            if self.open_in(point) > 0 {
-                self.wake(point, true)?;
-            }
-            if let PointParts::Elements(_, domain, elements) = model.point_parts(point) {
-                self.point = point;
-                self.keep_inside(domain, elements)?;
-            }
-        }
-        Ok(())
-    }
-
-    fn keep_inside(&mut self, domain: &Domain, elements: Scalars<'_>) -> Result<(), Stop> {
-        for slot in elements.slots {
-            let Slot::Variable(number) = slot else {
-                continue;
-            };
-            let variable = *number as usize;
-            if matches!(self.kind_of(variable), Kind::Set) {
-                continue;
-            }
-            match domain {
-                Domain::All => {}
-                Domain::Within(low, high) => self.tighten(variable, *low, *high)?,
-                Domain::Among(_) => self.shave(variable)?,
-            }
-        }
-        Ok(())
-    }
-
-    /// Gives each variable a value.
-    fn complete(&mut self, way: Way) -> Result<(), Stop> {
-        let objective = objective_of(self.proposal.model().goal());
-        self.begin()?;
-        self.settle()?;
-        self.improve(objective, way.before)?;
-        self.settle()?;
-        if let Some(variable) = way.first {
-            self.fill(variable, objective, way.from)?;
-        }
-        for variable in 0..self.proposal.model().variables().len() {
-            self.fill(variable, objective, way.from)?;
-        }
-        Ok(())
-    }
-}
-
-/// What a search that ended so gives: what was found, or the contradiction that it met, where that
-/// rests on at most one guess. The search is borrowed, so that it is dropped on one way out alone.
-fn outcome(
-    task: &Task<'_, '_>,
-    work: &Work<'_, '_>,
-    end: Result<(), Stop>,
-) -> Result<Result<Found, Conflict>, AllocError>
-    ensures found { IfOk result
-        (λ r. IfOk r (IsFoundFor task.now.model.now task.now.filling.now)) }
+/// What a tree comes to of which nothing is open.
+fn ended(tree: &Tree<'_, '_>, work: &mut Work<'_, '_>) -> Result<Found, AllocError>
+    ensures found { IfOk result (IsFoundFor tree.now) }
 {
-    match end {
-        Ok(()) => {
-            let values = copied(task.alloc, task.model, work.proposal.values())?;
-            Ok(Ok(Found::Values(values)))
-        }
-        Err(Stop::NothingFound) => Ok(Ok(Found::Nothing)),
-        Err(Stop::Memory) => Err(AllocError),
-        Err(Stop::Contradiction) => match work.conflict()? {
-            Some(conflict) => Ok(Err(conflict)),
-            None => Ok(Ok(Found::Nothing)),
-        },
+    match tree.refuted() {
+        Some(point) => Ok(Found::Refuted(work.told(tree, point)?)),
+        None => Ok(Found::Nothing),
     }
 }
 
-/// Searches once from these bounds, in one order. A contradiction that it meets may narrow the
-/// bounds for another search.
-fn gone(
+/// Goes through a tree. It is borrowed, so that it is dropped on one way out alone.
+fn go_through(
     task: &Task<'_, '_>,
-    way: Way,
-    bounds: &Bounds,
-    budget: &mut Budget,
-) -> Result<Result<Found, Conflict>, AllocError>
-    ensures found { IfOk result
-        (λ r. IfOk r (IsFoundFor task.now.model.now task.now.filling.now)) }
-{
-    let mut work = Work::new(task, bounds, *budget)?;
-    let end = work.complete(way);
-    *budget = work.budget;
-    outcome(task, &work, end)
-}
-
-/// Searches once in this order, and gives what was found. It gives none where the contradiction
-/// that was met took a number from the bounds: then the same search can come further.
-fn attempt(
-    task: &Task<'_, '_>,
-    way: Way,
-    bounds: &mut Bounds,
-    taken: &mut Vec<Narrowing>,
-    budget: &mut Budget,
-) -> Result<Option<Found>, AllocError>
-    requires inside { HoldAll task.now.model.now task.now.filling.now bounds.old }
-    ensures found { IfOk result (λ o. IfSome o
-        (IsFoundFor task.now.model.now task.now.filling.now)) }
-    ensures inside { IfOk result (λ _. HoldAll task.now.model.now task.now.filling.now bounds.new) }
-{
-    match gone(task, way, bounds, budget)? {
-        Ok(found) => Ok(Some(found)),
-        Err(conflict) => learned(task, bounds, taken, &conflict),
-    }
-}
-
-/// Repeats the search in this order as long as each one takes a number from the bounds. What takes
-/// them is noted.
-fn go(
-    task: &Task<'_, '_>,
-    way: Way,
-    bounds: &mut Bounds,
-    taken: &mut Vec<Narrowing>,
+    tree: &mut Tree<'_, '_>,
+    work: &mut Work<'_, '_>,
 ) -> Result<Found, AllocError>
-    requires inside { HoldAll task.now.model.now task.now.filling.now bounds.old }
-    ensures found { IfOk result (IsFoundFor task.now.model.now task.now.filling.now) }
-    ensures inside { IfOk result (λ _. HoldAll task.now.model.now task.now.filling.now bounds.new) }
+    requires asked { tree.old.model ≡ task.now.model.now }
+    ensures found { IfOk result (IsFoundFor tree.old) }
 {
-    let mut budget = Budget::new(task.known, task.model);
-    for _ in 0..MOST_LOST {
-        if let Some(found) = attempt(task, way, bounds, taken, &mut budget)? {
-            return Ok(found);
+    for _ in 0..usize::MAX {
+        if tree.is_closed() {
+            match tree.step_back()? {
+                Some(step) => work.put_back(tree, step)?,
+                None => return ended(tree, work),
+            }
+            continue;
+        }
+        match work.next()? {
+            Move::Tighten(point, left) => {
+                let told = tree.tighten(task.alloc, point, left)?;
+                work.hear(tree, left.variable, matches!(told, Tightened::Narrowed(_)))?;
+            }
+            Move::Close(point) => {
+                tree.close(task.alloc, point)?;
+            }
+            Move::Leave(point) => if !tree.close(task.alloc, point)? {
+                if matches!(work.way, Way::Unsupposed) {
+                    return Ok(Found::Nothing);
+                }
+                tree.give_up();
+            },
+            Move::Improve => {
+                let improved = tree.improve()?;
+                work.hear_improved(tree, improved)?;
+            }
+            Move::Split(split) => {
+                tree.split(split)?;
+                work.branch_off(tree, split.variable)?;
+            }
+            Move::Found => {
+                let values = copied(task.alloc, task.model, work.proposal.values())?;
+                return Ok(Found::Values(values));
+            }
+            Move::Nothing => return Ok(Found::Nothing),
         }
     }
     Ok(Found::Nothing)
 }
 
-/// Goes one way after another, until something is found.
-fn go_each(task: &Task<'_, '_>, ways: &[Way], bounds: &mut Bounds) -> Result<Found, AllocError>
-    requires inside { HoldAll task.now.model.now task.now.filling.now bounds.old }
-    ensures found { IfOk result (IsFoundFor task.now.model.now task.now.filling.now) }
+/// Searches once, in one way. It tells how many nodes it took, too.
+fn go(task: &Task<'_, '_>, way: Way, steps: usize) -> Result<(Found, usize), AllocError>
+    ensures found { IfOk result (λ r. IsFoundFor (record {
+      model = task.now.model.now;
+      filling = task.now.filling.now;
+      last = task.now.last;
+    }) r.0) }
 {
-    let mut taken = Vec::new(task.alloc);
-    for way in ways {
-        let found = go(task, *way, bounds, &mut taken)?;
-        if !matches!(found, Found::Nothing) {
-            return Ok(found);
+    let supposes = task.lacks_bounds && !matches!(way, Way::Unsupposed);
+    let steps = task
+        .known
+        .size()
+        .saturating_mul(STEPS_EACH)
+        .saturating_add(steps);
+    let mut tree = Tree::new(task.alloc, task.model, task.filling, task.last, supposes)?;
+    let mut work = Work::new(task, way, steps, &tree)?;
+    let found = go_through(task, &mut tree, &mut work)?;
+    Ok((found, work.nodes()))
+}
+
+/// The set variables without a value, and whether an integer without one has no bounds.
+fn open_of(
+    alloc: Global,
+    model: &Model<'_>,
+    filling: &Partial,
+) -> Result<(Vec<usize>, bool), AllocError> {
+    let mut sets = Vec::new(alloc);
+    let mut lacks_bounds = false;
+    for (number, variable) in model.variables().iter().enumerate() {
+        match (variable.kind, &variable.domain) {
+            (Kind::Set, _) if !filling.has(number) => sets.push(number)?,
+            (Kind::Int, Domain::All) if !filling.has(number) => lacks_bounds = true,
+            _ => {}
         }
     }
-    Ok(Found::Nothing)
+    Ok((sets, lacks_bounds))
 }
 
-/// The variable of the objective, where it has no value.
-fn open_objective(model: &Model<'_>, filling: &Partial) -> Option<usize> {
-    let variable = objective_of(model.goal())?.variable;
-    (!filling.has(variable)).then_some(variable)
-}
-
-/// Looks for values of the variables that have none. Bounds are narrowed, and each variable that is
-/// left gets a number at an end of its own. Where that comes to a contradiction which rests on no
-/// such guess, or on one, its steps are proved, one after another: then no solution has the
-/// filling's values, or the variable loses the number, and the search begins anew. No other guess
-/// is taken back. An objective that the block leaves open gets its worst value first, since the
-/// next block is compared with what is found; where nothing is found so, the variables get their
-/// values in their order, from the low ends and then from the high ones. The last time no better
-/// objective than that of the block before is asked for, since that may be all that is in the way
-/// of a refutation. Of what it finds no more is promised than that the values are of their
-/// variables' kinds, since the caller judges them. It refuses only where memory runs out.
+/// Looks for values of the variables that have none. Bounds are narrowed, each step proved, and
+/// where nothing more is left to narrow, the bounds of a variable are split: a part inside which a
+/// point holds nowhere is left, and the other one taken. Where no part is left, no solution has the
+/// filling's values. An objective that the block leaves open is to be better than that of the block
+/// before, and gets the worst such value, since the next block is compared with what is found. The
+/// variables are split in their order first; where that comes to no end, the one with the fewest
+/// numbers. Each time it takes so many steps at most. Of what it finds no more is promised than
+/// that the values are of their variables' kinds, since the caller judges them. It refuses only
+/// where memory runs out.
 pub fn search(
     alloc: Global,
     model: &Model<'_>,
     filling: &Partial,
     before: Option<i64>,
+    steps: usize,
     known: &mut Option<Search>,
 ) -> Result<Found, AllocError>
-    ensures found { IfOk result (IsFoundFor model.now filling.now) }
+    ensures found { IfOk result
+        (IsFoundFor (record { model = model.now; filling = filling.now; last = None })) }
 {
     let known = known_of(alloc, model, known)?;
+    let (sets, lacks_bounds) = open_of(alloc, model, filling)?;
     let task = Task {
         alloc,
         known,
         model,
         filling,
-    };
-    let mut bounds = Bounds::new(alloc, model, filling)?;
-    let first = open_objective(model, filling);
-    let plain = Way {
-        first: None,
-        from: End::Low,
+        sets: &sets,
+        lacks_bounds,
         before,
+        last: None,
     };
-    let last = Way {
-        first: None,
-        from: End::High,
-        before: None,
-    };
-    if first.is_some() {
-        return go_each(&task, &[Way { first, ..plain }, plain, last], &mut bounds);
+    for way in [Way::InOrder, Way::Smallest] {
+        let (found, _) = go(&task, way, steps)?;
+        if !matches!(found, Found::Nothing) {
+            return Ok(found);
+        }
     }
-    go_each(&task, &[plain, last], &mut bounds)
+    if lacks_bounds {
+        let (found, _) = go(&task, Way::Unsupposed, steps)?;
+        return Ok(found);
+    }
+    Ok(Found::Nothing)
+}
+
+/// How many nodes of a tree show that no known-solution of the model has an objective better than
+/// `last`, or where that is none, that there is none at all. It gives nothing where the search
+/// comes to no end in ten times so many steps, or finds one. It refuses only where memory runs
+/// out.
+pub fn prove(
+    alloc: Global,
+    model: &Model<'_>,
+    last: Option<i64>,
+    steps: usize,
+    known: &mut Option<Search>,
+) -> Result<Option<usize>, AllocError>
+    ensures shown { IfOk result (λ o. IfSome o (λ _. HasNoneBeyond model.now last)) }
+{
+    let known = known_of(alloc, model, known)?;
+    let filling = Partial::new(alloc, model)?;
+    let (sets, lacks_bounds) = open_of(alloc, model, &filling)?;
+    let task = Task {
+        alloc,
+        known,
+        model,
+        filling: &filling,
+        sets: &sets,
+        lacks_bounds,
+        before: None,
+        last,
+    };
+    let (found, nodes) = go(&task, Way::Unsupposed, steps.saturating_mul(CLAIM))?;
+    match found {
+        Found::Refuted(_) => Ok(Some(nodes)),
+        Found::Values(_) | Found::Nothing => Ok(None),
+    }
 }

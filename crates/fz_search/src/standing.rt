@@ -1,11 +1,9 @@
 //! What is known of the points of a model so far.
 
-use fz_bounds::Bounds;
 use fz_index::{Ends, Product, Sums};
-use fz_store::Partial;
 
 /// All numbers.
-const ALL: Ends = Ends {
+pub(crate) const ALL: Ends = Ends {
     low: i64::MIN,
     high: i64::MAX,
 };
@@ -34,26 +32,33 @@ pub(crate) struct Standing {
     pub(crate) others: i128,
 }
 
-/// The bounds of a variable.
-pub(crate) fn ends_in(bounds: &Bounds, variable: usize) -> Ends {
-    match bounds.ends(variable) {
-        Some(ends) => Ends {
-            low: ends.low,
-            high: ends.high,
-        },
-        None => ALL,
-    }
-}
-
 /// What is known of a point with these products.
-pub(crate) fn standing_of(products: &[Product], values: &Partial, bounds: &Bounds) -> Standing {
+pub(crate) fn standing_of(products: &[Product], ends: &[Ends]) -> Standing {
     let mut standing = NOTHING;
     for product in products {
-        if !values.has(product.variable) {
+        let ends = ends.get(product.variable).copied().unwrap_or(ALL);
+        if ends.low < ends.high {
             standing.open = standing.open.saturating_add(1);
         }
-        let ends = ends_in(bounds, product.variable);
         standing.sums = standing.sums.moved(product.coefficient, Ends::at(0), ends);
     }
     standing
+}
+
+impl Standing {
+    /// Takes note that a variable with this coefficient had these bounds, and has those.
+    pub(crate) fn change(&mut self, coefficient: i64, before: Ends, now: Ends) {
+        if now.low == now.high {
+            self.open = self.open.saturating_sub(1);
+        } else if before.low == before.high {
+            self.open = self.open.saturating_add(1);
+        }
+        if coefficient == 0 {
+            return;
+        }
+        self.sums = self.sums.moved(coefficient, before, now);
+        if now.low < before.low || before.high < now.high {
+            self.others = self.others.max(now.reach(coefficient));
+        }
+    }
 }

@@ -8,22 +8,22 @@ use std::alloc::{AllocError, Global};
 const MOST_MEMBERS: usize = 9;
 
 impl<'m, 'a> Work<'m, 'a> {
-    /// The numbers of a variable's domain, where there are few.
-    pub(crate) fn few_members(&self, variable: usize) -> Result<Option<Vec<i64>>, AllocError> {
-        let mut members = Vec::new(self.alloc);
+    /// The numbers of a variable's domain, where there are few, and else none.
+    pub(crate) fn few_members(&self, variable: usize) -> Result<Vec<i64>, AllocError> {
+        let mut members = Vec::new(self.task.alloc);
         match self.domain_of(variable) {
-            Some(Domain::All) | None => return Ok(None),
+            Some(Domain::All) | None => {}
             Some(Domain::Within(low, high)) => add_few(&mut members, *low, *high)?,
             Some(Domain::Among(numbers)) => {
-                for range in numbers.ranges(self.alloc)? {
+                for range in numbers.ranges(self.task.alloc)? {
                     add_few(&mut members, range.lo, range.hi)?;
                 }
             }
         }
         if members.len() > MOST_MEMBERS {
-            return Ok(None);
+            members.clear();
         }
-        Ok(Some(members))
+        Ok(members)
     }
 }
 

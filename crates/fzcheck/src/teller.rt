@@ -102,7 +102,11 @@ impl<'r, 'n> Teller<'r, 'n> {
                 self.note(judged);
             }
             Event::Answer(Answer::ClaimRejected(_)) => self.forget(),
-            Event::Answer(_) | Event::Claim(_) | Event::Refuted(_) | Event::Cut(_) => {}
+            Event::Answer(_)
+            | Event::Claim(_)
+            | Event::Proved(_, _)
+            | Event::Refuted(_)
+            | Event::Cut(_) => {}
         }
     }
 
@@ -162,7 +166,10 @@ impl<'r, 'n> Teller<'r, 'n> {
                 }
                 Ok(lines)
             }
-            Event::Claim(kind) => claim_line(alloc, *kind, self.counts.blocks()),
+            Event::Claim(kind) => claim_line(alloc, *kind, self.counts.blocks(), None),
+            Event::Proved(claim, nodes) => {
+                claim_line(alloc, claim.kind, claim.after, Some(*nodes))
+            }
             Event::Refuted(refutation) => refuted_line(alloc, refutation),
             Event::Cut(span) => cut_line(alloc, *span),
             Event::Answer(answer) => {

@@ -1,13 +1,14 @@
-use Rattle.std.proofs.Common.{[], ◌∷◌, sym, subst, subst₂, ◌∙◌, arith}
+use Rattle.std.proofs.Common.{◌∷◌, sym, subst, subst₂, arith}
 use Rattle.std.proofs.lemmas.Result.{on_ok_weaker}
 use Rattle.fz_judge.specs.of_stream.Found.{EndsWithin, block_of}
 use Rattle.fz_judge.specs.of_stream.Lending.{part_of, HasPlacesOfItems, PartEndsWithin}
 use Rattle.fz_judge.specs.of_stream.Splitting.{most_taken}
 use Rattle.fz_judge.specs.of_filling.View.{verdict_view}
-use Rattle.fz_check.specs.Claims.{claim_event, late_events}
+use Rattle.fz_check.specs.Claims.{late_events}
 use Rattle.fz_check.specs.Report.{AreOf}
 use Rattle.fz_check.specs.Report.Event.{Judged}
 use Rattle.fz_check.specs.Telling.{IsUntold, TellsOneMore}
+use Rattle.fz_check.specs.View.{event_view}
 use Rattle.fz_check.proofs.JuryLemmas.{leaves_block, tells_block, tells_claim}
 use Rattle.fz_check.proofs.telling.tell_part.Goals as goal
 
@@ -26,18 +27,9 @@ returns-in-Ok-clause-told g c =
     (subst₂ (λ n l. AreOf g.T.Taker.text (Judged n v ∷ late_events l n) c.make_block_line.new.line.items) c.in-Ok.ensures.counted c.in-Ok.ensures.late made)))
     c.make_block_line.ensures.made
 
-pub returns-in-Some-clause-told : goal.returns-in-Some-clause-told
-returns-in-Some-clause-told g c =
+pub returns-in-Ok-hear_claim-clause-told : goal.returns-in-Ok-hear_claim-clause-told
+returns-in-Ok-hear_claim-clause-told g c =
     on_ok_weaker c.make_line.result (λ made o m parts outcomes h.
     subst (λ p. TellsOneMore o g.T.Taker.text m c.hear_claim.new.self parts outcomes (part_of p) c.make_line.new.line.items) (sym c.in-Claim.is)
-    (tells_claim o m c.args.jury.now parts outcomes h g.T.Taker.text c.hear_claim.new.self c.in-Claim.kind c.make_line.new.line.items c.hear_claim.ensures.heard c.hear_claim.ensures.same
-    (subst (λ r. AreOf g.T.Taker.text (claim_event c.in-Claim.kind r ∷ []) c.make_line.new.line.items) (sym c.in-Some.is ∙ c.hear_claim.ensures.refutation) made)))
+    (tells_claim o m c.args.jury.now parts outcomes h g.T.Taker.text c.hear_claim.new.self c.in-Claim.kind (event_view c.in-Ok-hear_claim.event) c.make_line.new.line.items c.in-Ok-hear_claim.ensures.heard made))
     c.make_line.ensures.made
-
-pub returns-in-None-clause-told : goal.returns-in-None-clause-told
-returns-in-None-clause-told g c =
-    on_ok_weaker c.make_line-in-None.result (λ made o m parts outcomes h.
-    subst (λ p. TellsOneMore o g.T.Taker.text m c.hear_claim.new.self parts outcomes (part_of p) c.make_line-in-None.new.line.items) (sym c.in-Claim.is)
-    (tells_claim o m c.args.jury.now parts outcomes h g.T.Taker.text c.hear_claim.new.self c.in-Claim.kind c.make_line-in-None.new.line.items c.hear_claim.ensures.heard c.hear_claim.ensures.same
-    (subst (λ r. AreOf g.T.Taker.text (claim_event c.in-Claim.kind r ∷ []) c.make_line-in-None.new.line.items) (sym c.in-None.is ∙ c.hear_claim.ensures.refutation) made)))
-    c.make_line-in-None.ensures.made

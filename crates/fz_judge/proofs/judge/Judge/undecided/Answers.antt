@@ -1,8 +1,6 @@
 use Rattle.std.proofs.Common.{◌≡◌, ℤ, Option, None, Some, IfSome, refl, sym, ap, subst, ◌∙◌}
-use Rattle.fz_search.specs.Found.{IsFoundFor}
-use Rattle.fz_search.specs.of_model.Meaning.{Assignment, Model, Partial, objective, whole}
-use Rattle.fz_search.specs.of_model.Openings.{HasEach}
-use Rattle.fz_search.specs.of_model.States.{IsKnownSolution}
+use Rattle.fz_search.specs.Found.{Asked, IsFoundFor, IsSought}
+use Rattle.fz_search.specs.of_model.Meaning.{Assignment, Model, Partial, objective}
 use Rattle.fz_search.specs.of_model.Shown.{point_name}
 use Rattle.fz_filling.specs.of_stream.Parts.{SolutionBlock}
 use Rattle.fz_filling.specs.Completed.{IsCompleted, LacksValuesAtMost}
@@ -25,9 +23,12 @@ found_told m block before F v kept (Some k) is lacks (K, fits, satisfied, kept_i
     subst (λ n. IsCompleted m block before F v Satisfied n) (sym kept_is ∙ same) (Found K lacks fits satisfied)
 found_told m block before F v kept None is lacks found = absurd cc
 
--- no known-solution has the values
+-- known-solutions that have the values
+abbrev with_values : Model → Partial → Asked
+with_values m F = record { model = m; filling = F; last = None }
+
 abbrev HasNoneWith : Model → Partial → Type 0
-HasNoneWith m F = (A : Assignment) → IsKnownSolution m A → HasEach F (whole A) → ⊥
+HasNoneWith m F = (A : Assignment) → IsSought (with_values m F) A → ⊥
 
 -- nothing is found, and the verdict stays
 stays : (s : JudgeState) (block : SolutionBlock) (F : Partial) (r : Reason) (o : Option ℤ)
@@ -50,13 +51,13 @@ returns-in-Refuted c =
     let told = ap (λ r. Undecided (reason_view r)) c.in-NoValue.is in
     let f = fault_view c.fault_named-fault.result in
     let k = c.in-Refuted.found.point in
-    let (within, none) = subst (IsFoundFor c.self.inside.model.now c.args.filling.now) c.in-Refuted.is c.in_ok-values.ensures.found in
+    let (within, none) = subst (IsFoundFor (with_values c.self.inside.model.now c.args.filling.now)) c.in-Refuted.is c.in_ok-values.ensures.found in
     let there : IsOfPoint c.self.inside.model.now k (Violated f) = of_point c.self.inside.model.now k (point_name c.point.result) f within c.point.ensures.told c.fault_named-fault.ensures in
     let here : IsOfPoint c.args.self.now.model k (Violated f) = subst (λ (s : JudgeState). IsOfPoint s.model k (Violated f)) c.self.view_is there in
     let nobody : HasNoneWith c.args.self.now.model c.args.filling.now = subst (λ (s : JudgeState). HasNoneWith s.model c.args.filling.now) c.self.view_is none in
     record {
       told = subst (λ w. IsCompleted c.args.self.now.model (block_of c.args.block.now) c.args.self.now.found c.args.filling.now w (Violated f) c.args.now) (sym told)
-          (refuted_told c.args.self.now.model (block_of c.args.block.now) c.args.self.now.found c.args.filling.now _ k (Violated f) c.args.now c.requires.filling here nobody c.requires.objective);
+          (refuted_told c.args.self.now.model (block_of c.args.block.now) c.args.self.now.found c.args.filling.now _ k (Violated f) c.args.now c.requires.filling here (λ A solution has. nobody A (solution, has, refl)) c.requires.objective);
       refuted = here;
       same = c.self.view_is;
     }

@@ -1,0 +1,164 @@
+#!/usr/bin/env python3
+"""Checks which claims on the whole search are told as proved, with --claims=prove.
+
+    claims.py PROGRAM COUNT [SEED]
+
+Each of COUNT small random models has constraints of several assignments, so that many have few
+solutions or none, and mostly an objective. All solutions are found by trying all values, with the
+rows of slow.py. That there is none may be proved only where there is none, and that none is better
+only behind the best, also where it would take a power that isn't known. Prints how many of the
+claims that are so are proved, and ends with 'N passed, M failed'; the files of a wrong answer are
+kept."""
+import os
+import random
+import re
+import sys
+import tempfile
+from collections import Counter
+from typing import Iterator, List, NamedTuple, Optional, Tuple
+
+import damaged
+import slow
+
+NO_SOLUTION, NONE_BETTER = "=====UNSATISFIABLE=====", "=========="
+PROVED, REFUTED, NOT_JUDGED = "proved", "refuted by block 1", "not judged"
+TOLD = re.compile(
+    f"^claim: (=+[A-Z]*=+) ({NOT_JUDGED}|{REFUTED}|({PROVED}), ([0-9]+) nodes?)$", re.M
+)
+FACTORS = (-2, -1, 1, 2, 3)
+MOST_TRIED = 200_000  # assignments of a model
+
+
+class Contested(damaged.Small):
+    """A small model whose constraints are made for several assignments."""
+
+    def __init__(self, rand: random.Random) -> None:
+        super().__init__(rand)
+        self.objective: Optional[int] = None
+        self.without_domain: Optional[int] = None
+        numbers = [n for n, kind in enumerate(self.kinds) if kind == "I"]
+        if numbers and rand.random() < 0.7:
+            self.aim(numbers)
+        for _ in range(rand.randint(0, 5)):
+            self.solution = slow.Values(enumerate(map(rand.choice, self.domains)))
+            self.add()
+
+    def aim(self, numbers: List[int]) -> None:
+        """Takes one of these variables as the objective, or a sum of products of them."""
+        is_sum = self.rand.random() < 0.6
+        self.objective = self.add_sum(numbers) if is_sum else self.rand.choice(numbers)
+        self.goal = f"{self.rand.choice(('minimize', 'maximize'))} x{self.objective}"
+
+    def add_sum(self, numbers: List[int]) -> int:
+        """Adds a variable, half of the time one without a domain."""
+        factors = [self.rand.choice(FACTORS) for _ in numbers]
+        products = [[f * v for v in self.domains[n]] for f, n in zip(factors, numbers)]
+        own = len(self.kinds)
+        self.kinds.append("I")
+        self.domains.append(list(range(sum(map(min, products)), sum(map(max, products)) + 1)))
+        terms = [("var", n) for n in [*numbers, own]]
+        args = [[("fixed", f) for f in [*factors, -1]], terms, ("fixed", 0)]
+        self.constraints.append(("int_lin_eq", slow.Row("int_lin_eq"), args))
+        if self.rand.random() < 0.5:
+            self.without_domain = own
+        return own
+
+    def type_text(self, number: int) -> str:
+        return "int" if number == self.without_domain else super().type_text(number)
+
+    def cost(self, values: slow.Values) -> int:
+        """The objective; less is better."""
+        value = values[self.objective]
+        return value if self.goal.startswith("minimize") else -value
+
+    def block(self, values: slow.Values) -> str:
+        """A block that prints the objective, and the rest or a part of it."""
+        share = self.rand.choice((1, 0.5))
+        kept = {n: v for n, v in values.items()
+                if n == self.objective or self.rand.random() < share}
+        return damaged.block_text(kept)
+
+
+class Claim(NamedTuple):
+    """A claim behind a block, or behind none, and what is right to tell of it."""
+
+    line: str
+    block: str
+    right: str
+
+
+def claims(model: Contested) -> Iterator[Claim]:
+    possible = list(model.extensions(slow.Values()))
+    known = [values for values in possible if model.is_solution(values)]
+    yield Claim(NO_SOLUTION, "", NOT_JUDGED if possible else PROVED)
+    if not known:
+        return
+    yield Claim(NO_SOLUTION, damaged.block_text(known[0]), REFUTED)
+    if model.objective is None:
+        yield Claim(NONE_BETTER, damaged.block_text(known[0]), NOT_JUDGED)
+        return
+    least = min(map(model.cost, possible))
+    of_cost = {model.cost(values): values for values in known}
+    for cost in sorted(of_cost)[:2]:
+        right = PROVED if cost == least else NOT_JUDGED
+        yield Claim(NONE_BETTER, model.block(of_cost[cost]), right)
+
+
+def told_of(claim: Claim, report: str) -> Tuple[str, int]:
+    """What a report tells of the claim, with the nodes of a proof; or else the report."""
+    found = TOLD.search(report)
+    if not found or found[1] != claim.line:
+        return report, 0
+    return found[3] or found[2], int(found[4] or 0)
+
+
+class Tally:
+    """What was told of the claims of models."""
+
+    def __init__(self, program: str, folder: str) -> None:
+        self.program, self.folder = program, folder
+        self.passed = self.failed = self.most_nodes = 0
+        self.so: Counter = Counter()
+        self.proved: Counter = Counter()
+
+    def ask(self, model: str, claim: Claim, options: List[str]) -> None:
+        """Asks of a claim, and keeps the files where the answer is wrong."""
+        texts = model, f"{claim.block}{claim.line}\n"
+        report = damaged.report(self.program, self.folder, ["--claims=prove", *options], *texts)
+        told, nodes = told_of(claim, report)
+        self.most_nodes = max(nodes, self.most_nodes)
+        self.so[claim.line] += claim.right == PROVED
+        self.proved[claim.line] += claim.right == told == PROVED
+        if told == claim.right or claim.right == PROVED and told == NOT_JUDGED:
+            self.passed += 1
+            return
+        self.failed += 1
+        kept = tempfile.mkdtemp(prefix="claims-")
+        damaged.write(kept, *texts)
+        print(f"{kept}: {told}, and it should be {claim.right}", flush=True)
+
+
+def main() -> int:
+    program, count = sys.argv[1], int(sys.argv[2])
+    seed = sys.argv[3] if len(sys.argv) > 3 else "1"
+    number = models = 0
+    with tempfile.TemporaryDirectory() as folder:
+        tally = Tally(program, folder)
+        while models < count:
+            model = Contested(random.Random(f"{seed} {number}"))
+            number += 1
+            if model.size(range(len(model.kinds))) > MOST_TRIED:
+                continue
+            models += 1
+            text = model.text()
+            for claim in claims(model):
+                tally.ask(text, claim, model.rand.choice(([], ["--complete"])))
+    for line in (NO_SOLUTION, NONE_BETTER):
+        print(f"{line}: {tally.proved[line]} of {tally.so[line]} that are so are proved")
+    print(f"{tally.most_nodes} nodes at the most")
+    print(f"{tally.passed} passed, {tally.failed} failed")
+    return 1 if tally.failed else 0
+
+
+if __name__ == "__main__":
+    sys.exit(main())
