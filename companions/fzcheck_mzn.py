@@ -14,7 +14,8 @@ from fzcheck_mzn_plan import Plan, Refused
 from fzcheck_mzn_stream import Writer
 
 REFUSED, WRONG_WORDS, UNREAD, INTERRUPTED = 4, 5, 6, 130
-OF_CHECK = ("--large", "--complete", "--cut", "--claims", "--explain", "--explain=all", "--json")
+OF_CHECK = ("--large", "--complete", "--cut", "--claims", "--claims=prove", "--explain",
+            "--explain=all", "--json")
 WITH_DATA = ("-D", "--cmdline-data", "--cmdline-json-data")
 WITH_FOLDER = ("-I", "--search-dir")
 WITH_FILE = ("-d", "--data", "-m", "--model")

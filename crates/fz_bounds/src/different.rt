@@ -16,7 +16,7 @@ const APART: usize = 1024;
 
 /// Notes that a number is seen, and tells whether it may have been seen before.
 fn was_seen(seen: &mut [bool; APART], number: i64) -> bool {
-    let place = usize::try_from(number.rem_euclid(1024)).unwrap_or(0);
+    let place = usize::try_from(number.rem_euclid(APART as i64)).unwrap_or(0);
     match seen.get_mut(place) {
         Some(mark) => std::mem::replace(mark, true),
         None => true,

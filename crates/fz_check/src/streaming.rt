@@ -93,6 +93,10 @@ fn tell_parts<R: Read, W: Write, T: Taker>(
 /// is told before the answer, and the bytes before it are judged. A claim's line without LF in that
 /// block, at the end, is cut off with it.
 ///
+/// Where claims are judged, one is told as refuted at its place, or behind the block that refutes
+/// it. Where they are to be proved too, a search is made for one that nothing refutes at its place,
+/// and it is told as proved where that shows that it is true.
+///
 /// # Errors
 ///
 /// `Model` and `Names` as `check` has them, before anything is read or written. Then the first

@@ -10,7 +10,6 @@ pub mod Violated
 pub mod Completing
 pub mod Each
 pub mod Starts
-pub mod Loops
 pub mod Agreeing
 pub mod Stepping
 pub mod Reordering

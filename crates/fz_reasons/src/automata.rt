@@ -104,7 +104,8 @@ fn no_step(view: &ArgumentView<'_, '_>, place: usize) -> Option<NoStep>
 
 // Whether a symbol leads from a state to a state.
 fn has_step(view: &ArgumentView<'_, '_>, state: i64, symbol: i64) -> bool
-    ensures { result ≡ has_step (int view.now 1) (int view.now 2) (ints_in view.now 3) state symbol }
+    ensures { result
+        ≡ has_step (int view.now 1) (int view.now 2) (ints_in view.now 3) state symbol }
 {
     match next_state(view.int(1), view.int(2), &view.elements(3), state, symbol) {
         Some(next) => is_state(view.int(1), next),

@@ -40,9 +40,9 @@ impl<'m, 'a> Work<'m, 'a> {
         }
     }
 
-    /// Visits variables that are all different: none has a number that another one has. Of many only
-    /// those that this leaves one number are narrowed: of the first that is open it is noted with
-    /// which number it may begin.
+    /// Visits variables that are all different: none has a number that another one has. Of many
+    /// only those that this leaves one number are narrowed: of the first that is open it is noted
+    /// with which number it may begin.
     fn visit_different(&mut self) -> Result<(), AllocError> {
         let products = self.task.known.products_of(self.point);
         self.spend(products.len());
