@@ -11,12 +11,13 @@ use Rattle.fz_model.specs.declared.Term.TheVariants.{Var, Fixed}
 use Rattle.fz_model.specs.Relations.{kind_of, same_kind}
 use Rattle.fz_model.specs.Builtins.{Plain, Shape}
 use Rattle.fz_model.specs.Builtins.Shape.{ScalarOf, ArrayOf}
-use Rattle.fz_model.specs.Meaning.{Argument, Assignment, Partial, value_at, whole}
+use Rattle.fz_model.specs.Meaning.{Argument, Partial, value_at}
 use Rattle.fz_model.proofs.Values.{no, and_first, and_second}
 use Rattle.fz_model.specs.of_builtins.of_kernel.Given.{are_read, argument_is_read, bool_in, int_in, is_read, set_in, slot_in, slots_in, value_of}
 use Rattle.fz_model.specs.of_builtins.Outcomes.{argument_at}
-use Rattle.fz_bounds.specs.Bounds.{IsInside, Ranges, is_at_most}
+use Rattle.fz_bounds.specs.Bounds.{Ranges, is_at_most}
 use Rattle.fz_bounds.specs.Between.{AreAtMost, AreBelow, AreBetween, IsAtMost, at_most}
+use Rattle.fz_bounds.specs.Opened.{IsAmid}
 use Rattle.fz_bounds.proofs.Inside.{at_most_itself}
 
 -- ---- one scalar
@@ -123,10 +124,10 @@ highest_leads (Some u) (Some x) h v w d e =
 highest_leads o None h v w d e = cc
 highest_leads None q h v w d e = cc
 
-pub are_between : (B : Ranges) (A : Assignment) (ss : List Shape) (xs : List Argument)
-    → IsInside B A → are_read B.lowest ss xs ≡ true → are_read (whole A) ss xs ≡ true
-    → are_read B.highest ss xs ≡ true → AreBetween B.lowest (whole A) B.highest xs ss
-are_between B A ss xs inside l a h = record {
-  low = are_below B.lowest (whole A) (λ n. lowest_leads (value_at B.lowest n) (value_at (whole A) n) (inside n).0) ss xs l a;
-  high = are_below (whole A) B.highest (λ n. highest_leads (value_at B.highest n) (value_at (whole A) n) (inside n).1) ss xs a h;
+pub are_amid : (B : Ranges) (K : Partial) (ss : List Shape) (xs : List Argument)
+    → IsAmid B K → are_read B.lowest ss xs ≡ true → are_read K ss xs ≡ true
+    → are_read B.highest ss xs ≡ true → AreBetween B.lowest K B.highest xs ss
+are_amid B K ss xs amid l a h = record {
+  low = are_below B.lowest K (λ n. lowest_leads (value_at B.lowest n) (value_at K n) (amid n).0) ss xs l a;
+  high = are_below K B.highest (λ n. highest_leads (value_at B.highest n) (value_at K n) (amid n).1) ss xs a h;
 }

@@ -77,7 +77,7 @@ fixed_under B K A f inside n v e =
 
 -- ---- bounds of one variable
 
-lies_given : (o p q : Option Value) (v w : Value) → ((u : Value) → o ≡ Some u → u ≡ v)
+pub lies_given : (o p q : Option Value) (v w : Value) → ((u : Value) → o ≡ Some u → u ≡ v)
     → ((u : Value) → p ≡ Some u → u ≡ w) → LiesBetween (Some v) (Some w) q → LiesBetween o p q
 lies_given o p q v w f g h = (one o v f h.0, other p w g h.1)
   where
@@ -93,7 +93,7 @@ lies_given o p q v w f g h = (one o v f h.0, other p w g h.1)
     other None w g h = tt
     other (Some u) w g h = subst (λ z. IsSomeAnd q (λ x. IsTrue (is_at_most x z))) (sym (g u refl)) h
 
-same_or_other : (n k : ℕ) → (n ≡ k) ⊎ ((n ≡ k) → ⊥)
+pub same_or_other : (n k : ℕ) → (n ≡ k) ⊎ ((n ≡ k) → ⊥)
 same_or_other zero zero = inl refl
 same_or_other zero (suc k) = inr (λ e. cc)
 same_or_other (suc n) zero = inr (λ e. cc)

@@ -17,4 +17,6 @@ pub mod Declared
 pub mod At
 pub mod Forms
 pub mod Never
+pub mod Shares
+pub mod Enclosed
 pub use Rattle.fz_model.proofs as of_model

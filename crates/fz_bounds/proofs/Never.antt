@@ -4,6 +4,7 @@ use Rattle.std.specs.List.{list_all}
 use Rattle.std.proofs.lemmas.Option.{same_Some}
 use Rattle.fz_model.specs.Builtins.{ArgValue, Row, Shape, Test, passes}
 use Rattle.fz_model.specs.Meaning.{Argument, Assignment, Partial, Posted, argument_values, have_shapes, row_holds, row_of, whole}
+use Rattle.fz_model.specs.States.{HoldsIfKnown}
 use Rattle.fz_model.specs.Meaning.Point.{ConstraintPoint}
 use Rattle.fz_store.specs.declared.Known.{Known}
 use Rattle.fz_model.specs.of_builtins.of_meaning.Known.{known_row}
@@ -19,14 +20,14 @@ use Rattle.fz_model.proofs.of_builtins.of_kernel.Ready.{ready_values, wrong_kind
 use Rattle.fz_model.specs.of_builtins.Outcomes.{argument_at, test_from}
 use Rattle.fz_model.proofs.of_builtins.RowTests.{reads}
 use Rattle.fz_model.proofs.ConstraintStates.{row_fits}
-use Rattle.fz_bounds.specs.Bounds.{IsInside, NeverHolds, Ranges}
+use Rattle.fz_bounds.specs.Bounds.{NeverHolds, Ranges}
 use Rattle.fz_bounds.specs.Between.{AreBetween}
 use Rattle.fz_bounds.specs.Decided.{Decides}
 use Rattle.fz_bounds.specs.Within.{AreKnown, Foretells, given}
 use Rattle.fz_bounds.specs.declared.bounded.BoundedConstraint.{BoundedConstraint}
 use Rattle.fz_bounds.specs.declared.outlook.Outlook.{Outlook}
 use Rattle.fz_bounds.specs.declared.outlook.Outlook.TheVariants.{Never}
-use Rattle.fz_bounds.proofs.Between.{are_between}
+use Rattle.fz_bounds.proofs.Between.{are_amid}
 
 passes_at : (K : Partial) (xs : List Argument) (i : ℕ) (ss : List Shape) (t : Test ss)
     → test_from i K xs ss t ≡ passes ss t (given_from K xs i ss)
@@ -46,27 +47,33 @@ holds_read r K xs vs shaped are holds =
           (refl, passes_at K xs 0 r.shapes r.holds ∙ ap (row_holds r) same ∙ holds)
     ]) refl
 
-module _ (B : Ranges) (k : ℕ) (p : Posted) (r : Row) (fits : row_of p ≡ Some r) (sums : list_all is_sum r.wide ≡ true) (low : are_read B.lowest r.shapes p.arguments ≡ true) (high : are_read B.highest r.shapes p.arguments ≡ true) (fails : (K : Partial) → AreBetween B.lowest K B.highest p.arguments r.shapes → test_from 0 K p.arguments r.shapes r.holds ≡ false) where
-  never_with : (A : Assignment) (vs : List ArgValue) → IsInside B A
-      → argument_values (whole A) p.arguments ≡ Some vs → row_holds r vs ≡ true → ⊥
-  never_with A vs inside are holds =
-      let (read, test) = holds_read r (whole A) p.arguments vs (row_fits p r fits) are holds in
-      no' (sym test ∙ fails (whole A) (are_between B A r.shapes p.arguments inside low read high))
+-- the same of a constraint that holds, where it is of a row without a power
+pub holds_at : (A : Assignment) (k : ℕ) (p : Posted) (r : Row) → row_of p ≡ Some r
+    → list_all is_sum r.wide ≡ true → HoldsIfKnown (whole A) (ConstraintPoint k p)
+    → (are_read (whole A) r.shapes p.arguments ≡ true)
+    × (test_from 0 (whole A) p.arguments r.shapes r.holds ≡ true)
+holds_at A k p r fits sums h =
+    (elim (row_of p) as (λ o. row_of p ≡ o → (state_of_row (whole A) p.arguments o ≡ Unknown) ⊎ IsSomeAnd o (λ r. IsSomeAnd (argument_values (whole A) p.arguments) (λ vs. IsTrue (row_holds r vs))) → (are_read (whole A) r.shapes p.arguments ≡ true) × (test_from 0 (whole A) p.arguments r.shapes r.holds ≡ true)) [
+      | None ↦ λ e _. let wrong : None ≡ Some r = sym e ∙ fits in cc
+      | Some q ↦ λ e h. elim h [
+        | inl unknown ↦
+            let same : q ≡ r = same_Some q r (sym e ∙ fits) in
+            absurd (sums_are_known (whole A) p.arguments r sums (subst (λ z. state_of_row (whole A) p.arguments (Some z) ≡ Unknown) same unknown))
+        | inr holds ↦
+            let same : q ≡ r = same_Some q r (sym e ∙ fits) in
+            let (vs, are, is) = some_of (λ vs. IsTrue (row_holds q vs)) (argument_values (whole A) p.arguments) holds in
+            holds_read r (whole A) p.arguments vs (row_fits p r fits) are (subst (λ z. row_holds z vs ≡ true) same is)
+      ]
+    ]) refl h
 
-  pub never_holds : NeverHolds B (ConstraintPoint k p)
-  never_holds A inside h =
-      (elim (row_of p) as (λ o. row_of p ≡ o → (state_of_row (whole A) p.arguments o ≡ Unknown) ⊎ IsSomeAnd o (λ r. IsSomeAnd (argument_values (whole A) p.arguments) (λ vs. IsTrue (row_holds r vs))) → ⊥) [
-        | None ↦ λ e _. let wrong : None ≡ Some r = sym e ∙ fits in cc
-        | Some q ↦ λ e h. elim h [
-          | inl unknown ↦
-              let same : q ≡ r = same_Some q r (sym e ∙ fits) in
-              sums_are_known (whole A) p.arguments r sums (subst (λ z. state_of_row (whole A) p.arguments (Some z) ≡ Unknown) same unknown)
-          | inr holds ↦
-              let same : q ≡ r = same_Some q r (sym e ∙ fits) in
-              let (vs, are, is) = some_of (λ vs. IsTrue (row_holds q vs)) (argument_values (whole A) p.arguments) holds in
-              never_with A vs inside are (subst (λ z. row_holds z vs ≡ true) same is)
-        ]
-      ]) refl h
+never_holds : (B : Ranges) (k : ℕ) (p : Posted) (r : Row) → row_of p ≡ Some r
+    → list_all is_sum r.wide ≡ true → are_read B.lowest r.shapes p.arguments ≡ true
+    → are_read B.highest r.shapes p.arguments ≡ true
+    → ((K : Partial) → AreBetween B.lowest K B.highest p.arguments r.shapes
+    → test_from 0 K p.arguments r.shapes r.holds ≡ false) → NeverHolds B (ConstraintPoint k p)
+never_holds B k p r fits sums low high fails A inside h =
+    let (read, test) = holds_at A k p r fits sums h in
+    no' (sym test ∙ fails (whole A) (are_amid B (whole A) r.shapes p.arguments inside low read high))
 
 -- the same by what is foretold of the row
 pub row_never : (s : BoundedConstraint) (B : Ranges) (k : ℕ) (q : Option Known) (known : Known) (o : Outlook)

@@ -4,4 +4,5 @@ pub mod Decided
 pub mod Between
 pub mod Within
 pub mod Spans
+pub mod Opened
 pub use Rattle.fz_model.specs as of_model

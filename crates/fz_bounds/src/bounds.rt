@@ -7,6 +7,7 @@ ghost use Rattle.fz_model.specs.Shown.{point_view};
 ghost use Rattle.fz_model.specs.Openings.{HasEach};
 ghost use Rattle.fz_bounds.specs.Bounds.{AreFixed, IsBoth, IsInDomain, IsInside, narrowed, number_as};
 ghost use Rattle.fz_bounds.specs.Ends.{AreEndsAt};
+ghost use Rattle.fz_bounds.specs.Opened.{forgotten};
 
 use crate::domains::ends_of;
 use crate::ends::{KindEnds, ends_between, number_as};
@@ -71,8 +72,13 @@ impl Bounds {
     }
 
     /// Bounds of which nothing is known.
-    fn unknown(alloc: Global, model: &Model<'_>) -> Result<Bounds, AllocError>
-        ensures { IfOk result (λ b. (A : Assignment) → IsInside b A) }
+    ///
+    /// # Errors
+    ///
+    /// Out of memory.
+    pub fn unknown(alloc: Global, model: &Model<'_>) -> Result<Bounds, AllocError>
+        ensures inside { IfOk result (λ b. (A : Assignment) → IsInside b A) }
+        ensures alike { IfOk result (λ b. b.lowest ≡ b.highest) }
     {
         let lowest = Partial::new(alloc, model)?;
         let highest = Partial::new(alloc, model)?;
@@ -134,6 +140,15 @@ impl Bounds {
         let greatest = number_as(kind, high);
         let only = only_value(&least, &greatest);
         self.write(number, least, greatest, only);
+    }
+
+    /// Takes the bounds of a variable away, and changes nothing else.
+    pub(crate) fn forget(&mut self, number: usize)
+        ensures forgotten { self.new ≡ forgotten self.old number }
+    {
+        self.fixed.take_away(number);
+        self.lowest.take_away(number);
+        self.highest.take_away(number);
     }
 
     /// The bounds of a variable, where they are numbers or Booleans. It takes no memory.

@@ -170,6 +170,30 @@ impl Range {
         }
     }
 
+    /// Of the numbers that are at least one of these.
+    pub(crate) fn and_above(self) -> Range
+        ensures { (a b : ℤ) → LiesIn self a → int_le a b ≡ true → LiesIn result b }
+    {
+        Range { high: None, ..self }
+    }
+
+    /// Of the numbers that are at most one of these.
+    pub(crate) fn and_below(self) -> Range
+        ensures { (a b : ℤ) → LiesIn self a → int_le b a ≡ true → LiesIn result b }
+    {
+        Range { low: None, ..self }
+    }
+
+    /// Of the numbers that are in both.
+    pub fn meet(self, other: Range) -> Range
+        ensures { (a : ℤ) → LiesIn self a → LiesIn other a → LiesIn result a }
+    {
+        Range {
+            low: greater(self.low, other.low).or(self.low).or(other.low),
+            high: lesser(self.high, other.high).or(self.high).or(other.high),
+        }
+    }
+
     /// Of the sums.
     pub(crate) fn plus(self, other: Range) -> Range
         ensures { (a b : ℤ) → LiesIn self a → LiesIn other b → LiesIn result (a +ℤ b) }

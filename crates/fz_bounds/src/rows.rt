@@ -63,7 +63,7 @@ fn control(known: Known, at: &BoundedConstraint<'_, '_>) -> Outlook
 
 impl<'s, 'a> BoundedConstraint<'s, 'a> {
     /// Whether each scalar has bounds of the kinds that the row asks for.
-    fn are_known(&self, known: Known) -> bool
+    pub(crate) fn are_known(&self, known: Known) -> bool
         ensures { IsTrue result → AreKnown self.now (known_row known).shapes }
     {
         let shapes = known.shapes();

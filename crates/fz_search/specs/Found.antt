@@ -7,6 +7,7 @@ use Rattle.fz_bounds.specs.of_model.Openings.{HasEach}
 use Rattle.fz_bounds.specs.of_model.States.{IsKnownSolution}
 use Rattle.fz_search.specs.Claims.{beats}
 use Rattle.fz_search.specs.declared.found.Found.{Found}
+use Rattle.fz_search.specs.declared.found.Task.{Task}
 use Rattle.fz_search.specs.declared.found.Found.TheVariants as founds
 
 -- what is asked: whether a known-solution of the model has the values of a filling, and where that
@@ -15,6 +16,10 @@ pub record Asked : Type 0 where
   pub model : Model
   pub filling : Partial
   pub last : Option ℤ
+
+-- what a task asks (private functions only)
+abbrev pub asked_of : Task → Asked
+asked_of t = record { model = t.model.now; filling = t.filling.now; last = t.last }
 
 -- the assignment is one that is asked for
 abbrev pub IsSought : Asked → Assignment → Type 0

@@ -8,6 +8,7 @@
 //! Its worked cases are in `tests/cases` (`completed.txt`).
 #![tactic(auto)]
 
+mod enclosing;
 mod found;
 mod leaf;
 mod linear;

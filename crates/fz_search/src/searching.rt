@@ -2,7 +2,7 @@
 
 ghost use Rattle.std.specs.Prelude.{◌≡◌, None, IfOk, IfSome};
 ghost use Rattle.fz_search.specs.Claims.{HasNoneBeyond};
-ghost use Rattle.fz_search.specs.Found.{IsFoundFor};
+ghost use Rattle.fz_search.specs.Found.{IsFoundFor, asked_of};
 
 use crate::found::{Found, Task};
 use crate::order::Way;
@@ -81,11 +81,7 @@ fn go_through(
 
 /// Searches once, in one way. It tells how many nodes it took, too.
 fn go(task: &Task<'_, '_>, way: Way, steps: usize) -> Result<(Found, usize), AllocError>
-    ensures found { IfOk result (λ r. IsFoundFor (record {
-      model = task.now.model.now;
-      filling = task.now.filling.now;
-      last = task.now.last;
-    }) r.0) }
+    ensures found { IfOk result (λ r. IsFoundFor (asked_of task.now) r.0) }
 {
     let supposes = task.lacks_bounds && !matches!(way, Way::Unsupposed);
     let steps = task
@@ -93,7 +89,7 @@ fn go(task: &Task<'_, '_>, way: Way, steps: usize) -> Result<(Found, usize), All
         .size()
         .saturating_mul(STEPS_EACH)
         .saturating_add(steps);
-    let mut tree = Tree::new(task.alloc, task.model, task.filling, task.last, supposes)?;
+    let mut tree = Tree::new(task, supposes)?;
     let mut work = Work::new(task, way, steps, &tree)?;
     let found = go_through(task, &mut tree, &mut work)?;
     Ok((found, work.nodes()))

@@ -5,8 +5,10 @@ ghost use Rattle.std.specs.Prelude.{◌≡◌, ℕ, ℤ, true, false, ◌≤ℤ�
 ghost use Rattle.fz_bounds.specs.of_model.Meaning.{Assignment};
 ghost use Rattle.fz_bounds.specs.Bounds.{IsInside, Ranges};
 ghost use Rattle.fz_bounds.specs.Ends.{AreEndsAt, put_in};
-ghost use Rattle.fz_search.specs.Found.{IsRefutedAt};
+ghost use Rattle.fz_search.specs.Found.{IsRefutedAt, asked_of};
 
+use crate::enclosing::enclose_all;
+use crate::found::Task;
 use crate::order::{Split, objective_of};
 use fz_bounds::{Bounds, KindEnds, Tightened, cannot_hold};
 use fz_index::Left;
@@ -58,13 +60,19 @@ impl<'m, 'a> std::marker::Model for Tree<'m, 'a> {
         t.bounds (reverse t.steps.items) t.closed };
 }
 
-/// Supposes of integers without bounds that they lie within 64 bits.
-fn suppose_all(model: &Model<'_>, bounds: &mut Bounds) {
+/// Supposes of integers without bounds that they lie within 64 bits, and tells whether there are
+/// some.
+fn suppose_all(model: &Model<'_>, bounds: &mut Bounds) -> bool
+    ensures none { result ≡ false → bounds.new ≡ bounds.old }
+{
+    let mut supposes = false;
     for (number, variable) in model.variables().iter().enumerate() {
         if matches!(variable.kind, Kind::Int) && bounds.ends(number).is_none() {
             bounds.narrow(number, Kind::Int, i64::MIN, i64::MAX);
+            supposes = true;
         }
     }
+    supposes
 }
 
 /// The two parts of a variable's bounds, up to a number and above it: the one that is taken first,
@@ -102,30 +110,23 @@ fn better_than(last: i64, is_cost: bool, low: i64, high: i64) -> (i64, i64)
 }
 
 impl<'m, 'a> Tree<'m, 'a> {
-    /// A tree of one node, with the bounds that the filling and the model give, and where that is
-    /// asked for those that integers without bounds are supposed to have.
-    pub(crate) fn new(
-        alloc: Global,
-        model: &'m Model<'a>,
-        filling: &'m Partial,
-        last: Option<i64>,
-        supposes: bool,
-    ) -> Result<Tree<'m, 'a>, AllocError>
-        ensures { IfOk result (λ t. t
-            ≡ record { model = model.now; filling = filling.now; last = last }) }
+    /// A tree of one node, with the bounds that the filling, the domains and the points of the
+    /// model give, and where that is asked for those that integers without bounds are supposed to
+    /// have.
+    pub(crate) fn new(task: &Task<'m, 'a>, supposes: bool) -> Result<Tree<'m, 'a>, AllocError>
+        ensures { IfOk result (λ t. t ≡ asked_of task.now) }
     {
-        let mut bounds = Bounds::new(alloc, model, filling)?;
-        if supposes {
-            suppose_all(model, &mut bounds);
-        }
+        let mut bounds = Bounds::new(task.alloc, task.model, task.filling)?;
+        enclose_all(task, &mut bounds)?;
+        let all = !(supposes && suppose_all(task.model, &mut bounds));
         Ok(Tree {
-            model,
-            filling,
-            last,
+            model: task.model,
+            filling: task.filling,
+            last: task.last,
             bounds,
-            steps: Vec::new(alloc),
+            steps: Vec::new(task.alloc),
             closed: None,
-            all: !supposes,
+            all,
         })
     }
 

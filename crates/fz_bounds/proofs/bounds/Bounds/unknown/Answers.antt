@@ -1,5 +1,9 @@
+use Rattle.std.proofs.Common.{◌∙◌, sym}
 use Rattle.fz_bounds.proofs.Beginnings.{nothing_known}
 use Rattle.fz_bounds.proofs.bounds.Bounds.unknown.Goals as goal
 
 pub returns : goal.returns
-returns c = nothing_known c.args.model.now c.in_ok-lowest.lowest c.in_ok-highest.highest c.in_ok-lowest.ensures.empty c.in_ok-highest.ensures.empty
+returns c = record {
+  inside = nothing_known c.args.model.now c.in_ok-lowest.lowest c.in_ok-highest.highest c.in_ok-lowest.ensures.empty c.in_ok-highest.ensures.empty;
+  alike = c.in_ok-lowest.ensures.empty ∙ sym c.in_ok-highest.ensures.empty;
+}

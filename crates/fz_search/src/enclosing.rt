@@ -1,0 +1,74 @@
+//! Bounds of the integers that a model gives none.
+
+ghost use Rattle.std.specs.Prelude.{◌≡◌, ℤ, IfOk, Some};
+ghost use Rattle.fz_bounds.specs.Bounds.{IsInside};
+ghost use Rattle.fz_bounds.specs.Decided.{LiesIn};
+ghost use Rattle.fz_bounds.specs.of_model.Meaning.{Assignment, value_at, whole};
+ghost use Rattle.fz_bounds.specs.of_model.of_base.declared.value.Value.TheVariants.{Int};
+ghost use Rattle.fz_search.specs.Found.{IsSought, asked_of};
+
+use crate::found::Task;
+use crate::order::objective_of;
+use fz_bounds::{Bounds, Range};
+use std::alloc::AllocError;
+
+/// So many times the variables are gone over at most: what one gets may give another one some.
+const ROUNDS: usize = 8;
+
+/// The numbers of a variable that are asked for: those of an objective are to be better.
+fn asked_numbers(task: &Task<'_, '_>, variable: usize) -> Range
+    ensures { (A : Assignment) (a : ℤ) → IsSought (asked_of task.now) A
+        → value_at (whole A) variable ≡ Some (Int a) → LiesIn result a }
+{
+    let mut numbers = Range { low: None, high: None };
+    if let (Some(last), Some((objective, is_cost))) = (task.last, objective_of(task.model))
+        && objective == variable
+    {
+        if is_cost {
+            numbers.high = Some(i128::from(last) - 1);
+        } else {
+            numbers.low = Some(i128::from(last) + 1);
+        }
+    }
+    numbers
+}
+
+/// Gives a variable without bounds those that its points leave to it, and tells whether they do.
+fn enclose(
+    task: &Task<'_, '_>,
+    bounds: &mut Bounds,
+    variable: usize,
+    marks: &mut Bounds,
+) -> Result<bool, AllocError>
+    requires unmarked { marks.old.lowest ≡ marks.old.highest }
+    ensures inside { (A : Assignment) → IsSought (asked_of task.now) A → IsInside bounds.old A
+        → IsInside bounds.new A }
+    ensures unmarked { marks.new.lowest ≡ marks.new.highest }
+{
+    let mut points = Vec::new(task.alloc);
+    for place in task.known.places_of(variable) {
+        points.push(place.point)?;
+    }
+    let numbers = asked_numbers(task, variable);
+    Ok(bounds.enclose(task.model, variable, &points, numbers, marks))
+}
+
+/// Gives all variables without bounds those that their points leave to them, so far as they do.
+pub(crate) fn enclose_all(task: &Task<'_, '_>, bounds: &mut Bounds) -> Result<(), AllocError>
+    ensures { IfOk result (λ _. (A : Assignment) → IsSought (asked_of task.now) A
+        → IsInside bounds.old A → IsInside bounds.new A) }
+{
+    let mut marks = Bounds::unknown(task.alloc, task.model)?;
+    'rounds: for _ in 0..ROUNDS {
+        let mut finds = false;
+        'variables: for variable in 0..task.model.variables().len() {
+            if bounds.ends(variable).is_none() && enclose(task, bounds, variable, &mut marks)? {
+                finds = true;
+            }
+        }
+        if !finds {
+            break;
+        }
+    }
+    Ok(())
+}
