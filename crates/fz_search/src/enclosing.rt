@@ -20,7 +20,10 @@ fn asked_numbers(task: &Task<'_, '_>, variable: usize) -> Range
     ensures { (A : Assignment) (a : ℤ) → IsSought (asked_of task.now) A
         → value_at (whole A) variable ≡ Some (Int a) → LiesIn result a }
 {
-    let mut numbers = Range { low: None, high: None };
+    let mut numbers = Range {
+        low: None,
+        high: None,
+    };
     if let (Some(last), Some((objective, is_cost))) = (task.last, objective_of(task.model))
         && objective == variable
     {
@@ -33,7 +36,7 @@ fn asked_numbers(task: &Task<'_, '_>, variable: usize) -> Range
     numbers
 }
 
-/// Gives a variable without bounds those that its points leave to it, and tells whether they do.
+/// Gives a variable without bounds those that its points leave to it, and tells whether it does.
 fn enclose(
     task: &Task<'_, '_>,
     bounds: &mut Bounds,
@@ -45,6 +48,9 @@ fn enclose(
         → IsInside bounds.new A }
     ensures unmarked { marks.new.lowest ≡ marks.new.highest }
 {
+    if bounds.ends(variable).is_some() {
+        return Ok(false);
+    }
     let mut points = Vec::new(task.alloc);
     for place in task.known.places_of(variable) {
         points.push(place.point)?;
@@ -62,9 +68,7 @@ pub(crate) fn enclose_all(task: &Task<'_, '_>, bounds: &mut Bounds) -> Result<()
     'rounds: for _ in 0..ROUNDS {
         let mut finds = false;
         'variables: for variable in 0..task.model.variables().len() {
-            if bounds.ends(variable).is_none() && enclose(task, bounds, variable, &mut marks)? {
-                finds = true;
-            }
+            finds |= enclose(task, bounds, variable, &mut marks)?;
         }
         if !finds {
             break;
