@@ -1,11 +1,11 @@
 //! The search for values.
 
-ghost use Rattle.std.specs.Prelude.{◌≡◌, None, IfOk, IfSome};
+ghost use Rattle.std.specs.Prelude.{◌≡◌, None, Some, IfOk, IfSome};
 ghost use Rattle.fz_search.specs.Claims.{HasNoneBeyond};
-ghost use Rattle.fz_search.specs.Found.{IsFoundFor};
+ghost use Rattle.fz_search.specs.Found.{HasNone, IsFoundFor};
 
 use crate::found::{Found, Task};
-use crate::order::Way;
+use crate::order::{Way, objective_of};
 use crate::proposal::copied;
 use crate::tree::Tree;
 use crate::work::{Move, Work};
@@ -191,6 +191,56 @@ pub fn prove(
     let (found, nodes) = go(&task, Way::Unsupposed, steps.saturating_mul(CLAIM))?;
     match found {
         Found::Refuted(_) => Ok(Some(nodes)),
+        Found::Values(_) | Found::Nothing => Ok(None),
+    }
+}
+
+/// The best number that bounds leave to the objective, before any variable is split.
+fn best_left(task: &Task<'_, '_>, steps: usize) -> Result<Option<i64>, AllocError> {
+    let Some((variable, is_cost)) = objective_of(task.model) else {
+        return Ok(None);
+    };
+    let mut tree = Tree::new(task.alloc, task.model, task.filling, None, false)?;
+    let mut work = Work::new(task, Way::Unsplit, steps, &tree)?;
+    go_through(task, &mut tree, &mut work)?;
+    let Some(ends) = tree.ends(variable) else {
+        return Ok(None);
+    };
+    Ok(Some(if is_cost { ends.low } else { ends.high }))
+}
+
+/// A number that no known-solution with the values of a filling has an objective better than: the
+/// best that bounds leave to the objective, where a search shows that. It gives none where the
+/// objective has no bounds. It refuses only where memory runs out.
+pub fn bound(
+    alloc: Global,
+    model: &Model<'_>,
+    filling: &Partial,
+    steps: usize,
+    known: &mut Option<Search>,
+) -> Result<Option<i64>, AllocError>
+    ensures { IfOk result (λ o. IfSome o (λ b. HasNone
+        (record { model = model.now; filling = filling.now; last = Some b }))) }
+{
+    let known = known_of(alloc, model, known)?;
+    let (sets, lacks_bounds) = open_of(alloc, model, filling)?;
+    let open = Task {
+        alloc,
+        known,
+        model,
+        filling,
+        sets: &sets,
+        lacks_bounds,
+        before: None,
+        last: None,
+    };
+    let Some(best) = best_left(&open, steps)? else {
+        return Ok(None);
+    };
+    let task = Task { last: Some(best), ..open };
+    let (found, _) = go(&task, Way::Unsupposed, steps)?;
+    match found {
+        Found::Refuted(_) => Ok(Some(best)),
         Found::Values(_) | Found::Nothing => Ok(None),
     }
 }

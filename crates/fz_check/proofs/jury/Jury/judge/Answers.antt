@@ -12,7 +12,8 @@ returns-clause-judged c =
     let v = verdict_view c.in-Ok.verdict in
     let aim : goal_view c.goal-goal.result.now ≡ c.args.self.now.judge.model.aim = c.goal-goal.ensures.asked ∙ ap (λ (m : Model). m.aim) (c.model.ensures ∙ c.judge.ensures.same_model) in
     record {
-      outcome = outcome_of c.args.self.now.judge c.judge.new.self (block_of c.args.block.now) v c.in-Ok.ensures.judged;
+      bound = c.in_ok-bound.bound;
+      outcome = outcome_of c.args.self.now.judge c.judge.new.self (block_of c.args.block.now) v c.in_ok-bound.bound c.in-Ok.ensures.judged TODO;
       same_model = c.judge.ensures.same_model;
       same_completion = c.judge.ensures.same_completion;
       same_claims = refl;
