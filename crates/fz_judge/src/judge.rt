@@ -394,11 +394,7 @@ impl<'m, 'a> Judge<'m, 'a> {
     /// # Errors
     ///
     /// Out of memory.
-    pub fn bound(
-        &mut self,
-        alloc: Global,
-        block: &Block<'_>,
-    ) -> Result<Option<i64>, AllocError>
+    pub fn bound(&mut self, alloc: Global, block: &Block<'_>) -> Result<Option<i64>, AllocError>
         ensures same { self.new ≡ self.old }
         ensures bounded { IfOk result (λ o. IfSome o
             (IsBound self.old.model (block_of block.now))) }

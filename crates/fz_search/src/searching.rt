@@ -162,6 +162,21 @@ pub fn search(
     Ok(Found::Nothing)
 }
 
+/// How many nodes of a tree show that there is none that is asked for, where some do.
+fn refuting(task: &Task<'_, '_>, steps: usize) -> Result<Option<usize>, AllocError>
+    ensures { IfOk result (λ o. IfSome o (λ _. HasNone (record {
+      model = task.now.model.now;
+      filling = task.now.filling.now;
+      last = task.now.last;
+    }))) }
+{
+    let (found, nodes) = go(task, Way::Unsupposed, steps)?;
+    match found {
+        Found::Refuted(_) => Ok(Some(nodes)),
+        Found::Values(_) | Found::Nothing => Ok(None),
+    }
+}
+
 /// How many nodes of a tree show that no known-solution of the model has an objective better than
 /// `last`, or where that is none, that there is none at all. It gives nothing where the search
 /// comes to no end in ten times so many steps, or finds one. It refuses only where memory runs
@@ -188,11 +203,7 @@ pub fn prove(
         before: None,
         last,
     };
-    let (found, nodes) = go(&task, Way::Unsupposed, steps.saturating_mul(CLAIM))?;
-    match found {
-        Found::Refuted(_) => Ok(Some(nodes)),
-        Found::Values(_) | Found::Nothing => Ok(None),
-    }
+    refuting(&task, steps.saturating_mul(CLAIM))
 }
 
 /// The best number that bounds leave to the objective, before any variable is split.
@@ -237,10 +248,12 @@ pub fn bound(
     let Some(best) = best_left(&open, steps)? else {
         return Ok(None);
     };
-    let task = Task { last: Some(best), ..open };
-    let (found, _) = go(&task, Way::Unsupposed, steps)?;
-    match found {
-        Found::Refuted(_) => Ok(Some(best)),
-        Found::Values(_) | Found::Nothing => Ok(None),
+    let task = Task {
+        last: Some(best),
+        ..open
+    };
+    match refuting(&task, steps)? {
+        Some(_) => Ok(Some(best)),
+        None => Ok(None),
     }
 }
