@@ -69,10 +69,10 @@ impl<'m, 'a, 'k> Jury<'m, 'a, 'k> {
             Err(BlockError::Memory) => return Err(CheckError::Memory),
             Err(error) => return Err(CheckError::Block(self.account.blocks + 1, error)),
         };
+        let bound = self.bound(alloc, block, &verdict)?;
         let goal = self.judge.model().goal();
         let filled = self.judge.filled_objective();
         let found = self.judge.objective();
-        let bound = self.bound(alloc, block, &verdict)?;
         let late = self
             .account
             .hear_block(goal, &verdict, filled, found, bound);
@@ -90,9 +90,7 @@ impl<'m, 'a, 'k> Jury<'m, 'a, 'k> {
         ensures bounded { IfOk result (λ o. IfSome o
             (IsBound self.old.judge.model (block_of block.now))) }
         ensures unasked { self.old.judge.completion ≡ Off → IfOk result (λ o. o ≡ None) }
-        ensures same_judge { self.new.judge ≡ self.old.judge }
-        ensures same_account { self.new.account ≡ self.old.account }
-        ensures same_claims { self.new.claims ≡ self.old.claims }
+        ensures same { self.new ≡ self.old }
     {
         let (Claims::Judged(..), Verdict::Satisfied, None) = (
             self.claims,

@@ -1,5 +1,5 @@
 -- A bound on the objectives that a block leaves open (this project's profile).
-use Rattle.std.specs.Prelude.{◌≡◌, ℤ, true, Some, ⊥}
+use Rattle.std.specs.Prelude.{◌≡◌, ℤ, true, Some}
 use Rattle.fz_search.specs.Claims.{beats}
 use Rattle.fz_search.specs.of_model.Meaning.{Assignment, Model, objective, whole}
 use Rattle.fz_search.specs.of_model.States.{IsKnownSolution}
