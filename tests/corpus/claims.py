@@ -6,9 +6,10 @@
 Each of COUNT small random models has constraints of several assignments, so that many have few
 solutions or none, and mostly an objective. All solutions are found by trying all values, with the
 rows of slow.py. That there is none may be proved only where there is none, and that none is better
-only behind the best, also where it would take a power that isn't known. Prints how many of the
-claims that are so are proved, and ends with 'N passed, M failed'; the files of a wrong answer are
-kept."""
+only behind the best, also where it would take a power that isn't known. Behind a block without its
+objective the best solution, which is known, may refute it only where it is better than all that
+extend the block. Prints how many of the claims that are so are proved, or refuted there, and ends
+with 'N passed, M failed'; the files of a wrong answer are kept."""
 import os
 import random
 import re
@@ -22,8 +23,10 @@ import slow
 
 NO_SOLUTION, NONE_BETTER = "=====UNSATISFIABLE=====", "=========="
 PROVED, REFUTED, NOT_JUDGED = "proved", "refuted by block 1", "not judged"
+BEATEN = "refuted by known"
 TOLD = re.compile(
-    f"^claim: (=+[A-Z]*=+) ({NOT_JUDGED}|{REFUTED}|({PROVED}), ([0-9]+) nodes?)$", re.M
+    f"^claim: (=+[A-Z]*=+) (?:({NOT_JUDGED}|{REFUTED})|({BEATEN}) block [12]"
+    f"|({PROVED}), ([0-9]+) nodes?)$", re.M
 )
 FACTORS = (-2, -1, 1, 2, 3)
 MOST_TRIED = 200_000  # assignments of a model
@@ -78,6 +81,17 @@ class Contested(damaged.Small):
                 if n == self.objective or self.rand.random() < share}
         return damaged.block_text(kept)
 
+    def open_claim(self, known: List[slow.Values]) -> "Claim":
+        """A claim behind a block without the objective, and the best solution behind it."""
+        kept = slow.Values({n: v for n, v in self.rand.choice(known).items()
+                            if n != self.objective and self.rand.random() < 0.7})
+        costs = sorted(map(self.cost, self.extensions(kept)))
+        best = min(known, key=self.cost)
+        right = BEATEN if self.cost(best) < costs[0] else NOT_JUDGED
+        if costs[-1] == min(map(self.cost, self.extensions(slow.Values()))):
+            right = PROVED
+        return Claim(NONE_BETTER, damaged.block_text(kept), right, damaged.block_text(best))
+
 
 class Claim(NamedTuple):
     """A claim behind a block, or behind none, and what is right to tell of it."""
@@ -85,6 +99,7 @@ class Claim(NamedTuple):
     line: str
     block: str
     right: str
+    known: str = ""
 
 
 def claims(model: Contested) -> Iterator[Claim]:
@@ -102,6 +117,7 @@ def claims(model: Contested) -> Iterator[Claim]:
     for cost in sorted(of_cost)[:2]:
         right = PROVED if cost == least else NOT_JUDGED
         yield Claim(NONE_BETTER, model.block(of_cost[cost]), right)
+    yield model.open_claim(known)
 
 
 def told_of(claim: Claim, report: str) -> Tuple[str, int]:
@@ -109,7 +125,7 @@ def told_of(claim: Claim, report: str) -> Tuple[str, int]:
     found = TOLD.search(report)
     if not found or found[1] != claim.line:
         return report, 0
-    return found[3] or found[2], int(found[4] or 0)
+    return found[2] or found[3] or found[4], int(found[5] or 0)
 
 
 class Tally:
@@ -119,17 +135,20 @@ class Tally:
         self.program, self.folder = program, folder
         self.passed = self.failed = self.most_nodes = 0
         self.so: Counter = Counter()
-        self.proved: Counter = Counter()
+        self.told: Counter = Counter()
 
     def ask(self, model: str, claim: Claim, options: List[str]) -> None:
         """Asks of a claim, and keeps the files where the answer is wrong."""
-        texts = model, f"{claim.block}{claim.line}\n"
+        texts = model, f"{claim.block}{claim.line}\n{claim.known}"
+        if claim.known:
+            options = ["--complete", "--known", os.path.join(self.folder, "stream.txt")]
         report = damaged.report(self.program, self.folder, ["--claims=prove", *options], *texts)
         told, nodes = told_of(claim, report)
         self.most_nodes = max(nodes, self.most_nodes)
-        self.so[claim.line] += claim.right == PROVED
-        self.proved[claim.line] += claim.right == told == PROVED
-        if told == claim.right or claim.right == PROVED and told == NOT_JUDGED:
+        decided = claim.right in (PROVED, BEATEN)
+        self.so[claim.line, claim.right] += decided
+        self.told[claim.line, claim.right] += decided and told == claim.right
+        if told == claim.right or decided and told == NOT_JUDGED:
             self.passed += 1
             return
         self.failed += 1
@@ -153,8 +172,8 @@ def main() -> int:
             text = model.text()
             for claim in claims(model):
                 tally.ask(text, claim, model.rand.choice(([], ["--complete"])))
-    for line in (NO_SOLUTION, NONE_BETTER):
-        print(f"{line}: {tally.proved[line]} of {tally.so[line]} that are so are proved")
+    for line, right in sorted(+tally.so):
+        print(f"{line}: {tally.told[line, right]} of {tally.so[line, right]} are {right}")
     print(f"{tally.most_nodes} nodes at the most")
     print(f"{tally.passed} passed, {tally.failed} failed")
     return 1 if tally.failed else 0

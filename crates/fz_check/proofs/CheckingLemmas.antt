@@ -97,10 +97,10 @@ module _ (m : Model) (blocks : List the_block.Block) (i : ℕ) (j : Jury) (verdi
         → JudgesOneMore j j' (block_of b) (verdict_view v) → more ≡ verdicts ++ v ∷ []
         → JudgedSoFar m blocks (i + 1) j' more
     judged_next j' v more one pushed =
-        let out = last_outcome j'.judge (verdict_view v) in
+        let out = last_outcome j'.judge (verdict_view v) one.bound in
         let aim = ap (λ (n : Model). n.aim) h.judged.same_model in
-        let account_next : j'.account ≡ behind_block m.aim (account m.aim NotJudged no_account h.outcomes) out.verdict out.filled out.found =
-        one.account_is ∙ (λ k. behind_block (aim k) (h.account_is k) out.verdict out.filled out.found) in
+        let account_next : j'.account ≡ behind_block m.aim (account m.aim NotJudged no_account h.outcomes) out =
+        one.account_is ∙ (λ k. behind_block (aim k) (h.account_is k) out) in
         let parts_next = ap parts_of front ∙ ap (map BlockPart) (map-append block_of (take i blocks) (b ∷ []))
         ∙ map-append BlockPart (map block_of (take i blocks)) (block_of b ∷ []) in
         record {

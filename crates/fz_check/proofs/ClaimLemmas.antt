@@ -5,10 +5,13 @@ use Rattle.std.specs.Prelude.{IfSome, ◌≤◌}
 use Rattle.std.specs.List.{AllByRecursion}
 use Rattle.std.specs.Option.{option_or}
 use Rattle.fz_judge.specs.of_model.Meaning.{Aim, Model, objective}
+use Rattle.fz_judge.specs.of_stream.declared.line.ClaimKind.{ClaimKind}
+use Rattle.fz_judge.specs.of_stream.declared.line.ClaimKind.TheVariants.{Complete, Unsatisfiable}
 use Rattle.fz_judge.specs.of_stream.declared.reading.Claim.{Claim}
 use Rattle.fz_judge.specs.of_stream.Found.{claims_in}
 use Rattle.fz_judge.specs.of_stream.Parts.{blocks_in, SolutionBlock, StreamPart, BlockPart, ClaimPart}
 use Rattle.fz_judge.specs.of_search.Claims.{is_better}
+use Rattle.fz_judge.specs.Bounds.{IsBound}
 use Rattle.fz_judge.specs.of_filling.declared.completion.Completion.{Completion}
 use Rattle.fz_judge.specs.of_filling.declared.completion.Completion.TheVariants.{Off, On}
 use Rattle.fz_judge.specs.of_filling.Judged.{JudgeState, IsJudged}
@@ -34,7 +37,7 @@ use Rattle.fz_check.specs.declared.account.Account.{Account}
 use Rattle.fz_check.specs.declared.options.Options.{Options}
 use Rattle.fz_check.specs.Claims.{IsFalse, IsShown, IsTrueClaim, Outcome, HasSolutionWith, HaveOutcomes, IsOutcome, IsSolvedWith, AreOutcomes, Knows, KnowsOf, IsTrueOf, account, answer_told, answer_with, behind, behind_block, behind_claim, best_refuter, better_of, best_with, claim_event, first_of, is_satisfied, known_refuter, known_with, late_earliest, late_events, late_refuted, late_waiting, no_account, outcome_told, own_refuter, refuter, refutes, saying, statement, told, verdicts_of}
 use Rattle.fz_check.specs.Claims.Outcome.{OfBlock, OfClaim}
-use Rattle.fz_check.specs.Telling.{OutcomesGoOn}
+use Rattle.fz_check.specs.Telling.{OutcomesGoOn, last_outcome}
 use Rattle.fz_check.proofs.EventLemmas.{comes_by, comes_later}
 use Rattle.fz_check.specs.Report.{Event, claimed, claims_by, claims_past, in_order}
 use Rattle.fz_check.specs.Report.Event.{Judged}
@@ -118,7 +121,7 @@ tallied : (aim : Aim) (c : Claims) (a : Account) (os : List Outcome)
 tallied aim c a [] = (sym (add-zero a.blocks), or_none a.violated, or_none a.undecided)
 tallied aim c a (OfClaim kind shown ∷ os) = tallied aim c (behind_claim aim c a kind) os
 tallied aim c a (OfBlock o ∷ os) =
-    let t = tallied aim c (behind_block aim a o.verdict o.filled o.found) os in
+    let t = tallied aim c (behind_block aim a o) os in
     let n = a.blocks + 1 in
     let vs = verdicts_of os in
     let next : n + 1 ≡ suc n = omega arith in (
@@ -161,7 +164,7 @@ refuted_unjudged aim a (OfClaim kind shown ∷ os) none =
     refuted_unjudged aim (behind_claim aim NotJudged a kind) os none
 refuted_unjudged aim a (OfBlock o ∷ os) none =
     let late = late_unjudged aim a.waiting (is_satisfied o.verdict) o.found none in
-    refuted_unjudged aim (behind_block aim a o.verdict o.filled o.found) os (ap (λ s. late_waiting s a.waiting) late ∙ none)
+    refuted_unjudged aim (behind_block aim a o) os (ap (λ s. late_waiting s a.waiting) late ∙ none)
     ∙ ap (λ s. late_earliest s a.refuted) late
 
 -- the answer is that of the verdicts
@@ -212,7 +215,7 @@ told_unjudged o m a filled found (ClaimPart kind ∷ ps) (OfClaim k shown ∷ os
 told_unjudged o m a filled found (BlockPart block ∷ ps) (OfBlock b ∷ os) unasked none (is, are) =
     let n = a.blocks in
     let cs = claims_in (n + 1) ps in
-    let next = behind_block m.aim a b.verdict b.filled b.found in
+    let next = behind_block m.aim a b in
     let late = late_unjudged m.aim a.waiting (is_satisfied b.verdict) b.found none in
     let waits : next.waiting ≡ None = ap (λ s. late_waiting s a.waiting) late ∙ none in
     let by = none_by n cs (claims_later (n + 1) ps) in
@@ -231,14 +234,18 @@ compared_now : (c : Completion) (filled own found : Option ℤ) → own ≡ fill
 compared_now Off filled own found is one = sym is ∙ sym (one refl)
 compared_now On filled own found is one = refl
 
-pub outcome_of : (j j' : JudgeState) (block : SolutionBlock) (v : Verdict) → IsJudged j j' block v
-    → IsOutcome j.completion j.model j.before j.found block (record { verdict = v; filled = j'.before; found = j'.found })
-outcome_of j j' block v h = record {
+pub outcome_of : (j j' : JudgeState) (block : SolutionBlock) (v : Verdict) (bound : Option ℤ)
+    → IsJudged j j' block v → IfSome bound (IsBound j.model block)
+    → (j.completion ≡ Off → bound ≡ None)
+    → IsOutcome j.completion j.model j.before j.found block (last_outcome j' v bound)
+outcome_of j j' block v bound h bounded no_bound = record {
   filling = h.filling;
   is_filled = h.is_filled;
   filled_is = h.kept_is;
   is_told = h.told;
   one_objective = h.one_objective;
+  bounded = bounded;
+  no_bound = no_bound;
   solved = λ e. (
       let u = satisfied_under j.completion j.model block h.filling j.before j.found j'.found _ v h.partial refl h.told e in
       let s = satisfied_solves j.model u.values block _ u.partial u.satisfied in
@@ -317,12 +324,21 @@ module _ (m : Model) where
   shown_true (ClaimsJudged k proving.Off) s nodes shows = absurd shows
   shown_true (ClaimsJudged k proving.On) s nodes shows = shows
 
-  claim_true : (c : Claims) (s : Statement) (by : Option Refuter) (shown : Option ℕ)
-      → IfSome by (λ _. IsFalse m s.says) → IsShown c m s.says shown
+  -- what is proved is told behind an objective of a filling alone
+  told_last : (k : ClaimKind) (filled bound : Option ℤ) → IsTrueClaim m (saying k filled)
+      → IsTrueClaim m (saying k (option_or filled bound))
+  told_last Unsatisfiable filled bound h = h
+  told_last Complete (Some last) bound h = h
+  told_last Complete None bound h = absurd h
+  told_last _ filled bound h = absurd h
+
+  claim_true : (c : Claims) (s : Statement) (says : Saying) (by : Option Refuter) (shown : Option ℕ)
+      → (IsTrueClaim m says → IsTrueClaim m s.says)
+      → IfSome by (λ _. IsFalse m s.says) → IsShown c m says shown
       → IsTrueOf m (claim_event s (option_map (λ (r : Refuter). record { claim = s; by = r }) by) shown)
-  claim_true c s (Some by) shown h shows = h
-  claim_true c s None (Some nodes) h shows = shown_true c s.says nodes shows
-  claim_true c s None None h shows = tt
+  claim_true c s says (Some by) shown is h shows = h
+  claim_true c s says None (Some nodes) is h shows = is (shown_true c says nodes shows)
+  claim_true c s says None None is h shows = tt
 
   -- it stays so
   one_more_sound : (before : Option ℕ) (v : Verdict) (found : Option ℤ) (number : ℕ)
@@ -345,25 +361,26 @@ module _ (m : Model) where
   late_true None number es h rest = rest
   late_true (Some s) number es h rest = (h, rest)
 
-  pub all_true : (o : Options) (a : Account) (found : Option ℤ) (ps : List StreamPart)
-      (os : List Outcome) → KnowsOf m o.claims → IsSound a → AreOutcomes o m a.objective found ps os
-      → AllByRecursion (IsTrueOf m) (told m.aim o.claims a os)
-  all_true o a found [] [] knows sound are = tt
-  all_true o a found (ClaimPart kind ∷ ps) (OfClaim k shown ∷ os) knows sound (is, shows, are) = (
-    claim_true o.claims (statement a k) (refuter m.aim o.claims a (saying k a.objective)) shown
+  pub all_true : (o : Options) (a : Account) (filled bound found : Option ℤ) (ps : List StreamPart)
+      (os : List Outcome) → a.objective ≡ option_or filled bound → KnowsOf m o.claims → IsSound a
+      → AreOutcomes o m filled found ps os → AllByRecursion (IsTrueOf m) (told m.aim o.claims a os)
+  all_true o a filled bound found [] [] last knows sound are = tt
+  all_true o a filled bound found (ClaimPart kind ∷ ps) (OfClaim k shown ∷ os) last knows sound (is, shows, are) = (
+    claim_true o.claims (statement a k) (saying k filled) (refuter m.aim o.claims a (saying k a.objective)) shown
+        (λ h. subst (λ l. IsTrueClaim m (saying k l)) (sym last) (told_last k filled bound h))
         (refuter_false o.claims a (saying k a.objective) knows sound) shows,
-    all_true o (behind_claim m.aim o.claims a k) found ps os knows sound are,
+    all_true o (behind_claim m.aim o.claims a k) filled bound found ps os last knows sound are,
   )
-  all_true o a found (BlockPart block ∷ ps) (OfBlock b ∷ os) knows sound (is, are) =
-      let next = behind_block m.aim a b.verdict b.filled b.found in
+  all_true o a filled bound found (BlockPart block ∷ ps) (OfBlock b ∷ os) last knows sound (is, are) =
+      let next = behind_block m.aim a b in
       let solved : b.verdict ≡ Satisfied → HasSolutionWith m b.found = λ e. has_solution m block b.found (is.solved e) in
       let sound_next : IsSound next = one_more_sound a.satisfied b.verdict b.found (a.blocks + 1) solved sound in (
         tt,
         late_true (late_refuted m.aim a.waiting (is_satisfied b.verdict) b.found) (a.blocks + 1) _
             (late_false a.waiting (is_satisfied b.verdict) b.found (λ e. solved (satisfied_is b.verdict e)))
-            (all_true o next b.found ps os knows sound_next are),
+            (all_true o next b.filled b.bound b.found ps os refl knows sound_next are),
       )
-  all_true o a found _ _ knows sound are = absurd are
+  all_true o a filled bound found _ _ last knows sound are = absurd are
 
   -- ---- what is known of other streams
 

@@ -31,11 +31,11 @@ judged_none o m j is =
     (record { same_model = refl; same_completion = refl; goes_on = λ more others are. are })
 
 pub judged_more : (o : Options) (m : Model) (j j' : Jury) (ps : List StreamPart)
-    (os : List Outcome) (block : SolutionBlock) (v : Verdict) → JudgesOneMore j j' block v
+    (os : List Outcome) (block : SolutionBlock) (v : Verdict) (one : JudgesOneMore j j' block v)
     → HasJudged o m j.judge ps os
-    → HasJudged o m j'.judge (ps ++ BlockPart block ∷ []) (os ++ OfBlock (last_outcome j'.judge v) ∷ [])
+    → HasJudged o m j'.judge (ps ++ BlockPart block ∷ []) (os ++ OfBlock (last_outcome j'.judge v one.bound) ∷ [])
 judged_more o m j j' ps os block v one h =
-    let out = last_outcome j'.judge v in
+    let out = last_outcome j'.judge v one.bound in
     let is = subst₂ (λ d n. IsOutcome d n j.judge.before j.judge.found block out) h.same_completion h.same_model one.outcome in
     record {
       same_model = one.same_model ∙ h.same_model;
@@ -49,7 +49,6 @@ told_none o m j judge account claims = record {
   judged = judged_none o m j.judge judge;
   claims_are = claims;
   account_is = account;
-  same_objective = ap (λ (a : Account). a.objective) account ∙ sym (ap (λ (s : JudgeState). s.before) judge);
 }
 
 module _ (o : Options) (m : Model) (j : Jury) (parts : List StreamPart) (os : List Outcome) (h : HasTold o m j parts os) where
@@ -68,10 +67,9 @@ module _ (o : Options) (m : Model) (j : Jury) (parts : List StreamPart) (os : Li
   tells_outcome : (text : Event → List ℕ → Type 0) (j' : Jury) (part : StreamPart) (k : Outcome)
       (line : List ℕ) → HasJudged o m j'.judge (parts ++ part ∷ []) (os ++ k ∷ [])
       → j'.claims ≡ j.claims → j'.account ≡ behind j.judge.model.aim j.claims j.account k
-      → j'.account.objective ≡ j'.judge.before
       → AreOf text (outcome_told j.judge.model.aim j.claims j.account k) line
       → TellsOneMore o text m j' parts os part line
-  tells_outcome text j' part k line judged claims accounted objective is =
+  tells_outcome text j' part k line judged claims accounted is =
       let now = account m.aim o.claims no_account os in
       let one = outcome_told m.aim o.claims now k in
       let own : outcome_told j.judge.model.aim j.claims j.account k ≡ one =
@@ -86,7 +84,6 @@ module _ (o : Options) (m : Model) (j : Jury) (parts : List StreamPart) (os : Li
           judged = judged;
           claims_are = claims ∙ h.claims_are;
           account_is = accounted ∙ after ∙ sym (account_append m.aim o.claims no_account os (k ∷ []));
-          same_objective = objective;
         };
         lines = λ bytes others. subst (λ es. AreOf text es (bytes ++ line)) (sym all)
             (more_of text (told_of m o.claims os) one bytes line others (subst (λ es. AreOf text es line) own is));
@@ -95,8 +92,7 @@ module _ (o : Options) (m : Model) (j : Jury) (parts : List StreamPart) (os : Li
   heard_more : (j' : Jury) (kind : ClaimKind) (e : Event) (one : HearsOneMore j j' kind e)
       → HasJudged o m j'.judge (parts ++ ClaimPart kind ∷ []) (os ++ OfClaim kind one.shown ∷ [])
   heard_more j' kind e one =
-      let shows = subst (λ f. IsShown o.claims m (saying kind f) one.shown) h.same_objective
-      (subst₂ (λ c n. IsShown c n (saying kind j.account.objective) one.shown) h.claims_are h.judged.same_model one.is_shown) in
+      let shows = subst₂ (λ c n. IsShown c n (saying kind j.judge.before) one.shown) h.claims_are h.judged.same_model one.is_shown in
       subst (λ s. HasJudged o m s (parts ++ ClaimPart kind ∷ []) (os ++ OfClaim kind one.shown ∷ [])) (sym one.same_judge)
       (record {
         same_model = h.judged.same_model;
@@ -110,16 +106,15 @@ module _ (o : Options) (m : Model) (j : Jury) (parts : List StreamPart) (os : Li
       → TellsOneMore o text m j' parts os (ClaimPart kind) line
   tells_claim text j' kind e line one is =
       tells_outcome text j' (ClaimPart kind) (OfClaim kind one.shown) line (heard_more j' kind e one) one.same_claims one.account_is
-      (ap (λ (a : Account). a.objective) one.account_is ∙ h.same_objective ∙ sym (ap (λ (s : JudgeState). s.before) one.same_judge))
       (subst (λ f. AreOf text (f ∷ []) line) one.event_is is)
 
   pub tells_block : (text : Event → List ℕ → Type 0) (j' : Jury) (block : SolutionBlock) (v : Verdict)
-      (line : List ℕ) → JudgesOneMore j j' block v
-      → AreOf text (block_told j.judge.model.aim j.account (last_outcome j'.judge v)) line
+      (line : List ℕ) (one : JudgesOneMore j j' block v)
+      → AreOf text (block_told j.judge.model.aim j.account (last_outcome j'.judge v one.bound)) line
       → TellsOneMore o text m j' parts os (BlockPart block) line
   tells_block text j' block v line one is =
-      tells_outcome text j' (BlockPart block) (OfBlock (last_outcome j'.judge v)) line (judged_more o m j j' parts os block v one h.judged)
-      one.same_claims one.account_is (ap (λ (a : Account). a.objective) one.account_is) is
+      tells_outcome text j' (BlockPart block) (OfBlock (last_outcome j'.judge v one.bound)) line (judged_more o m j j' parts os block v one h.judged)
+      one.same_claims one.account_is is
 
   pub leaves_block : (most : ℕ) (block : the_block.Block) (e : CheckError)
       → IsUnjudged most j block e → HasPlaces block → EndsWithin most block → IsUntold m parts (BlockPart (block_of block)) e

@@ -1,5 +1,5 @@
 -- What is known between two parts of a known stream.
-use Rattle.std.proofs.Common.{◌≡◌, ℕ, ℤ, false, true, List, [], ◌∷◌, ◌++◌, Option, None, inl, sym, ap, ◌∙◌, subst, subst₂}
+use Rattle.std.proofs.Common.{◌≡◌, ℕ, ℤ, false, true, List, [], ◌∷◌, ◌++◌, Option, None, inl, refl, sym, ap, ◌∙◌, subst, subst₂}
 use Rattle.std.specs.Io.KnownBytes.{IsAtEnd}
 use Rattle.fz_judge.specs.of_model.Meaning.{Aim, Model}
 use Rattle.fz_judge.specs.of_stream.Parts.{SolutionBlock, StreamPart, Frame}
@@ -77,5 +77,5 @@ pub learned : (m : Model) (j j' : JudgeState) (block : SolutionBlock) (v : Verdi
     (aim : Aim) (o : Option ℤ) (s : Source) → j.model ≡ m → IsJudged j j' block v → v ≡ Satisfied
     → aim ≡ m.aim → o ≡ j'.found → new ≡ known_with aim old o s → Knows m old → Knows m new
 learned m j j' block v old new aim o s same judged satisfied aims is known h =
-    let solved : HasSolutionWith m o = subst₂ (λ n k. HasSolutionWith n k) same (sym is) (has_solution j.model block j'.found ((outcome_of j j' block v judged).solved satisfied)) in
+    let solved : HasSolutionWith m o = subst₂ (λ n k. HasSolutionWith n k) same (sym is) (has_solution j.model block j'.found ((outcome_of j j' block v None judged tt (λ _. refl)).solved satisfied)) in
     subst (Knows m) (sym (known ∙ ap (λ a. known_with a old o s) aims)) (knows_more m old o s h solved)

@@ -19,6 +19,7 @@ use Rattle.fz_judge.specs.of_filling.Verdict.{Verdict, Answer, IsFilled, answer_
 use Rattle.fz_judge.specs.of_filling.Verdict.Verdict.{Satisfied}
 use Rattle.fz_judge.specs.of_filling.Verdict.Answer.{Rejected, ClaimRejected}
 use Rattle.fz_judge.specs.of_search.Claims.{HasNoneBeyond, beats, is_better}
+use Rattle.fz_judge.specs.Bounds.{IsBound}
 use Rattle.fz_check.specs.declared.claims.Saying.{Saying}
 use Rattle.fz_check.specs.declared.claims.Saying.TheVariants.{Nothing, NoSolution, NoneBetter}
 use Rattle.fz_check.specs.declared.claims.Statement.{Statement}
@@ -40,8 +41,8 @@ use Rattle.fz_check.specs.Reported.{AreBorneOut, HoldsOfModelWithin}
 
 -- ---- what a claim says, and when that is false or true
 
--- what a claim says behind a block with this objective: that there is no solution, or none that is
--- better
+-- what a claim says behind a block with this objective, or this bound on it: that there is no
+-- solution, or none that is better
 abbrev pub saying : ClaimKind → Option ℤ → Saying
 saying Unsatisfiable last = NoSolution
 saying Complete (Some last) = NoneBetter last
@@ -71,12 +72,13 @@ IsShown _ m s (Some nodes) = ⊥
 
 -- ---- what is known of a part of the stream, and of other streams
 
--- of a block: a verdict, the objective under the block's filling, and the one under the values with
--- which it is satisfied
+-- of a block: a verdict, the objective under the block's filling, the one under the values with
+-- which it is satisfied, and a bound on those that it may have
 pub record BlockOutcome : Type 0 where
   pub verdict : Verdict
   pub filled : Option ℤ
   pub found : Option ℤ
+  pub bound : Option ℤ
 
 -- of a part: of a block, or of a claim, with how many nodes show it
 pub data Outcome : Type 0 where
@@ -93,7 +95,8 @@ IsSolvedWith m block o =
     (A : Assignment) × Extends m A block × IsSolution m A × (objective m (whole A) ≡ o)
 
 -- The outcome of a block, where the block before has these objectives. The filling and the
--- objectives are those of its verdict; where no values are looked for, there is one objective.
+-- objectives are those of its verdict; where no values are looked for, there is one objective, and
+-- no bound.
 pub record IsOutcome (c : Completion) (m : Model) (filled found : Option ℤ) (block : SolutionBlock)
     (o : BlockOutcome) : Type 0 where
   pub filling : Partial
@@ -101,6 +104,8 @@ pub record IsOutcome (c : Completion) (m : Model) (filled found : Option ℤ) (b
   pub filled_is : o.filled ≡ objective m filling
   pub is_told : IsToldBy c m block found filling (verdict m filling block filled) o.verdict o.found
   pub one_objective : c ≡ Off → o.found ≡ o.filled
+  pub bounded : IfSome o.bound (IsBound m block)
+  pub no_bound : c ≡ Off → o.bound ≡ None
   pub solved : o.verdict ≡ Satisfied → IsSolvedWith m block o.found
 
 -- those of parts in order, of which each block hands its objectives on to the next
@@ -216,16 +221,21 @@ late_earliest (Some s) before = earliest before s.after
 abbrev pub first_of : Option ℕ → Bool → ℕ → Option ℕ
 first_of before is number = option_or before (cond is (Some number) None)
 
--- behind the block that comes next, which has this verdict and these objectives
-abbrev pub behind_block : Aim → Account → Verdict → Option ℤ → Option ℤ → Account
-behind_block aim a v filled found = record {
+-- the claim that waits, where the block with this outcome comes next and refutes it
+abbrev pub late_by : Aim → Account → BlockOutcome → Option Statement
+late_by aim a b = late_refuted aim a.waiting (is_satisfied b.verdict) b.found
+
+-- Behind the block that comes next. Where its filling has no objective, a bound is in the place of
+-- it.
+abbrev pub behind_block : Aim → Account → BlockOutcome → Account
+behind_block aim a b = record {
   blocks = a.blocks + 1;
-  satisfied = first_of a.satisfied (is_satisfied v) (a.blocks + 1);
-  violated = first_of a.violated (is_violated v) (a.blocks + 1);
-  undecided = first_of a.undecided (is_undecided v) (a.blocks + 1);
-  objective = filled;
-  waiting = late_waiting (late_refuted aim a.waiting (is_satisfied v) found) a.waiting;
-  refuted = late_earliest (late_refuted aim a.waiting (is_satisfied v) found) a.refuted;
+  satisfied = first_of a.satisfied (is_satisfied b.verdict) (a.blocks + 1);
+  violated = first_of a.violated (is_violated b.verdict) (a.blocks + 1);
+  undecided = first_of a.undecided (is_undecided b.verdict) (a.blocks + 1);
+  objective = option_or b.filled b.bound;
+  waiting = late_waiting (late_by aim a b) a.waiting;
+  refuted = late_earliest (late_by aim a b) a.refuted;
 }
 
 -- before the first part
@@ -263,11 +273,11 @@ claim_told aim c a kind shown =
 
 abbrev pub block_told : Aim → Account → BlockOutcome → List Event
 block_told aim a b = Judged (a.blocks + 1) b.verdict
-    ∷ late_events (late_refuted aim a.waiting (is_satisfied b.verdict) b.found) (a.blocks + 1)
+    ∷ late_events (late_by aim a b) (a.blocks + 1)
 
 abbrev pub behind : Aim → Claims → Account → Outcome → Account
 behind aim c a (OfClaim kind shown) = behind_claim aim c a kind
-behind aim c a (OfBlock b) = behind_block aim a b.verdict b.filled b.found
+behind aim c a (OfBlock b) = behind_block aim a b
 
 abbrev pub outcome_told : Aim → Claims → Account → Outcome → List Event
 outcome_told aim c a (OfClaim kind shown) = claim_told aim c a kind shown ∷ []

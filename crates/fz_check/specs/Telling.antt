@@ -69,24 +69,25 @@ pub record HasJudged (o : Options) (m : Model) (j : JudgeState) (parts : List St
   pub same_completion : j.completion ≡ o.completion
   pub goes_on : OutcomesGoOn o m parts outcomes j.before j.found
 
--- the outcome of the block that was judged last, with this verdict
-abbrev pub last_outcome : JudgeState → Verdict → BlockOutcome
-last_outcome j v = record { verdict = v; filled = j.before; found = j.found }
+-- the outcome of the block that was judged last, with this verdict and this bound
+abbrev pub last_outcome : JudgeState → Verdict → Option ℤ → BlockOutcome
+last_outcome j v bound = record { verdict = v; filled = j.before; found = j.found; bound = bound }
 
 -- the next block was judged, with this verdict, and is accounted for
 pub record JudgesOneMore (j j' : Jury) (block : SolutionBlock) (v : Verdict) : Type 0 where
+  pub bound : Option ℤ
   pub outcome : IsOutcome j.judge.completion j.judge.model j.judge.before j.judge.found block
-      (last_outcome j'.judge v)
+      (last_outcome j'.judge v bound)
   pub same_model : j'.judge.model ≡ j.judge.model
   pub same_completion : j'.judge.completion ≡ j.judge.completion
   pub same_claims : j'.claims ≡ j.claims
   pub account_is : j'.account
-      ≡ behind_block j.judge.model.aim j.account v j'.judge.before j'.judge.found
+      ≡ behind_block j.judge.model.aim j.account (last_outcome j'.judge v bound)
 
 -- the next claim was judged, with this told of it, and is accounted for
 pub record HearsOneMore (j j' : Jury) (kind : ClaimKind) (e : Event) : Type 0 where
   pub shown : Option ℕ
-  pub is_shown : IsShown j.claims j.judge.model (saying kind j.account.objective) shown
+  pub is_shown : IsShown j.claims j.judge.model (saying kind j.judge.before) shown
   pub event_is : e ≡ claim_told j.judge.model.aim j.claims j.account kind shown
   pub same_judge : j'.judge ≡ j.judge
   pub same_claims : j'.claims ≡ j.claims
@@ -106,7 +107,6 @@ pub record HasTold (o : Options) (m : Model) (j : Jury) (parts : List StreamPart
   pub judged : HasJudged o m j.judge parts outcomes
   pub claims_are : j.claims ≡ o.claims
   pub account_is : j.account ≡ account m.aim o.claims no_account outcomes
-  pub same_objective : j.account.objective ≡ j.judge.before
 
 -- One more part was told, by this line, whatever was told of those before it.
 pub record TellsOneMore (o : Options) (text : Event → List ℕ → Type 0) (m : Model) (j : Jury)

@@ -59,7 +59,7 @@ pub(crate) struct Account {
     violated: Option<usize>,
     /// The number of the first undecided block, from 1.
     undecided: Option<usize>,
-    /// The objective of the last block, under its filling.
+    /// The objective of the last block under its filling, or a bound on those that it may have.
     objective: Option<i64>,
     /// The last claim that a later block may refute.
     waiting: Option<Statement>,
@@ -180,20 +180,26 @@ impl Account {
         }
     }
 
-    /// Hears of the next block: the verdict on it, and its objectives under its filling and with
-    /// the values that were found. It gives the claim that it refutes, where it refutes one.
+    /// Hears of the next block: the verdict on it, its objectives under its filling and with the
+    /// values that were found, and a bound on those that it may have. It gives the claim that it
+    /// refutes, where it refutes one.
     pub(crate) fn hear_block(
         &mut self,
         goal: &Goal,
         verdict: &Verdict<'_>,
         filled: Option<i64>,
         found: Option<i64>,
+        bound: Option<i64>,
     ) -> Option<Statement>
         requires { self.old.blocks < usize.MAX }
         ensures refuted { result ≡ late_refuted (goal_view goal.now) self.old.waiting
             (is_satisfied (verdict_view verdict.now)) found }
-        ensures heard { self.new ≡ behind_block (goal_view goal.now) self.old
-            (verdict_view verdict.now) filled found }
+        ensures heard { self.new ≡ behind_block (goal_view goal.now) self.old (record {
+          verdict = verdict_view verdict.now;
+          filled = filled;
+          found = found;
+          bound = bound;
+        }) }
     {
         let is_satisfied = is_satisfied(verdict);
         let late = match self.waiting {
@@ -204,7 +210,7 @@ impl Account {
         self.satisfied = first(self.satisfied, is_satisfied, self.blocks);
         self.violated = first(self.violated, is_violated(verdict), self.blocks);
         self.undecided = first(self.undecided, is_undecided(verdict), self.blocks);
-        self.objective = filled;
+        self.objective = filled.or(bound);
         if let Some(claim) = late {
             self.waiting = None;
             self.refuted = earliest(self.refuted, claim.after);

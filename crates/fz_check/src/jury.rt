@@ -1,6 +1,8 @@
 //! The verdicts on blocks, one after another, and the answer on all of them.
 
 ghost use Rattle.std.specs.Prelude.{◌≡◌, ◌+◌, ◌<◌, None, IfOk, IfErr, OnOk};
+ghost use Rattle.fz_judge.specs.Bounds.{IsBound};
+ghost use Rattle.fz_judge.specs.of_filling.declared.completion.Completion.TheVariants.{Off};
 ghost use Rattle.fz_judge.specs.of_filling.Verdict.{answer_by};
 ghost use Rattle.fz_judge.specs.of_stream.Found.{block_of};
 ghost use Rattle.fz_judge.specs.of_filling.View.{verdict_view};
@@ -9,7 +11,7 @@ ghost use Rattle.fz_check.specs.Telling.{HearsOneMore, IsUnjudged, JudgesOneMore
 ghost use Rattle.fz_check.specs.View.{answer_view, event_view};
 
 use crate::account::{Account, Answer};
-use crate::claims::{Claims, Proofs, Saying, Statement};
+use crate::claims::{Claims, Proofs, Saying, Statement, said_by};
 use crate::error::CheckError;
 use crate::event::Event;
 use crate::options::Options;
@@ -67,11 +69,37 @@ impl<'m, 'a, 'k> Jury<'m, 'a, 'k> {
             Err(BlockError::Memory) => return Err(CheckError::Memory),
             Err(error) => return Err(CheckError::Block(self.account.blocks + 1, error)),
         };
+        let bound = self.bound(alloc, block, &verdict)?;
         let goal = self.judge.model().goal();
         let filled = self.judge.filled_objective();
         let found = self.judge.objective();
-        let late = self.account.hear_block(goal, &verdict, filled, found);
+        let late = self
+            .account
+            .hear_block(goal, &verdict, filled, found, bound);
         Ok((verdict, late))
+    }
+
+    /// A bound on the objectives of the block that was judged last, where it is satisfied and has
+    /// none under its filling, and claims are judged.
+    fn bound(
+        &mut self,
+        alloc: Global,
+        block: &Block<'_>,
+        verdict: &Verdict<'_>,
+    ) -> Result<Option<i64>, AllocError>
+        ensures bounded { IfOk result (λ o. IfSome o
+            (IsBound self.old.judge.model (block_of block.now))) }
+        ensures unasked { self.old.judge.completion ≡ Off → IfOk result (λ o. o ≡ None) }
+        ensures same { self.new ≡ self.old }
+    {
+        let (Claims::Judged(..), Verdict::Satisfied, None) = (
+            self.claims,
+            verdict,
+            self.judge.filled_objective(),
+        ) else {
+            return Ok(None);
+        };
+        self.judge.bound(alloc, block)
     }
 
     /// How many nodes show what a claim says, where that is asked for, and some do.
@@ -109,7 +137,8 @@ impl<'m, 'a, 'k> Jury<'m, 'a, 'k> {
         if let Some(refutation) = self.account.hear_claim(goal, &self.claims, kind) {
             return Ok(Event::Refuted(refutation));
         }
-        match self.shown(alloc, claim.says)? {
+        let says = said_by(kind, self.judge.filled_objective());
+        match self.shown(alloc, says)? {
             Some(nodes) => Ok(Event::Proved(claim, nodes)),
             None => Ok(Event::Claim(kind)),
         }

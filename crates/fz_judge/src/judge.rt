@@ -1,6 +1,7 @@
 //! A judge: blocks, one after another, against a model.
 
 ghost use Rattle.std.specs.Prelude.{◌≡◌, IfErr, IfOk, IfSome, None, option_map};
+ghost use Rattle.fz_judge.specs.Bounds.{IsBound};
 ghost use Rattle.fz_search.specs.Claims.{HasNoneBeyond};
 ghost use Rattle.fz_search.specs.of_model.Meaning.{IsPartial, objective};
 ghost use Rattle.fz_search.specs.of_model.Overviews.{IsOverview};
@@ -21,7 +22,7 @@ use fz_filling::{
 };
 use fz_index::{Refutation, Search};
 use fz_model::Overview;
-use fz_search::{Found, prove, search};
+use fz_search::{Found, bound, prove, search};
 use fz_store::{Model, Partial};
 use fz_stream::Block;
 use std::alloc::{AllocError, Global};
@@ -384,6 +385,29 @@ impl<'m, 'a> Judge<'m, 'a> {
         ensures shown { IfOk result (λ o. IfSome o (λ _. HasNoneBeyond self.old.model last)) }
     {
         prove(alloc, self.model, last, self.steps, &mut self.search)
+    }
+
+    /// A number that no known-solution which extends the block has an objective better than. It
+    /// gives none where no values are looked for, where the objective has no bounds once the block
+    /// is filled, and of a block that has a fault.
+    ///
+    /// # Errors
+    ///
+    /// Out of memory.
+    pub fn bound(&mut self, alloc: Global, block: &Block<'_>) -> Result<Option<i64>, AllocError>
+        ensures same { self.new ≡ self.old }
+        ensures bounded { IfOk result (λ o. IfSome o
+            (IsBound self.old.model (block_of block.now))) }
+        ensures unasked { self.old.completion ≡ Off → IfOk result (λ o. o ≡ None) }
+    {
+        let Completion::On = self.completion else {
+            return Ok(None);
+        };
+        match self.filling(alloc, block) {
+            Ok(filling) => bound(alloc, self.model, &filling, self.steps, &mut self.search),
+            Err(BlockError::Memory) => Err(AllocError),
+            Err(_) => Ok(None),
+        }
     }
 
     /// The verdict on the next block, under its filling: the first that fails of the printed names

@@ -26,9 +26,13 @@ abbrev pub IsSought : Asked → Assignment → Type 0
 IsSought q A = IsKnownSolution q.model A × HasEach q.filling (whole A)
     × (beats q.model.aim q.last (objective q.model (whole A)) ≡ true)
 
--- there is a point of this number, and no such known-solution
+-- there is none
+abbrev pub HasNone : Asked → Type 0
+HasNone q = (A : Assignment) → IsSought q A → ⊥
+
+-- there is a point of this number, and none that is asked for
 abbrev pub IsRefutedAt : Asked → ℕ → Type 0
-IsRefutedAt q k = (k < length (points q.model)) × ((A : Assignment) → IsSought q A → ⊥)
+IsRefutedAt q k = (k < length (points q.model)) × HasNone q
 
 -- Values are of their variables' kinds. A refutation names a point.
 abbrev pub IsFoundFor : Asked → Found → Type 0

@@ -3,7 +3,8 @@
 //! bounds of variables, which are narrowed and split. Of the values only that they are of their
 //! variables' kinds is promised; whether a block is satisfied with them is judged afterwards. Where
 //! it tells that there are no such values, that is proved. So is what it tells of a model's whole
-//! search (`prove`). An internal crate of `fz_check`.
+//! search (`prove`), and of the objectives that a block leaves open (`bound`). An internal crate of
+//! `fz_check`.
 //!
 //! Its worked cases are in `tests/cases` (`completed.txt`).
 #![tactic(auto)]
@@ -22,4 +23,4 @@ mod visiting;
 mod work;
 
 pub use found::Found;
-pub use searching::{prove, search};
+pub use searching::{bound, prove, search};

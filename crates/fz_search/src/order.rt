@@ -19,6 +19,8 @@ pub(crate) enum Way {
     Smallest,
     /// the same, and nothing is supposed of variables without bounds, nor given up
     Unsupposed,
+    /// nothing is supposed, and the search ends before the first split
+    Unsplit,
 }
 
 /// A split of a variable's bounds behind a number.

@@ -1,11 +1,11 @@
 //! The search for values.
 
-ghost use Rattle.std.specs.Prelude.{◌≡◌, None, IfOk, IfSome};
+ghost use Rattle.std.specs.Prelude.{◌≡◌, None, Some, IfOk, IfSome};
 ghost use Rattle.fz_search.specs.Claims.{HasNoneBeyond};
-ghost use Rattle.fz_search.specs.Found.{IsFoundFor, asked_of};
+ghost use Rattle.fz_search.specs.Found.{HasNone, IsFoundFor, asked_of};
 
 use crate::found::{Found, Task};
-use crate::order::Way;
+use crate::order::{Way, objective_of};
 use crate::proposal::copied;
 use crate::tree::Tree;
 use crate::work::{Move, Work};
@@ -158,6 +158,17 @@ pub fn search(
     Ok(Found::Nothing)
 }
 
+/// How many nodes of a tree show that there is none that is asked for, where some do.
+fn refuting(task: &Task<'_, '_>, steps: usize) -> Result<Option<usize>, AllocError>
+    ensures { IfOk result (λ o. IfSome o (λ _. HasNone (asked_of task.now))) }
+{
+    let (found, nodes) = go(task, Way::Unsupposed, steps)?;
+    match found {
+        Found::Refuted(_) => Ok(Some(nodes)),
+        Found::Values(_) | Found::Nothing => Ok(None),
+    }
+}
+
 /// How many nodes of a tree show that no known-solution of the model has an objective better than
 /// `last`, or where that is none, that there is none at all. It gives nothing where the search
 /// comes to no end in ten times so many steps, or finds one. It refuses only where memory runs
@@ -184,9 +195,57 @@ pub fn prove(
         before: None,
         last,
     };
-    let (found, nodes) = go(&task, Way::Unsupposed, steps.saturating_mul(CLAIM))?;
-    match found {
-        Found::Refuted(_) => Ok(Some(nodes)),
-        Found::Values(_) | Found::Nothing => Ok(None),
+    refuting(&task, steps.saturating_mul(CLAIM))
+}
+
+/// The best number that bounds leave to the objective, before any variable is split.
+fn best_left(task: &Task<'_, '_>, steps: usize) -> Result<Option<i64>, AllocError> {
+    let Some((variable, is_cost)) = objective_of(task.model) else {
+        return Ok(None);
+    };
+    let mut tree = Tree::new(task, false)?;
+    let mut work = Work::new(task, Way::Unsplit, steps, &tree)?;
+    go_through(task, &mut tree, &mut work)?;
+    let Some(ends) = tree.ends(variable) else {
+        return Ok(None);
+    };
+    Ok(Some(if is_cost { ends.low } else { ends.high }))
+}
+
+/// A number that no known-solution with the values of a filling has an objective better than: the
+/// best that bounds leave to the objective, where a search shows that. It gives none where the
+/// objective has no bounds. It refuses only where memory runs out.
+pub fn bound(
+    alloc: Global,
+    model: &Model<'_>,
+    filling: &Partial,
+    steps: usize,
+    known: &mut Option<Search>,
+) -> Result<Option<i64>, AllocError>
+    ensures { IfOk result (λ o. IfSome o (λ b. HasNone
+        (record { model = model.now; filling = filling.now; last = Some b }))) }
+{
+    let known = known_of(alloc, model, known)?;
+    let (sets, lacks_bounds) = open_of(alloc, model, filling)?;
+    let open = Task {
+        alloc,
+        known,
+        model,
+        filling,
+        sets: &sets,
+        lacks_bounds,
+        before: None,
+        last: None,
+    };
+    let Some(best) = best_left(&open, steps)? else {
+        return Ok(None);
+    };
+    let task = Task {
+        last: Some(best),
+        ..open
+    };
+    match refuting(&task, steps)? {
+        Some(_) => Ok(Some(best)),
+        None => Ok(None),
     }
 }

@@ -277,6 +277,9 @@ impl<'m, 'a> Work<'m, 'a> {
 
     /// What is done where no point is to be visited.
     fn branch(&mut self) -> Result<Move, AllocError> {
+        if matches!(self.way, Way::Unsplit) {
+            return Ok(Move::Nothing);
+        }
         if let Some(split) = self.choose() {
             return Ok(Move::Split(split));
         }
