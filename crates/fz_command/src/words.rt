@@ -24,6 +24,8 @@ pub enum Request<'a> {
         stream: Option<&'a str>,
         /// The file of the table of names, where one is given.
         names: Option<&'a str>,
+        /// The file of a solver's search tree, where one is given.
+        tree: Option<&'a str>,
         /// The files of the known streams.
         known: Vec<&'a str>,
         options: CheckOptions,
@@ -195,6 +197,7 @@ fn request_of<'a>(alloc: Global, matches: &ArgMatches<'a>) -> Result<Request<'a>
 fn check_of<'a>(alloc: Global, given: &ArgMatches<'a>) -> Result<Request<'a>, Refused> {
     let model = model_of(given)?;
     let names = only(alloc, given, "names")?;
+    let tree = only(alloc, given, "tree")?;
     let steps = only(alloc, given, "complete-steps")?;
     let explains = explaining_of(only(alloc, given, "explain")?);
     let known = known_of(alloc, given)?;
@@ -211,6 +214,7 @@ fn check_of<'a>(alloc: Global, given: &ArgMatches<'a>) -> Result<Request<'a>, Re
         model,
         stream: given.get_str("STREAM"),
         names,
+        tree,
         known,
         options,
     })
@@ -325,6 +329,7 @@ fn check_command<'a>(alloc: Global) -> Result<Command<'a>, AllocError> {
         .arg(flag(alloc, "cut"))?
         .arg(claims_option(alloc))?
         .arg(known_option(alloc))?
+        .arg(tree_option(alloc)?)?
         .arg(flag(alloc, "json"))?
         .arg(explain_option(alloc))?
         .arg(names_option(alloc)?)
@@ -361,6 +366,15 @@ fn known_option<'a>(alloc: Global) -> Arg<'a> {
         .long("known")
         .value_name("STREAM")
         .action(ArgAction::Append)
+}
+
+/// The option that is `--tree FILE`, which goes with `--claims`.
+fn tree_option<'a>(alloc: Global) -> Result<Arg<'a>, AllocError> {
+    Arg::new(alloc, "tree")
+        .long("tree")
+        .action(ArgAction::Append)
+        .value_name("FILE")
+        .requires_arg("claims")
 }
 
 /// What `--explain` may name; where it names nothing, it is the first.

@@ -21,7 +21,7 @@ use fz_filling::{
 };
 use fz_index::{Refutation, Search};
 use fz_model::Overview;
-use fz_search::{Found, prove, search};
+use fz_search::{Branch, Found, prove, search};
 use fz_store::{Model, Partial};
 use fz_stream::Block;
 use std::alloc::{AllocError, Global};
@@ -379,11 +379,23 @@ impl<'m, 'a> Judge<'m, 'a> {
     /// # Errors
     ///
     /// Out of memory.
-    pub fn shows(&mut self, alloc: Global, last: Option<i64>) -> Result<Option<usize>, AllocError>
+    pub fn shows(
+        &mut self,
+        alloc: Global,
+        last: Option<i64>,
+        tree: &[Branch<'_>],
+    ) -> Result<Option<usize>, AllocError>
         ensures same { self.new ≡ self.old }
         ensures shown { IfOk result (λ o. IfSome o (λ _. HasNoneBeyond self.old.model last)) }
     {
-        prove(alloc, self.model, last, self.steps, &mut self.search)
+        prove(
+            alloc,
+            self.model,
+            last,
+            tree,
+            self.steps,
+            &mut self.search,
+        )
     }
 
     /// The verdict on the next block, under its filling: the first that fails of the printed names

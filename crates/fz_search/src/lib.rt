@@ -9,6 +9,7 @@
 #![tactic(auto)]
 
 mod found;
+mod guide;
 mod leaf;
 mod linear;
 mod order;
@@ -21,4 +22,5 @@ mod visiting;
 mod work;
 
 pub use found::Found;
+pub use guide::Branch;
 pub use searching::{prove, search};

@@ -5,6 +5,7 @@ ghost use Rattle.fz_search.specs.Claims.{HasNoneBeyond};
 ghost use Rattle.fz_search.specs.Found.{IsFoundFor};
 
 use crate::found::{Found, Task};
+use crate::guide::{Branch, edges_of};
 use crate::order::Way;
 use crate::proposal::copied;
 use crate::tree::Tree;
@@ -147,6 +148,7 @@ pub fn search(
         sets: &sets,
         lacks_bounds,
         before,
+        edges: &[],
         last: None,
     };
     for way in [Way::InOrder, Way::Smallest] {
@@ -170,6 +172,7 @@ pub fn prove(
     alloc: Global,
     model: &Model<'_>,
     last: Option<i64>,
+    tree: &[Branch<'_>],
     steps: usize,
     known: &mut Option<Search>,
 ) -> Result<Option<usize>, AllocError>
@@ -177,6 +180,7 @@ pub fn prove(
 {
     let known = known_of(alloc, model, known)?;
     let filling = Partial::new(alloc, model)?;
+    let edges = edges_of(alloc, model, tree)?;
     let (sets, lacks_bounds) = open_of(alloc, model, &filling)?;
     let task = Task {
         alloc,
@@ -186,6 +190,7 @@ pub fn prove(
         sets: &sets,
         lacks_bounds,
         before: None,
+        edges: &edges,
         last,
     };
     let (found, nodes) = go(&task, Way::Unsupposed, steps.saturating_mul(CLAIM))?;
