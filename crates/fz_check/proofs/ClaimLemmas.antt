@@ -315,7 +315,7 @@ module _ (m : Model) where
   shown_true : (c : Claims) (s : Saying) (nodes : ℕ) → IsShown c m s (Some nodes) → IsTrueClaim m s
   shown_true NotJudged s nodes shows = absurd shows
   shown_true (ClaimsJudged k proving.Off) s nodes shows = absurd shows
-  shown_true (ClaimsJudged k proving.On) s nodes shows = shows
+  shown_true (ClaimsJudged k (proving.On t)) s nodes shows = shows
 
   claim_true : (c : Claims) (s : Statement) (by : Option Refuter) (shown : Option ℕ)
       → IfSome by (λ _. IsFalse m s.says) → IsShown c m s.says shown

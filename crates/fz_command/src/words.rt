@@ -210,6 +210,9 @@ fn check_of<'a>(alloc: Global, given: &ArgMatches<'a>) -> Result<Request<'a>, Re
         form: form_of(given),
         size: size_of(given),
     };
+    if tree.is_some() && options.judging != Judging::Proving {
+        return Err(Refused::Wrong(String::from_str(alloc, TREE_ALONE)?));
+    }
     Ok(Request::Check {
         model,
         stream: given.get_str("STREAM"),
@@ -329,7 +332,7 @@ fn check_command<'a>(alloc: Global) -> Result<Command<'a>, AllocError> {
         .arg(flag(alloc, "cut"))?
         .arg(claims_option(alloc))?
         .arg(known_option(alloc))?
-        .arg(tree_option(alloc)?)?
+        .arg(tree_option(alloc))?
         .arg(flag(alloc, "json"))?
         .arg(explain_option(alloc))?
         .arg(names_option(alloc)?)
@@ -368,13 +371,15 @@ fn known_option<'a>(alloc: Global) -> Arg<'a> {
         .action(ArgAction::Append)
 }
 
-/// The option that is `--tree FILE`, which goes with `--claims`.
-fn tree_option<'a>(alloc: Global) -> Result<Arg<'a>, AllocError> {
+/// What is told where no claim is to be proved along a tree.
+const TREE_ALONE: &str = "error: --tree is given without --claims=prove";
+
+/// The option that is `--tree FILE`.
+fn tree_option<'a>(alloc: Global) -> Arg<'a> {
     Arg::new(alloc, "tree")
         .long("tree")
-        .action(ArgAction::Append)
         .value_name("FILE")
-        .requires_arg("claims")
+        .action(ArgAction::Append)
 }
 
 /// What `--explain` may name; where it names nothing, it is the first.

@@ -28,4 +28,4 @@ pub use known::claims_of;
 pub use options::{completion_of, limits_of, options_of};
 pub use reading::{Unread, most_bytes, open_file, read_file, read_whole};
 pub use refusing::{is_told, refuse, refuse_file, refuse_usage, refuse_wrong};
-pub use tree::branches_of;
+pub use tree::{branches_of, read_tree};

@@ -9,7 +9,7 @@ use fz_explain::{Explainer, Message, NameTable, Text};
 use fz_report::{
     Answer, CheckError, CheckOptions, Claims, Explaining, Form, MOST_READS, NOTHING, Recent,
     Recorder, Taker, Unread, branches_of, check_events, claims_of, completion_of, find_input, most_bytes,
-    open_file, options_of, read_file, read_whole, refuse, refuse_file, status, unread_line,
+    open_file, options_of, read_tree, read_whole, refuse, refuse_file, status, unread_line,
 };
 use std::alloc::Global;
 use std::cell::RefCell;
@@ -83,13 +83,8 @@ fn check_readers<'a, M: Read + Drop, S: Read + Drop>(
 ) -> Result<u8, Unread<'a>> {
     let most = most_bytes(task.options.size);
     let bytes = read_whole(rt.alloc(), model, task.model, most)?;
-    let tree_bytes = match task.tree {
-        Some(name) => read_file(rt, name, most)?,
-        None => Vec::new(rt.alloc()),
-    };
-    let Ok(Ok(branches)) = branches_of(rt.alloc(), &tree_bytes) else {
-        return Ok(9);
-    };
+    let tree = read_tree(rt, task.tree)?;
+    let branches = branches_of(rt, task.tree, &tree)?;
     let claims = claims_of(rt, task.options, &bytes, known, &branches)?;
     check_with_names(rt, task, claims, &bytes, stream)
 }
