@@ -163,8 +163,8 @@ refutes 'no solution, by no satisfied block' 3 $'claim: =====UNSATISFIABLE===== 
 refutes 'a stream given twice' 1 "$refuted" '' --known other_stream.txt --known other_stream.txt model.fzn stream.txt
 prove() { in_folder "$program" check --claims=prove "$@"; }
 expect 'known: with --claims=prove, another solver' 1 "$refuted" '' prove --known other_stream.txt model.fzn stream.txt
-# Along a solver's tree. Nothing is asked of u and v, and by itself the search splits u first.
-{ printf 'var 0..4: v;\n'; printf 'var 0..1: %s;\n' u x y z; } >"$folder/clash.fzn"
+# Along a solver's tree. Nothing is asked of t, u and v, and by itself the search splits u first.
+{ printf 'var int: t;\nvar 0..4: v;\n'; printf 'var 0..1: %s;\n' u x y z; } >"$folder/clash.fzn"
 { printf 'constraint int_ne(%s,%s);\n' x y y z x z; printf 'solve satisfy;\n'; } >>"$folder/clash.fzn"
 # along NODES ERR LINE..: by how many nodes it is proved that there is no solution, by these lines.
 along() {
@@ -178,6 +178,7 @@ along 3 '' '1 0 z >= 0' '2 1 x = 0'
 along 3 '' '1 0 z > 1' '1 0 w = 0' '2 0 x = 0'
 along 11 '' '1 0 v = 2' '3 0 v != 2' '2 1 x = 0' '4 3 x = 0'
 along 7 '' '1 0 z >= 0' '3 2 x = 0'
+along 7 '' '1 0 t <= 0' '2 1 x = 0'
 along 7 'tree: line 2 tells no branch, as 7 2 x <= 5 does: claims are proved without the tree' '1 0 x = 0' '2 1 y = no'
 expect 'a tree that is not there' 6 '' $'refused: read\nnowhere: No such file or directory' prove --tree nowhere clash.fzn none.out
 as_claims='--known without --claims: claims are judged as if it were there'

@@ -388,14 +388,7 @@ impl<'m, 'a> Judge<'m, 'a> {
         ensures same { self.new ≡ self.old }
         ensures shown { IfOk result (λ o. IfSome o (λ _. HasNoneBeyond self.old.model last)) }
     {
-        prove(
-            alloc,
-            self.model,
-            last,
-            tree,
-            self.steps,
-            &mut self.search,
-        )
+        prove(alloc, self.model, last, tree, self.steps, &mut self.search)
     }
 
     /// The verdict on the next block, under its filling: the first that fails of the printed names

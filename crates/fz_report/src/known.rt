@@ -7,8 +7,8 @@ ghost use Rattle.fz_command.specs.declared.words.Judging.TheVariants.{Nothing};
 use crate::options::{limits_of, options_of};
 use crate::reading::{Unread, open_file};
 use fz_check::{
-    BlockError, Branch, CheckError, Claims, Known, Listener, MOST_READS, Model, Proofs, Source, Verdict,
-    block_text, learn, read_model, refusal_text,
+    BlockError, Branch, CheckError, Claims, Known, Listener, MOST_READS, Model, Proofs, Source,
+    Verdict, block_text, learn, read_model, refusal_text,
 };
 use fz_command::{CheckOptions, Judging};
 use fz_files::Recorder;

@@ -16,8 +16,8 @@ pub use events::{
     Counts, add_place, block_line, claim_line, cut_line, refused_word, refuted_line, unread_line,
 };
 pub use fz_check::{
-    Answer, BlockError, Branch, CheckError, Claims, Event, Judged, Limits, MOST_READS, ModelError, Span,
-    StreamError, SyntaxError, Taker, TextTaker, Told, Verdict, check_events, refusal_fault,
+    Answer, BlockError, Branch, CheckError, Claims, Event, Judged, Limits, MOST_READS, ModelError,
+    Span, StreamError, SyntaxError, Taker, TextTaker, Told, Verdict, check_events, refusal_fault,
     show_printing_all, show_with, status,
 };
 pub use fz_command::{

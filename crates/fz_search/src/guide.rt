@@ -2,6 +2,7 @@
 //! of it.
 
 use crate::order::Split;
+use crate::standing::ALL;
 use crate::work::Work;
 use fz_bounds::Outlook;
 use fz_index::Ends;
@@ -66,7 +67,9 @@ impl Edge<'_> {
     /// The split between some of the branch's numbers and others, where its outlook is open.
     fn split(&self, ends: Ends) -> Split {
         let Branch {
-            numbers, is_among, ..
+            numbers,
+            is_among,
+            ..
         } = self.branch;
         let is_above = ends.low < numbers.low;
         Split {
@@ -91,7 +94,8 @@ impl<'m, 'a> Work<'m, 'a> {
             let edge = self.edge_from(node)?;
             let ends = self.ends_of(edge.variable);
             if let Outlook::Open = edge.outlook(ends) {
-                return Some(edge.split(ends));
+                let has_bounds = ends.width() < ALL.width();
+                return has_bounds.then_some(edge.split(ends));
             }
             node = edge.branch.node;
         }

@@ -8,8 +8,9 @@ use crate::teller::{JsonTeller, Teller};
 use fz_explain::{Explainer, Message, NameTable, Text};
 use fz_report::{
     Answer, CheckError, CheckOptions, Claims, Explaining, Form, MOST_READS, NOTHING, Recent,
-    Recorder, Taker, Unread, branches_of, check_events, claims_of, completion_of, find_input, most_bytes,
-    open_file, options_of, read_tree, read_whole, refuse, refuse_file, status, unread_line,
+    Recorder, Taker, Unread, branches_of, check_events, claims_of, completion_of, find_input,
+    most_bytes, open_file, options_of, read_tree, read_whole, refuse, refuse_file, status,
+    unread_line,
 };
 use std::alloc::Global;
 use std::cell::RefCell;
