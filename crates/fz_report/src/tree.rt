@@ -2,7 +2,6 @@
 
 use crate::reading::{Unread, read_file};
 use fz_check::{Branch, CheckError, Ends};
-use std::alloc::{AllocError, Global};
 
 /// The most bytes of a tree.
 const MOST_BYTES: u32 = 1_073_741_824;
@@ -34,30 +33,21 @@ pub fn branches_of<'n, 'k>(
     bytes: &'k [u8],
 ) -> Result<Vec<Branch<'k>>, Unread<'n>> {
     let name = name.unwrap_or("");
-    match read_branches(rt.alloc(), bytes) {
-        Ok(Ok(branches)) => Ok(branches),
-        Ok(Err(line)) => {
-            let _ = eprintln!(rt; "{name}: line {line} {NO_BRANCH}");
-            Ok(Vec::new(rt.alloc()))
-        }
-        Err(_) => Err(Unread::new(CheckError::Memory, name, None)),
-    }
-}
-
-/// The branches, or the number from 1 of the first line that tells none.
-fn read_branches(
-    alloc: Global,
-    bytes: &[u8],
-) -> Result<Result<Vec<Branch<'_>>, usize>, AllocError> {
-    let mut branches = Vec::new(alloc);
+    let mut branches = Vec::new(rt.alloc());
     for (before, line) in bytes.split(|byte| *byte == b'\n').enumerate() {
         match branch_of(line) {
-            Some(branch) => branches.push(branch)?,
+            Some(branch) => if branches.push(branch).is_err() {
+                return Err(Unread::new(CheckError::Memory, name, None));
+            },
             None if line.is_empty() => {}
-            None => return Ok(Err(before.saturating_add(1))),
+            None => {
+                let number = before.saturating_add(1);
+                let _ = eprintln!(rt; "{name}: line {number} {NO_BRANCH}");
+                return Ok(Vec::new(rt.alloc()));
+            }
         }
     }
-    Ok(Ok(branches))
+    Ok(branches)
 }
 
 /// The branch that a line tells: the number of the node, that of its parent, and of which variable
