@@ -41,7 +41,7 @@ def words_of(words: List[str]) -> Words:
     for word in rest:
         if word in places:
             places[word] = argument(word, rest)
-        elif word in ("--known", "--complete-steps"):
+        elif word in ("--known", "--complete-steps", "--tree"):
             options += [word, argument(word, rest)]
         elif word in OF_CHECK:
             options.append(word)

@@ -17,11 +17,11 @@ _fzcheck() {
     offered='answer all'
   elif [[ $command == help ]]; then
     offered='check show'
-  elif [[ $before == --known || $before == --names || $word != -* ]]; then
+  elif [[ $before == --known || $before == --names || $before == --tree || $word != -* ]]; then
     offered='' # a file: where nothing is offered here, the shell offers files
   elif [[ $command == check ]]; then
     offered+=' --large --complete --complete-steps --cut --claims --claims=prove --known --explain'
-    offered+=' --explain=all --names --json'
+    offered+=' --explain=all --names --tree --json'
   elif [[ $command == show ]]; then
     offered+=' --large --print-all'
   fi

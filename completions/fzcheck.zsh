@@ -14,6 +14,7 @@ case $line[1] in
       '--complete-steps=[take so many steps at most in each search]:steps: ' \
       '--cut[judge the blocks before one in which the stream ends]' \
       '--claims=-[judge claims on the whole search]::how:(prove)' \
+      '--tree=[prove claims along the search tree of the solver]:tree:_files' \
       '*--known=[judge claims, by the blocks of another stream too]:stream:_files' \
       '--explain=-[show what is behind a verdict or a refusal]::what:(answer all)' \
       '--names=[explain by the table of names of the MiniZinc compiler]:table of names:_files' \

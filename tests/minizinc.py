@@ -24,12 +24,14 @@ STANDARD = ("-G", "std")
 MARKER = "----------\n"
 SOLUTIONS, TURNED = 200, 400
 VALUE = re.compile(r"\b(?:\d+|true|false)\b(?![.(])")
+# What a block that compiles wants.
+GECODE = "/usr/include/gecode/flatzinc.hh"
 # Of each page, what its commands print at least.
 PAGES = {
     "README.md": "\naccepted: ",
     "docs/MINIZINC.md": "\naccepted: ",
     "docs/ORGANISERS.md": "\nno solver is wrong\n",
-    "docs/SOLVER_AUTHORS.md": "column = ",
+    "docs/SOLVER_AUTHORS.md": "== proved, " if os.path.exists(GECODE) else "column = ",
 }
 PREPARED = """mkdir -p models streams/gecode
 minizinc -G std -c model.mzn data.dzn --fzn models/NAME.fzn --no-output-ozn
@@ -133,7 +135,8 @@ def blocks(page):
     """A page's indented blocks; of the README, those that call MiniZinc."""
     with open(os.path.join(ROOT, page)) as f:
         found = re.findall(r"^\n((?:    .*\n)+)", f.read(), re.M)
-    return [block for block in found if page != "README.md" or "    minizinc " in block]
+    return [block for block in found if page != "README.md" or "    minizinc " in block
+            if "    g++ " not in block or os.path.exists(GECODE)]
 
 
 def faults_of_page(program, page, folder):
@@ -144,7 +147,9 @@ def faults_of_page(program, page, folder):
         os.symlink(os.path.join(ROOT, "companions", name), os.path.join(folder, "bin", name))
     for name in ("minizinc", "examples"):
         os.symlink(os.path.join(ROOT, name), os.path.join(folder, name))
-    for name, text in FILES.items():
+    with open(os.path.join(ROOT, page)) as f:
+        tree = "".join(re.findall(r"^```cpp\n(.*?)^```", f.read(), re.M | re.S))
+    for name, text in {**FILES, "tree.cpp": tree}.items():
         with open(os.path.join(folder, name), "w") as f:
             f.write(text)
     path = os.path.join(folder, "bin") + os.pathsep + os.environ["PATH"]

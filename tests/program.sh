@@ -50,6 +50,8 @@ wrong "error: invalid value '9223372036854775808' for '--complete-steps <N>': 92
 wrong "error: --complete-steps is given as '1' and as '2'" check --complete-steps 1 --complete-steps 2 examples/first.fzn
 wrong "error: --explain is given as 'answer' and as 'all'" check --explain --explain=all examples/first.fzn
 wrong "error: --names is given as 'a' and as 'b'" check --explain --names a --names b examples/first.fzn
+wrong "error: --tree is given as 'a' and as 'b'" check --claims=prove --tree a --tree b examples/first.fzn
+wrong 'error: --tree is given without --claims=prove' check --claims --tree a examples/first.fzn
 wrong "error: unexpected argument 'examples/first.out' found" show examples/first.fzn examples/first.out
 wrong "error: unexpected argument '--complete' found" show --complete examples/first.fzn
 wrong "error: unexpected argument '--json' found" show --json examples/first.fzn
@@ -66,7 +68,7 @@ for words in help --help -h 'help check' 'check --help' 'show -h'; do
   # shellcheck disable=SC2086
   expect "a request for help: $words" 5 "$page" "$usage" "$program" $words
 done
-for word in check show --large --complete --complete-steps --cut --claims --known --explain --names --json --print-all --version STREAM; do
+for word in check show --large --complete --complete-steps --cut --claims --tree --known --explain --names --json --print-all --version STREAM; do
   expect "help names $word" 0 '' '' grep -q -- "$word" "$folder/page"
 done
 version="fzcheck $(sed -n 's/^## \([0-9][0-9.]*\).*/\1/p' CHANGELOG.md | head -1)"
@@ -161,6 +163,24 @@ refutes 'no solution, by no satisfied block' 3 $'claim: =====UNSATISFIABLE===== 
 refutes 'a stream given twice' 1 "$refuted" '' --known other_stream.txt --known other_stream.txt model.fzn stream.txt
 prove() { in_folder "$program" check --claims=prove "$@"; }
 expect 'known: with --claims=prove, another solver' 1 "$refuted" '' prove --known other_stream.txt model.fzn stream.txt
+# Along a solver's tree. Nothing is asked of t, u and v, and by itself the search splits u first.
+{ printf 'var int: t;\nvar 0..4: v;\n'; printf 'var 0..1: %s;\n' u x y z; } >"$folder/clash.fzn"
+{ printf 'constraint int_ne(%s,%s);\n' x y y z x z; printf 'solve satisfy;\n'; } >>"$folder/clash.fzn"
+# along NODES ERR LINE..: by how many nodes it is proved that there is no solution, by these lines.
+along() {
+  local told=$'claim: =====UNSATISFIABLE===== proved, '"$1"$' nodes\nno blocks' err=$2
+  shift 2
+  printf '%s\n' "$@" >"$folder/tree"
+  expect "along a tree: $*" 3 "$told" "$err" prove --tree tree clash.fzn none.out
+}
+for literal in 'x = 0' 'x != 0' 'x <= 0' 'x > 0' 'x >= 1' 'x < 1'; do along 3 '' "1 0 $literal"; done
+along 3 '' '1 0 z >= 0' '2 1 x = 0'
+along 3 '' '1 0 z > 1' '1 0 w = 0' '2 0 x = 0'
+along 11 '' '1 0 v = 2' '3 0 v != 2' '2 1 x = 0' '4 3 x = 0'
+along 7 '' '1 0 z >= 0' '3 2 x = 0'
+along 7 '' '1 0 t <= 0' '2 1 x = 0'
+along 7 'tree: line 2 tells no branch, as 7 2 x <= 5 does: claims are proved without the tree' '1 0 x = 0' '2 1 y = no'
+expect 'a tree that is not there' 6 '' $'refused: read\nnowhere: No such file or directory' prove --tree nowhere clash.fzn none.out
 as_claims='--known without --claims: claims are judged as if it were there'
 expect 'known: without --claims' 1 "$refuted" "$as_claims" in_folder "$program" check --known other_stream.txt model.fzn stream.txt
 expect 'known: without --claims, a block that refutes nothing' 0 "$unrefuted" "$as_claims"$'\nviolated.out: block 1: violated: constraint 1 int_ne' \

@@ -322,7 +322,7 @@ module _ (m : Model) where
   shown_true : (c : Claims) (s : Saying) (nodes : ℕ) → IsShown c m s (Some nodes) → IsTrueClaim m s
   shown_true NotJudged s nodes shows = absurd shows
   shown_true (ClaimsJudged k proving.Off) s nodes shows = absurd shows
-  shown_true (ClaimsJudged k proving.On) s nodes shows = shows
+  shown_true (ClaimsJudged k (proving.On t)) s nodes shows = shows
 
   -- what is proved is told behind an objective of a filling alone
   told_last : (k : ClaimKind) (filled bound : Option ℤ) → IsTrueClaim m (saying k filled)

@@ -67,7 +67,7 @@ IsTrueClaim m (NoneBetter last) = HasNoneBeyond m (Some last)
 -- So many nodes of a search show that, where claims are to be proved; or none do.
 abbrev pub IsShown : Claims → Model → Saying → Option ℕ → Type 0
 IsShown c m s None = ⊤
-IsShown (ClaimsJudged k proving.On) m s (Some nodes) = IsTrueClaim m s
+IsShown (ClaimsJudged k (proving.On t)) m s (Some nodes) = IsTrueClaim m s
 IsShown _ m s (Some nodes) = ⊥
 
 -- ---- what is known of a part of the stream, and of other streams

@@ -5,6 +5,7 @@ ghost use Rattle.fz_judge.specs.of_model.Parts.{goal_view};
 ghost use Rattle.fz_judge.specs.of_search.Claims.{is_better};
 ghost use Rattle.fz_check.specs.Claims.{known_refuter, known_with, refutes, saying};
 
+use fz_search::Branch;
 use fz_store::Goal;
 use fz_stream::ClaimKind;
 
@@ -69,16 +70,17 @@ pub struct Known<'k> {
 
 /// Whether a claim that no block refutes is to be proved.
 #[derive(Clone, Copy)]
-pub enum Proofs {
+pub enum Proofs<'k> {
     Off,
-    On,
+    /// by a search that goes along this tree of a solver's, as far as it goes
+    On(&'k [Branch<'k>]),
 }
 
 /// Whether claims are judged, and by what they are refuted but the stream's own blocks.
 #[derive(Clone, Copy)]
 pub enum Claims<'k> {
     NotJudged,
-    Judged(Known<'k>, Proofs),
+    Judged(Known<'k>, Proofs<'k>),
 }
 
 fn is_better(goal: &Goal, other: i64, now: i64) -> bool

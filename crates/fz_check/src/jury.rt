@@ -112,13 +112,13 @@ impl<'m, 'a, 'k> Jury<'m, 'a, 'k> {
         let Claims::Judged(_, proofs) = self.claims else {
             return Ok(None);
         };
-        let Proofs::On = proofs else {
+        let Proofs::On(tree) = proofs else {
             return Ok(None);
         };
         match says {
             Saying::Nothing => Ok(None),
-            Saying::NoSolution => self.judge.shows(alloc, None),
-            Saying::NoneBetter(last) => self.judge.shows(alloc, Some(last)),
+            Saying::NoSolution => self.judge.shows(alloc, None, tree),
+            Saying::NoneBetter(last) => self.judge.shows(alloc, Some(last), tree),
         }
     }
 

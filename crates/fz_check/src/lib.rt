@@ -33,7 +33,9 @@ pub use claims::{Best, Claims, Known, Proofs, Refutation, Refuter, Saying, Sourc
 pub use error::CheckError;
 pub use event::{Event, Judged, Taker, TextTaker};
 pub use fz_filling::{BlockError, Completion, Fault, Reason, Verdict, fill, fill_with_steps};
+pub use fz_index::Ends;
 pub use fz_judge::Judge;
+pub use fz_search::Branch;
 pub use fz_store::{Model, ModelError};
 pub use fz_stream::{Claim, ClaimKind, Limits, Span, StreamError, SyntaxError};
 pub use learning::{Listener, learn};

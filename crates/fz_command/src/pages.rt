@@ -11,7 +11,7 @@ pub const HELP: &str = "\
 fzcheck: checks the output of a FlatZinc solver against its model
 
 fzcheck check [--large] [--complete] [--complete-steps N] [--cut] [--claims[=prove]]
-        [--known STREAM].. [--explain[=all] [--names FILE]] [--json] MODEL [STREAM]
+        [--tree FILE] [--known STREAM].. [--explain[=all] [--names FILE]] [--json] MODEL [STREAM]
     Judges each solution block of the file STREAM, or of standard input where it is left out,
     against the model in the file MODEL. There is a line for each block and claim, and then the
     answer. An option that is given twice counts once.
@@ -30,6 +30,9 @@ fzcheck check [--large] [--complete] [--complete-steps N] [--cut] [--claims[=pro
     --claims=prove
                 the same, and proves those that no block refutes, where a search of its own comes
                 to its end, and tells by how many nodes
+    --tree FILE
+                with --claims=prove: the search goes along the solver's own tree as far as FILE has
+                it, a branch in each line: node, parent and literal, as 7 2 x <= 5
     --known STREAM
                 as --claims, and up to 64 times: the blocks of another solver's stream, each judged
                 by itself before all others, refute claims too

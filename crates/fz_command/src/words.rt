@@ -24,6 +24,8 @@ pub enum Request<'a> {
         stream: Option<&'a str>,
         /// The file of the table of names, where one is given.
         names: Option<&'a str>,
+        /// The file of a solver's search tree, where one is given.
+        tree: Option<&'a str>,
         /// The files of the known streams.
         known: Vec<&'a str>,
         options: CheckOptions,
@@ -195,6 +197,7 @@ fn request_of<'a>(alloc: Global, matches: &ArgMatches<'a>) -> Result<Request<'a>
 fn check_of<'a>(alloc: Global, given: &ArgMatches<'a>) -> Result<Request<'a>, Refused> {
     let model = model_of(given)?;
     let names = only(alloc, given, "names")?;
+    let tree = only(alloc, given, "tree")?;
     let steps = only(alloc, given, "complete-steps")?;
     let explains = explaining_of(only(alloc, given, "explain")?);
     let known = known_of(alloc, given)?;
@@ -207,10 +210,14 @@ fn check_of<'a>(alloc: Global, given: &ArgMatches<'a>) -> Result<Request<'a>, Re
         form: form_of(given),
         size: size_of(given),
     };
+    if tree.is_some() && options.judging != Judging::Proving {
+        return Err(Refused::Wrong(String::from_str(alloc, TREE_ALONE)?));
+    }
     Ok(Request::Check {
         model,
         stream: given.get_str("STREAM"),
         names,
+        tree,
         known,
         options,
     })
@@ -325,6 +332,7 @@ fn check_command<'a>(alloc: Global) -> Result<Command<'a>, AllocError> {
         .arg(flag(alloc, "cut"))?
         .arg(claims_option(alloc))?
         .arg(known_option(alloc))?
+        .arg(tree_option(alloc))?
         .arg(flag(alloc, "json"))?
         .arg(explain_option(alloc))?
         .arg(names_option(alloc)?)
@@ -360,6 +368,17 @@ fn known_option<'a>(alloc: Global) -> Arg<'a> {
     Arg::new(alloc, "known")
         .long("known")
         .value_name("STREAM")
+        .action(ArgAction::Append)
+}
+
+/// What is told where no claim is to be proved along a tree.
+const TREE_ALONE: &str = "error: --tree is given without --claims=prove";
+
+/// The option that is `--tree FILE`.
+fn tree_option<'a>(alloc: Global) -> Arg<'a> {
+    Arg::new(alloc, "tree")
+        .long("tree")
+        .value_name("FILE")
         .action(ArgAction::Append)
 }
 

@@ -22,7 +22,7 @@ use fz_filling::{
 };
 use fz_index::{Refutation, Search};
 use fz_model::Overview;
-use fz_search::{Found, bound, prove, search};
+use fz_search::{Branch, Found, bound, prove, search};
 use fz_store::{Model, Partial};
 use fz_stream::Block;
 use std::alloc::{AllocError, Global};
@@ -380,11 +380,16 @@ impl<'m, 'a> Judge<'m, 'a> {
     /// # Errors
     ///
     /// Out of memory.
-    pub fn shows(&mut self, alloc: Global, last: Option<i64>) -> Result<Option<usize>, AllocError>
+    pub fn shows(
+        &mut self,
+        alloc: Global,
+        last: Option<i64>,
+        tree: &[Branch<'_>],
+    ) -> Result<Option<usize>, AllocError>
         ensures same { self.new ≡ self.old }
         ensures shown { IfOk result (λ o. IfSome o (λ _. HasNoneBeyond self.old.model last)) }
     {
-        prove(alloc, self.model, last, self.steps, &mut self.search)
+        prove(alloc, self.model, last, tree, self.steps, &mut self.search)
     }
 
     /// A number that no known-solution which extends the block has an objective better than. It

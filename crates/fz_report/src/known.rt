@@ -7,8 +7,8 @@ ghost use Rattle.fz_command.specs.declared.words.Judging.TheVariants.{Nothing};
 use crate::options::{limits_of, options_of};
 use crate::reading::{Unread, open_file};
 use fz_check::{
-    BlockError, CheckError, Claims, Known, Listener, MOST_READS, Model, Proofs, Source, Verdict,
-    block_text, learn, read_model, refusal_text,
+    BlockError, Branch, CheckError, Claims, Known, Listener, MOST_READS, Model, Proofs, Source,
+    Verdict, block_text, learn, read_model, refusal_text,
 };
 use fz_command::{CheckOptions, Judging};
 use fz_files::Recorder;
@@ -17,19 +17,20 @@ use std::io::Write;
 
 /// Whether claims are judged, and with what is known by the streams in these files. What refutes
 /// nothing in them is told on standard error.
-pub fn claims_of<'k>(
+pub fn claims_of<'k: 't, 't>(
     rt: &HostRuntime,
     options: CheckOptions,
     model: &[u8],
     names: &[&'k str],
-) -> Result<Claims<'k>, Unread<'k>>
+    tree: &'t [Branch<'t>],
+) -> Result<Claims<'t>, Unread<'k>>
     ensures unasked { options.judging ≡ Nothing → IfOk result (λ claims. claims ≡ NotJudged) }
     ensures asked { options.judging ≢ Nothing → IfOk result (λ claims. claims ≢ NotJudged) }
 {
     let proofs = match options.judging {
         Judging::Nothing => return Ok(Claims::NotJudged),
         Judging::Asked => Proofs::Off,
-        Judging::Proving => Proofs::On,
+        Judging::Proving => Proofs::On(tree),
         Judging::Implied => {
             let _ = eprintln!(rt; "{AS_IF_ASKED}");
             Proofs::Off

@@ -10,13 +10,14 @@ mod known;
 mod options;
 mod reading;
 mod refusing;
+mod tree;
 
 pub use events::{
     Counts, add_place, block_line, claim_line, cut_line, refused_word, refuted_line, unread_line,
 };
 pub use fz_check::{
-    Answer, BlockError, CheckError, Claims, Event, Judged, Limits, MOST_READS, ModelError, Span,
-    StreamError, SyntaxError, Taker, TextTaker, Told, Verdict, check_events, refusal_fault,
+    Answer, BlockError, Branch, CheckError, Claims, Event, Judged, Limits, MOST_READS, ModelError,
+    Span, StreamError, SyntaxError, Taker, TextTaker, Told, Verdict, check_events, refusal_fault,
     show_printing_all, show_with, status,
 };
 pub use fz_command::{
@@ -27,3 +28,4 @@ pub use known::claims_of;
 pub use options::{completion_of, limits_of, options_of};
 pub use reading::{Unread, most_bytes, open_file, read_file, read_whole};
 pub use refusing::{is_told, refuse, refuse_file, refuse_usage, refuse_wrong};
+pub use tree::{branches_of, read_tree};

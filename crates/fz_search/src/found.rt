@@ -1,5 +1,6 @@
 //! What a search is asked, and what it comes to.
 
+use crate::guide::Edge;
 use fz_index::{Refutation, Search};
 use fz_store::{Model, Partial};
 use std::alloc::Global;
@@ -17,6 +18,8 @@ pub(crate) struct Task<'m, 'a> {
     pub(crate) lacks_bounds: bool,
     /// the objective of the block before, where a better one is looked for first
     pub(crate) before: Option<i64>,
+    /// the edges of a solver's search tree
+    pub(crate) edges: &'m [Edge<'m>],
     /// the objective that is to be beaten
     pub(crate) last: Option<i64>,
 }

@@ -11,6 +11,7 @@
 
 mod enclosing;
 mod found;
+mod guide;
 mod leaf;
 mod linear;
 mod order;
@@ -23,4 +24,5 @@ mod visiting;
 mod work;
 
 pub use found::Found;
+pub use guide::Branch;
 pub use searching::{bound, prove, search};

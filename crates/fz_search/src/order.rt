@@ -88,6 +88,9 @@ impl<'m, 'a> Work<'m, 'a> {
                 return Some(split);
             }
         }
+        if let Some(split) = self.guided() {
+            return Some(split);
+        }
         if let Some((variable, is_cost)) = objective_of(self.task.model)
             && matches!(self.way, Way::InOrder)
             && !self.proposal.has(variable)

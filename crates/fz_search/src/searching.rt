@@ -5,6 +5,7 @@ ghost use Rattle.fz_search.specs.Claims.{HasNoneBeyond};
 ghost use Rattle.fz_search.specs.Found.{HasNone, IsFoundFor, asked_of};
 
 use crate::found::{Found, Task};
+use crate::guide::{Branch, edges_of};
 use crate::order::{Way, objective_of};
 use crate::proposal::copied;
 use crate::tree::Tree;
@@ -143,6 +144,7 @@ pub fn search(
         sets: &sets,
         lacks_bounds,
         before,
+        edges: &[],
         last: None,
     };
     for way in [Way::InOrder, Way::Smallest] {
@@ -177,6 +179,7 @@ pub fn prove(
     alloc: Global,
     model: &Model<'_>,
     last: Option<i64>,
+    tree: &[Branch<'_>],
     steps: usize,
     known: &mut Option<Search>,
 ) -> Result<Option<usize>, AllocError>
@@ -184,6 +187,7 @@ pub fn prove(
 {
     let known = known_of(alloc, model, known)?;
     let filling = Partial::new(alloc, model)?;
+    let edges = edges_of(alloc, model, tree)?;
     let (sets, lacks_bounds) = open_of(alloc, model, &filling)?;
     let task = Task {
         alloc,
@@ -193,6 +197,7 @@ pub fn prove(
         sets: &sets,
         lacks_bounds,
         before: None,
+        edges: &edges,
         last,
     };
     refuting(&task, steps.saturating_mul(CLAIM))
@@ -235,6 +240,7 @@ pub fn bound(
         sets: &sets,
         lacks_bounds,
         before: None,
+        edges: &[],
         last: None,
     };
     let Some(best) = best_left(&open, steps)? else {

@@ -8,8 +8,9 @@ use crate::teller::{JsonTeller, Teller};
 use fz_explain::{Explainer, Message, NameTable, Text};
 use fz_report::{
     Answer, CheckError, CheckOptions, Claims, Explaining, Form, MOST_READS, NOTHING, Recent,
-    Recorder, Taker, Unread, check_events, claims_of, completion_of, find_input, most_bytes,
-    open_file, options_of, read_whole, refuse, refuse_file, status, unread_line,
+    Recorder, Taker, Unread, branches_of, check_events, claims_of, completion_of, find_input,
+    most_bytes, open_file, options_of, read_tree, read_whole, refuse, refuse_file, status,
+    unread_line,
 };
 use std::alloc::Global;
 use std::cell::RefCell;
@@ -25,6 +26,8 @@ pub struct Task<'a> {
     stream: &'a str,
     /// The file of the table of names, where one is given.
     pub names: Option<&'a str>,
+    /// The file of a solver's search tree, where one is given.
+    tree: Option<&'a str>,
     pub options: CheckOptions,
 }
 
@@ -34,6 +37,7 @@ pub fn check_files<'a>(
     model: &'a str,
     stream: Option<&'a str>,
     names: Option<&'a str>,
+    tree: Option<&'a str>,
     known: &'a [&'a str],
     options: CheckOptions,
 ) -> u8 {
@@ -41,6 +45,7 @@ pub fn check_files<'a>(
         model,
         stream: stream.unwrap_or(STANDARD_INPUT),
         names,
+        tree,
         options,
     };
     match check_opened(rt, &task, stream, known) {
@@ -79,7 +84,9 @@ fn check_readers<'a, M: Read + Drop, S: Read + Drop>(
 ) -> Result<u8, Unread<'a>> {
     let most = most_bytes(task.options.size);
     let bytes = read_whole(rt.alloc(), model, task.model, most)?;
-    let claims = claims_of(rt, task.options, &bytes, known)?;
+    let tree = read_tree(rt, task.tree)?;
+    let branches = branches_of(rt, task.tree, &tree)?;
+    let claims = claims_of(rt, task.options, &bytes, known, &branches)?;
     check_with_names(rt, task, claims, &bytes, stream)
 }
 

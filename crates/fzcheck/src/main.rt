@@ -58,9 +58,10 @@ fn carry_out(rt: &HostRuntime, request: &Request<'_>) -> u8 {
             model,
             stream,
             names,
+            tree,
             known,
             options,
-        } => check_files(rt, model, *stream, *names, known, *options),
+        } => check_files(rt, model, *stream, *names, *tree, known, *options),
     }
 }
 
