@@ -1,6 +1,6 @@
 //! The verdicts on blocks, one after another, and the answer on all of them.
 
-ghost use Rattle.std.specs.Prelude.{◌≡◌, ◌+◌, ◌<◌, None, IfOk, IfErr, OnOk};
+ghost use Rattle.std.specs.Prelude.{◌≡◌, ◌+◌, ◌<◌, None, IfOk, IfErr, IfSome, OnOk};
 ghost use Rattle.fz_judge.specs.Bounds.{IsBound};
 ghost use Rattle.fz_judge.specs.of_filling.declared.completion.Completion.TheVariants.{Off};
 ghost use Rattle.fz_judge.specs.of_filling.Verdict.{answer_by};

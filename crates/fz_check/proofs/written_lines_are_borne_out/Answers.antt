@@ -1,4 +1,4 @@
-use Rattle.std.proofs.Common.{None}
+use Rattle.std.proofs.Common.{None, refl}
 use Rattle.fz_judge.specs.of_model.Names.{model_of}
 use Rattle.fz_judge.specs.of_stream.Parts.{blocks_in}
 use Rattle.fz_check.specs.Claims.{no_account, verdicts_of}
