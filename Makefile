@@ -46,14 +46,14 @@ build/fzcheck: $(SOURCES)
 	sha256sum build/fzcheck >>build/log
 
 # The gate proves and builds the program too, so nothing is proved twice here. With RT_JOBS it works
-# on so many crates at a time; without, it keeps back some for memory that they don't take: the
-# largest of a dozen that were measured took 2.5 GB.
+# on so many crates at a time, and a fourth would only wait for the longest chain of them; without,
+# it keeps back some for memory that they don't take (docs/ARCHITECTURE.md, "Time of the gate").
 test:
 	@$(NEEDS_RT)
 	@rm -rf build/prove build/wrong
 	@mkdir -p build
 	tools/sources.py >build/log
-	{ RT_JOBS=$(JOBS) rt ci $(ANEW) 2>&1 && echo "proved by rt ci"; } | tee -a build/log
+	{ RT_JOBS=$$(($(JOBS) > 3 ? 3 : $(JOBS))) rt ci $(ANEW) 2>&1 && echo "proved by rt ci"; } | tee -a build/log
 	@tail -n 1 build/log | grep -q "^proved by"
 	cp crates/fzcheck/out/fzcheck build/fzcheck
 	sha256sum build/fzcheck >>build/log
