@@ -373,7 +373,8 @@ def keep(place, names):
 
 def run_blocks(place, page, statuses):
     """Runs a page's commands, and gives what they print."""
-    ours = [block for block in blocks(page) if not re.search("minizinc |configure|LIBRARY", block)]
+    needs_more = "minizinc |configure|LIBRARY|g[+][+] "  # what the test has no stand-in for
+    ours = [block for block in blocks(page) if not re.search(needs_more, block)]
     ran = [place.run("bash", "-ec", block) for block in ours]
     expect(page, statuses, [status for status, _, _ in ran])
     return [out for _, out, _ in ran]
