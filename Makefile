@@ -53,7 +53,8 @@ test:
 	@rm -rf build/prove build/wrong
 	@mkdir -p build
 	tools/sources.py >build/log
-	{ RT_JOBS=$$(($(JOBS) > 3 ? 3 : $(JOBS))) rt ci $(ANEW) 2>&1 && echo "proved by rt ci"; } | tee -a build/log
+	{ RT_JOBS=$$(($(JOBS) > 3 ? 3 : $(JOBS))) rt ci $(ANEW) 2>&1 \
+	  && echo "proved by rt ci"; } | tee -a build/log
 	@tail -n 1 build/log | grep -q "^proved by"
 	cp crates/fzcheck/out/fzcheck build/fzcheck
 	sha256sum build/fzcheck >>build/log
