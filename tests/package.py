@@ -25,12 +25,12 @@ run) echo "logic=proved of=fzcheck"; cp "$PROGRAM" out/fzcheck; exit 5 ;;
 esac
 """
 # As `rt ci` tells of a crate that was proved, of one that was proved before, and of the others.
-OF_CI = """== fz_lex
+OF_CI = """== fz_tree
 fn f: proved
-logic=proved of=fz_lex by=ci
-rt: fz_lex proved
+logic=proved of=fz_tree by=ci
+rt: fz_tree proved
 rt: fz_base is kept: an earlier run proved it
-== fz_lex: its tests
+== fz_tree: its tests
 logic=proved tests=1
 proved by rt ci
 """
@@ -139,14 +139,14 @@ def packs_and_compares(copy, commit):
 
 def tells_of_changes(copy, receipt, has_git):
     """Changes a source, and a line of crates.txt, and the program."""
-    changes = {"crates/fz_base/specs/Lib.antt": "\n", "crates.txt": "fz_lex: fz_base\n"}
+    changes = {"crates/fz_base/specs/Lib.antt": "\n", "crates.txt": "fz_tree: fz_base\n"}
     for path, more in changes.items():
         with open(f"{copy.folder}/{path}", "a") as file:
             file.write(more)
     place = "\n    crates/fz_base/specs/Lib.antt\n" if has_git else "\n"
     expect_parts("changed sources", 1,
                  [f"sources: {CRATES - 2} of {CRATES} crates agree",
-                  f"  fz_base: other sources{place}  fz_lex: stands on other crates"],
+                  f"  fz_base: other sources{place}  fz_tree: stands on other crates"],
                  copy.compared(receipt))
     expect_parts("changed sources, packed", 2, ["the sources of fz_base aren't those"],
                  copy.run("make", "-o", "build/fzcheck", "dist"))
@@ -169,8 +169,8 @@ def takes_log_of_ci(copy, receipt):
     verdicts = dict(re.findall(r"^crate: (\w+):.*\nsources: .*\nverdict: (.*)$",
                                read(receipt), re.M))
     expect("verdicts of the gate",
-           ["is kept: an earlier run proved it", "logic=proved of=fz_lex by=ci", "none:"],
-           [verdicts["fz_base"], verdicts["fz_lex"], verdicts["fz_tree"][:5]])
+           ["is kept: an earlier run proved it", "logic=proved of=fz_tree by=ci", "none:"],
+           [verdicts["fz_base"], verdicts["fz_tree"], verdicts["fz_syntax"][:5]])
     expect_parts("the gate's receipt", 0,
                  [f"by rt ci: 1 of {CRATES} crates", "\n  fz_base: is kept: "],
                  copy.compared(receipt))

@@ -2,18 +2,18 @@
 use Rattle.std.proofs.Common.{◌≡◌, ℕ, ℤ, suc, zero, ◌+◌, ◌≤◌, ◌<◌, List, [], ◌∷◌, ◌++◌, length, map, take, drop, get_or, Option, None, refl, sym, ap, ◌∙◌, subst, arith}
 use Rattle.std.specs.List.{AllByRecursion}
 use Rattle.std.proofs.lemmas.List.{take_more, take_all, drop_more, take-append-drop, map-append, length-take}
-use Rattle.fz_judge.specs.of_model.Meaning.{Model}
-use Rattle.fz_judge.specs.of_stream.declared.block.Block as the_block
-use Rattle.fz_judge.specs.of_stream.declared.reading.Claim.{Claim}
-use Rattle.fz_judge.specs.of_stream.Found.{EndsWithin, HasPlaces, IsReadAs, block_of}
-use Rattle.fz_judge.specs.of_stream.Parts.{StreamPart, BlockPart, ClaimPart, blocks_in}
-use Rattle.fz_judge.specs.of_filling.BlockFaults.{AllFit}
-use Rattle.fz_judge.specs.of_filling.declared.completion.Completion.TheVariants.{Off}
-use Rattle.fz_judge.specs.of_filling.Verdict.{Answer, answer_of}
-use Rattle.fz_judge.specs.of_syntax.View.{bare_items}
-use Rattle.fz_judge.specs.of_filling.Judged.{IsBlockRefusal}
-use Rattle.fz_judge.specs.of_filling.View.{verdict_view}
-use Rattle.fz_judge.specs.of_filling.declared.verdict.Verdict as the_verdict
+use Rattle.fz_search.specs.of_model.Meaning.{Model}
+use Rattle.fz_filling.specs.of_stream.declared.block.Block as the_block
+use Rattle.fz_filling.specs.of_stream.declared.reading.Claim.{Claim}
+use Rattle.fz_filling.specs.of_stream.Found.{EndsWithin, HasPlaces, IsReadAs, block_of}
+use Rattle.fz_filling.specs.of_stream.Parts.{StreamPart, BlockPart, ClaimPart, blocks_in}
+use Rattle.fz_filling.specs.BlockFaults.{AllFit}
+use Rattle.fz_filling.specs.declared.completion.Completion.TheVariants.{Off}
+use Rattle.fz_filling.specs.Verdict.{Answer, answer_of}
+use Rattle.fz_filling.specs.of_syntax.View.{bare_items}
+use Rattle.fz_filling.specs.Judged.{IsBlockRefusal}
+use Rattle.fz_filling.specs.View.{verdict_view}
+use Rattle.fz_filling.specs.declared.verdict.Verdict as the_verdict
 use Rattle.fz_check.specs.declared.account.Account.{Account}
 use Rattle.fz_check.specs.declared.claims.Claims.TheVariants.{NotJudged}
 use Rattle.fz_check.specs.declared.error.CheckError.{CheckError}

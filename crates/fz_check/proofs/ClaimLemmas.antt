@@ -4,24 +4,24 @@ use Rattle.std.proofs.Common.{◌≡◌, ℕ, suc, ◌+◌, ℤ, Bool, true, fal
 use Rattle.std.specs.Prelude.{IfSome, ◌≤◌}
 use Rattle.std.specs.List.{AllByRecursion}
 use Rattle.std.specs.Option.{option_or}
-use Rattle.fz_judge.specs.of_model.Meaning.{Aim, Model, objective}
-use Rattle.fz_judge.specs.of_stream.declared.line.ClaimKind.{ClaimKind}
-use Rattle.fz_judge.specs.of_stream.declared.line.ClaimKind.TheVariants.{Complete, Unsatisfiable}
-use Rattle.fz_judge.specs.of_stream.declared.reading.Claim.{Claim}
-use Rattle.fz_judge.specs.of_stream.Found.{claims_in}
-use Rattle.fz_judge.specs.of_stream.Parts.{blocks_in, SolutionBlock, StreamPart, BlockPart, ClaimPart}
-use Rattle.fz_judge.specs.of_search.Claims.{is_better}
-use Rattle.fz_judge.specs.Bounds.{IsBound}
-use Rattle.fz_judge.specs.of_filling.declared.completion.Completion.{Completion}
-use Rattle.fz_judge.specs.of_filling.declared.completion.Completion.TheVariants.{Off, On}
-use Rattle.fz_judge.specs.of_filling.Judged.{JudgeState, IsJudged}
-use Rattle.fz_judge.specs.of_filling.Verdict.{Answer, Verdict, answer_by, answer_of, first_number, is_undecided, is_violated}
-use Rattle.fz_judge.specs.of_filling.Completed.{AreTold}
-use Rattle.fz_judge.specs.of_filling.Completed.AreTold.{NoneLeft, OneMore}
-use Rattle.fz_judge.specs.of_filling.Verdict.Answer.{Accepted, Rejected, ClaimRejected}
-use Rattle.fz_judge.specs.of_filling.Verdict.Verdict.{Satisfied}
-use Rattle.fz_judge.proofs.of_filling.Accepted.{satisfied_solves}
-use Rattle.fz_judge.proofs.of_filling.Completing.{compared, satisfied_under}
+use Rattle.fz_search.specs.of_model.Meaning.{Aim, Model, objective}
+use Rattle.fz_filling.specs.of_stream.declared.line.ClaimKind.{ClaimKind}
+use Rattle.fz_filling.specs.of_stream.declared.line.ClaimKind.TheVariants.{Complete, Unsatisfiable}
+use Rattle.fz_filling.specs.of_stream.declared.reading.Claim.{Claim}
+use Rattle.fz_filling.specs.of_stream.Found.{claims_in}
+use Rattle.fz_filling.specs.of_stream.Parts.{blocks_in, SolutionBlock, StreamPart, BlockPart, ClaimPart}
+use Rattle.fz_search.specs.Claims.{is_better}
+use Rattle.fz_check.specs.Bounds.{IsBound}
+use Rattle.fz_filling.specs.declared.completion.Completion.{Completion}
+use Rattle.fz_filling.specs.declared.completion.Completion.TheVariants.{Off, On}
+use Rattle.fz_filling.specs.Judged.{JudgeState, IsJudged}
+use Rattle.fz_filling.specs.Verdict.{Answer, Verdict, answer_by, answer_of, first_number, is_undecided, is_violated}
+use Rattle.fz_filling.specs.Completed.{AreTold}
+use Rattle.fz_filling.specs.Completed.AreTold.{NoneLeft, OneMore}
+use Rattle.fz_filling.specs.Verdict.Answer.{Accepted, Rejected, ClaimRejected}
+use Rattle.fz_filling.specs.Verdict.Verdict.{Satisfied}
+use Rattle.fz_filling.proofs.Accepted.{satisfied_solves}
+use Rattle.fz_filling.proofs.Completing.{compared, satisfied_under}
 use Rattle.fz_check.specs.declared.claims.Saying.{Saying}
 use Rattle.fz_check.specs.declared.claims.Saying.TheVariants.{Nothing, NoSolution, NoneBetter}
 use Rattle.fz_check.specs.declared.claims.Statement.{Statement}

@@ -2,18 +2,18 @@
 use Rattle.std.proofs.Common.{◌≡◌, ◌≢◌, ℕ, ◌+◌, Bool, true, false, cond, List, [], ◌∷◌, ◌++◌, length, Option, Some, None, inl, inr, ◌⊎◌, refl, sym, ap, ◌∙◌, subst, append_assoc, append-nil}
 use Rattle.std.proofs.lemmas.Bool.{ne_eqb, eq-eqb, cases_eq, false≢true}
 use Rattle.std.specs.List.{AllByRecursion, onto_first}
-use Rattle.fz_judge.specs.of_syntax.Span.{Span}
-use Rattle.fz_judge.specs.of_stream.declared.error.StreamError.{StreamError}
-use Rattle.fz_judge.specs.of_stream.declared.error.StreamError.TheVariants as stream
-use Rattle.fz_judge.specs.of_stream.declared.line.LineKind.{LineKind}
-use Rattle.fz_judge.specs.of_stream.declared.line.LineKind.TheVariants.{Blank, Comment, Marker, Claim, Item}
-use Rattle.fz_judge.specs.of_stream.Broken.{BreaksAfter, CannotEnd}
-use Rattle.fz_judge.specs.of_stream.Parts.{Line, lines_of, joined, kind_of, IsFiller, IsFillerKind, IsInner, IsInnerKind, Frame, BlockFrame, ClaimFrame, StreamPart, AreBlockLines, Closes, AreLinesOfFrame, AreLinesOf, Covers, IsFramed, IsStreamTextWithin}
-use Rattle.fz_judge.specs.of_stream.Splitting.{EndsLast, EndsWithFeed}
-use Rattle.fz_judge.specs.of_stream.Telling.{IsNoneOrClaim, first_kind}
-use Rattle.fz_judge.specs.of_syntax.Limits.{Limits}
-use Rattle.fz_judge.proofs.of_stream.PartLemmas.{into_frames}
-use Rattle.fz_judge.proofs.of_stream.SplitLemmas.{lines_up_to}
+use Rattle.fz_filling.specs.of_syntax.Span.{Span}
+use Rattle.fz_filling.specs.of_stream.declared.error.StreamError.{StreamError}
+use Rattle.fz_filling.specs.of_stream.declared.error.StreamError.TheVariants as stream
+use Rattle.fz_filling.specs.of_stream.declared.line.LineKind.{LineKind}
+use Rattle.fz_filling.specs.of_stream.declared.line.LineKind.TheVariants.{Blank, Comment, Marker, Claim, Item}
+use Rattle.fz_filling.specs.of_stream.Broken.{BreaksAfter, CannotEnd}
+use Rattle.fz_filling.specs.of_stream.Parts.{Line, lines_of, joined, kind_of, IsFiller, IsFillerKind, IsInner, IsInnerKind, Frame, BlockFrame, ClaimFrame, StreamPart, AreBlockLines, Closes, AreLinesOfFrame, AreLinesOf, Covers, IsFramed, IsStreamTextWithin}
+use Rattle.fz_filling.specs.of_stream.Splitting.{EndsLast, EndsWithFeed}
+use Rattle.fz_filling.specs.of_stream.Telling.{IsNoneOrClaim, first_kind}
+use Rattle.fz_filling.specs.of_syntax.Limits.{Limits}
+use Rattle.fz_filling.proofs.of_stream.PartLemmas.{into_frames}
+use Rattle.fz_filling.proofs.of_stream.SplitLemmas.{lines_up_to}
 use Rattle.fz_check.specs.declared.options.Ending.{Ending}
 use Rattle.fz_check.specs.declared.options.Ending.TheVariants.{Whole, Cut}
 use Rattle.fz_check.specs.Cutting.{HoldsOfJudged, IsCutOff}

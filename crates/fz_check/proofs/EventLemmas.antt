@@ -3,9 +3,9 @@ use Rattle.std.proofs.Common.{◌≡◌, ℕ, ◌+◌, ◌≤◌, ◌<◌, true,
 use Rattle.std.proofs.lemmas.Bool.{le-leb, lt-leb}
 use Rattle.std.proofs.lemmas.Grind.{flat_map-append}
 use Rattle.std.proofs.lemmas.List.{drop_all, drop_more}
-use Rattle.fz_judge.specs.of_filling.View.{verdict_view}
-use Rattle.fz_judge.specs.of_filling.declared.verdict.Verdict as the_verdict
-use Rattle.fz_judge.specs.of_stream.declared.reading.Claim.{Claim}
+use Rattle.fz_filling.specs.View.{verdict_view}
+use Rattle.fz_filling.specs.declared.verdict.Verdict as the_verdict
+use Rattle.fz_filling.specs.of_stream.declared.reading.Claim.{Claim}
 use Rattle.fz_check.specs.Report.{AreOf, Event, claimed, claims_by, claims_past, event_line, in_order, text_of}
 use Rattle.fz_check.specs.Report.Event.{Judged}
 

@@ -1,13 +1,13 @@
 -- One more block is judged and accounted for, and one more part is told.
 use Rattle.std.proofs.Common.{◌≡◌, ℕ, suc, List, [], ◌∷◌, ◌++◌, None, refl, sym, ap, ◌∙◌, subst, subst₂, append-nil}
-use Rattle.fz_judge.specs.of_model.Meaning.{Model}
-use Rattle.fz_judge.specs.of_stream.declared.block.Block as the_block
-use Rattle.fz_judge.specs.of_stream.declared.line.ClaimKind.{ClaimKind}
-use Rattle.fz_judge.specs.of_stream.Found.{EndsWithin, HasPlaces, block_of}
-use Rattle.fz_judge.specs.of_stream.Parts.{SolutionBlock, StreamPart, BlockPart, ClaimPart}
-use Rattle.fz_judge.specs.of_filling.declared.completion.Completion.{Completion}
-use Rattle.fz_judge.specs.of_filling.Verdict.{Answer, Verdict}
-use Rattle.fz_judge.specs.of_filling.Judged.{JudgeState, IsBlockRefusal}
+use Rattle.fz_search.specs.of_model.Meaning.{Model}
+use Rattle.fz_filling.specs.of_stream.declared.block.Block as the_block
+use Rattle.fz_filling.specs.of_stream.declared.line.ClaimKind.{ClaimKind}
+use Rattle.fz_filling.specs.of_stream.Found.{EndsWithin, HasPlaces, block_of}
+use Rattle.fz_filling.specs.of_stream.Parts.{SolutionBlock, StreamPart, BlockPart, ClaimPart}
+use Rattle.fz_filling.specs.declared.completion.Completion.{Completion}
+use Rattle.fz_filling.specs.Verdict.{Answer, Verdict}
+use Rattle.fz_filling.specs.Judged.{JudgeState, IsBlockRefusal}
 use Rattle.fz_check.specs.declared.account.Account.{Account}
 use Rattle.fz_check.specs.declared.error.CheckError.{CheckError}
 use Rattle.fz_check.specs.declared.error.CheckError.TheVariants as errors

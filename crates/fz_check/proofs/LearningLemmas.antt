@@ -1,13 +1,13 @@
 -- What is known between two parts of a known stream.
 use Rattle.std.proofs.Common.{◌≡◌, ℕ, ℤ, false, true, List, [], ◌∷◌, ◌++◌, Option, None, inl, refl, sym, ap, ◌∙◌, subst, subst₂}
 use Rattle.std.specs.Io.KnownBytes.{IsAtEnd}
-use Rattle.fz_judge.specs.of_model.Meaning.{Aim, Model}
-use Rattle.fz_judge.specs.of_stream.Parts.{SolutionBlock, StreamPart, Frame}
-use Rattle.fz_judge.specs.of_syntax.Limits.{Limits}
-use Rattle.fz_judge.specs.of_filling.declared.completion.Completion.{Completion}
-use Rattle.fz_judge.specs.of_filling.Judged.{JudgeState, IsJudged}
-use Rattle.fz_judge.specs.of_filling.Verdict.{Verdict}
-use Rattle.fz_judge.specs.of_filling.Verdict.Verdict.{Satisfied}
+use Rattle.fz_search.specs.of_model.Meaning.{Aim, Model}
+use Rattle.fz_filling.specs.of_stream.Parts.{SolutionBlock, StreamPart, Frame}
+use Rattle.fz_filling.specs.of_syntax.Limits.{Limits}
+use Rattle.fz_filling.specs.declared.completion.Completion.{Completion}
+use Rattle.fz_filling.specs.Judged.{JudgeState, IsJudged}
+use Rattle.fz_filling.specs.Verdict.{Verdict}
+use Rattle.fz_filling.specs.Verdict.Verdict.{Satisfied}
 use Rattle.fz_check.specs.declared.claims.Source.{Source}
 use Rattle.fz_check.specs.declared.claims.Known.{Known}
 use Rattle.fz_check.specs.Claims.{HasSolutionWith, Knows, known_with}

@@ -16,3 +16,4 @@ pub mod Same
 pub mod Sound
 pub mod Fronts
 pub mod Notes
+pub mod Refuting

@@ -2,12 +2,12 @@
 use Rattle.std.proofs.Common.{◌≡◌, ℕ, Bool, true, cond, List, [], ◌∷◌, ◌++◌, map, codes, sym, ap, ◌∙◌}
 use Rattle.std.specs.Global.{Vec}
 use Rattle.std.proofs.lemmas.List.{map-append}
-use Rattle.fz_judge.specs.of_syntax.Tree as tree
-use Rattle.fz_judge.specs.of_syntax.declared.Decl as the_decl
-use Rattle.fz_judge.specs.of_syntax.declared.Note.{Note}
-use Rattle.fz_judge.specs.of_syntax.declared.NoteArg.TheFolds.{fold_out-Note}
-use Rattle.fz_judge.specs.of_syntax.View.{bare_note, bare_notes, bare_base, bare_arg, arg_list, bare_arg_layer, bare_basic_layer, bare_note_layer}
-use Rattle.fz_judge.specs.of_model.View.{located_decl, located_name, located_value}
+use Rattle.fz_filling.specs.of_syntax.Tree as tree
+use Rattle.fz_filling.specs.of_syntax.declared.Decl as the_decl
+use Rattle.fz_filling.specs.of_syntax.declared.Note.{Note}
+use Rattle.fz_filling.specs.of_syntax.declared.NoteArg.TheFolds.{fold_out-Note}
+use Rattle.fz_filling.specs.of_syntax.View.{bare_note, bare_notes, bare_base, bare_arg, arg_list, bare_arg_layer, bare_basic_layer, bare_note_layer}
+use Rattle.fz_search.specs.of_model.View.{located_decl, located_name, located_value}
 use Rattle.fz_check.specs.Outputs.{output_var, is_unprinted, printed_decl}
 
 pub unfolds : (n : Note) → bare_note n

@@ -4,16 +4,16 @@ use Rattle.std.proofs.lemmas.List.{drop_all, drop-take, drop-drop, map_push}
 use Rattle.std.specs.List.{AllByRecursion}
 use Rattle.std.specs.Prelude.{IfErr, Result, Ok, Err}
 use Rattle.std.specs.Io.KnownBytes.{IsAtEnd}
-use Rattle.fz_judge.specs.of_stream.declared.error.StreamError.{StreamError}
-use Rattle.fz_judge.specs.of_stream.declared.error.StreamError.TheVariants as stream
-use Rattle.fz_judge.specs.of_stream.declared.splitter.Stage.TheVariants.{Running, Finished, Failed}
-use Rattle.fz_judge.specs.of_stream.Broken.{BreaksAfter, CannotGoOn, CannotEnd, IsBrokenAtEndAfter}
-use Rattle.fz_judge.specs.of_stream.Faults.{IsStreamFault, IsCuttingFault}
-use Rattle.fz_judge.specs.of_stream.Parts.{StreamPart, BlockPart, ClaimPart, Frame, frame_of, HasItems, Covers, IsStreamTextWithin}
-use Rattle.fz_judge.specs.of_stream.Splitting.{SplitterState, Holds, Fits, PassesLimit, EndsLast, EndsWith, IsPartOfItems, frames_in, most_taken}
-use Rattle.fz_judge.specs.of_syntax.Limits.{Limits}
-use Rattle.fz_judge.proofs.of_stream.PartLemmas.{every_append, into_frames}
-use Rattle.fz_judge.specs.of_syntax.Span.{Span}
+use Rattle.fz_filling.specs.of_stream.declared.error.StreamError.{StreamError}
+use Rattle.fz_filling.specs.of_stream.declared.error.StreamError.TheVariants as stream
+use Rattle.fz_filling.specs.of_stream.declared.splitter.Stage.TheVariants.{Running, Finished, Failed}
+use Rattle.fz_filling.specs.of_stream.Broken.{BreaksAfter, CannotGoOn, CannotEnd, IsBrokenAtEndAfter}
+use Rattle.fz_filling.specs.of_stream.Faults.{IsStreamFault, IsCuttingFault}
+use Rattle.fz_filling.specs.of_stream.Parts.{StreamPart, BlockPart, ClaimPart, Frame, frame_of, HasItems, Covers, IsStreamTextWithin}
+use Rattle.fz_filling.specs.of_stream.Splitting.{SplitterState, Holds, Fits, PassesLimit, EndsLast, EndsWith, IsPartOfItems, frames_in, most_taken}
+use Rattle.fz_filling.specs.of_syntax.Limits.{Limits}
+use Rattle.fz_filling.proofs.of_stream.PartLemmas.{every_append, into_frames}
+use Rattle.fz_filling.specs.of_syntax.Span.{Span}
 use Rattle.fz_check.specs.declared.options.Ending.{Ending}
 use Rattle.fz_check.specs.declared.options.Ending.TheVariants.{Whole, Cut}
 use Rattle.fz_check.specs.declared.reader.Step.TheVariants.{End}

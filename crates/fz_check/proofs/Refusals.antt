@@ -2,21 +2,21 @@
 use Rattle.std.proofs.Common.{◌≡◌, ◌≢◌, ℕ, ◌≤◌, ◌<◌, List, length, map, refl, arith, ⊎_elim}
 use Rattle.std.specs.List.{AllByRecursion}
 use Rattle.std.proofs.lemmas.Bool.{cases_lt}
-use Rattle.fz_judge.specs.of_syntax.SyntaxError.{SyntaxError}
-use Rattle.fz_judge.specs.of_syntax.SyntaxError.TheVariants as syntax
-use Rattle.fz_judge.specs.of_syntax.Places.{most_bytes}
-use Rattle.fz_judge.specs.of_syntax.Limits.{Limits}
-use Rattle.fz_judge.specs.of_syntax.Offering.{IsRefusedWithin}
-use Rattle.fz_judge.specs.of_stream.declared.error.StreamError.{StreamError}
-use Rattle.fz_judge.specs.of_stream.declared.error.StreamError.TheVariants as stream
-use Rattle.fz_judge.specs.of_stream.Faults.{IsStreamFault}
-use Rattle.fz_judge.specs.of_stream.Parts.{StreamPart}
-use Rattle.fz_judge.specs.of_stream.Broken.{StopsAfter}
-use Rattle.fz_judge.specs.of_model.Meaning.{Model}
-use Rattle.fz_judge.specs.of_model.Texts.{IsLoadedFrom}
-use Rattle.fz_judge.specs.of_stream.Found.{HasPlaces, IsReadAs, block_of, IsStreamText}
-use Rattle.fz_judge.specs.of_stream.declared.reading.Claim.{Claim}
-use Rattle.fz_judge.specs.of_stream.declared.block.Block as the_block
+use Rattle.fz_filling.specs.of_syntax.SyntaxError.{SyntaxError}
+use Rattle.fz_filling.specs.of_syntax.SyntaxError.TheVariants as syntax
+use Rattle.fz_filling.specs.of_syntax.Places.{most_bytes}
+use Rattle.fz_filling.specs.of_syntax.Limits.{Limits}
+use Rattle.fz_filling.specs.of_syntax.Offering.{IsRefusedWithin}
+use Rattle.fz_filling.specs.of_stream.declared.error.StreamError.{StreamError}
+use Rattle.fz_filling.specs.of_stream.declared.error.StreamError.TheVariants as stream
+use Rattle.fz_filling.specs.of_stream.Faults.{IsStreamFault}
+use Rattle.fz_filling.specs.of_stream.Parts.{StreamPart}
+use Rattle.fz_filling.specs.of_stream.Broken.{StopsAfter}
+use Rattle.fz_search.specs.of_model.Meaning.{Model}
+use Rattle.fz_search.specs.of_model.Texts.{IsLoadedFrom}
+use Rattle.fz_filling.specs.of_stream.Found.{HasPlaces, IsReadAs, block_of, IsStreamText}
+use Rattle.fz_filling.specs.of_stream.declared.reading.Claim.{Claim}
+use Rattle.fz_filling.specs.of_stream.declared.block.Block as the_block
 use Rattle.fz_check.specs.declared.error.CheckError.{CheckError}
 use Rattle.fz_check.specs.declared.error.CheckError.TheVariants as errors
 use Rattle.fz_check.specs.Refused.{HasStreamFault, IsRefusal, HasTextFault, IsBroken}

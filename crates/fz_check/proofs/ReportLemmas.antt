@@ -1,20 +1,20 @@
 -- What the verdicts of a report say of solutions is so.
 use Rattle.std.proofs.Common.{◌≡◌, ℕ, List, None, Some, refl, sym, ap, ◌∙◌, subst}
 use Rattle.std.specs.List.{AllByRecursion}
-use Rattle.fz_judge.specs.of_model.Located.{LocatedTree}
-use Rattle.fz_judge.specs.of_model.Meaning.{Model}
-use Rattle.fz_judge.specs.of_model.Names.{HasNoFault, model_of}
-use Rattle.fz_judge.specs.of_model.Texts.{IsLoadedFromWithin}
-use Rattle.fz_judge.proofs.of_model.Scope.{sound_aims}
-use Rattle.fz_judge.specs.of_stream.Parts.{SolutionBlock, blocks_in}
-use Rattle.fz_judge.specs.of_filling.declared.completion.Completion.{Completion}
-use Rattle.fz_judge.specs.of_filling.Completed.{AreVerdicts}
-use Rattle.fz_judge.specs.of_filling.Verdict.{Answer, Verdict, answer_of}
-use Rattle.fz_judge.specs.of_filling.Verdict.Answer.{Accepted}
-use Rattle.fz_judge.specs.of_filling.Verdict.Verdict.{Violated}
-use Rattle.fz_judge.proofs.of_filling.Accepted.{accepted_solves}
-use Rattle.fz_judge.proofs.of_filling.Completing.{accepted_judged}
-use Rattle.fz_judge.proofs.of_filling.Each.{each_satisfied, each_violated, each_not_better}
+use Rattle.fz_search.specs.of_model.Located.{LocatedTree}
+use Rattle.fz_search.specs.of_model.Meaning.{Model}
+use Rattle.fz_search.specs.of_model.Names.{HasNoFault, model_of}
+use Rattle.fz_search.specs.of_model.Texts.{IsLoadedFromWithin}
+use Rattle.fz_search.proofs.of_model.Scope.{sound_aims}
+use Rattle.fz_filling.specs.of_stream.Parts.{SolutionBlock, blocks_in}
+use Rattle.fz_filling.specs.declared.completion.Completion.{Completion}
+use Rattle.fz_filling.specs.Completed.{AreVerdicts}
+use Rattle.fz_filling.specs.Verdict.{Answer, Verdict, answer_of}
+use Rattle.fz_filling.specs.Verdict.Answer.{Accepted}
+use Rattle.fz_filling.specs.Verdict.Verdict.{Violated}
+use Rattle.fz_filling.proofs.Accepted.{accepted_solves}
+use Rattle.fz_filling.proofs.Completing.{accepted_judged}
+use Rattle.fz_filling.proofs.Each.{each_satisfied, each_violated, each_not_better}
 use Rattle.fz_check.specs.Headline.{HasSolutionsWithin}
 use Rattle.fz_check.specs.declared.options.Options.{Options}
 use Rattle.fz_check.specs.Claims.{HasReportWith, IsReportWith, IsTrueOf, account, no_account, verdicts_of}

@@ -1,17 +1,17 @@
 -- What is shown of a model.
 use Rattle.std.proofs.Common.{◌≡◌, ◌∙◌, ℕ, List, sym, ap, subst}
-use Rattle.fz_judge.specs.of_syntax.AnyLength.{LexesWithNumbersInLimit}
-use Rattle.fz_judge.specs.of_syntax.Limits.{Limits}
-use Rattle.fz_judge.specs.of_syntax.Print.{CanBeWritten, tree_text}
-use Rattle.fz_judge.specs.of_syntax.Text.{IsTextOfTreeWithin}
-use Rattle.fz_judge.specs.of_syntax.Tokens.{toks}
-use Rattle.fz_judge.specs.of_syntax.View.{bare}
-use Rattle.fz_judge.specs.of_syntax.declared.Ast as the_ast
-use Rattle.fz_judge.proofs.of_syntax.PrintBack.{read_can_be_written}
-use Rattle.fz_judge.specs.of_model.Names.{HasNoFault}
-use Rattle.fz_judge.specs.of_model.Located.{bare_of}
-use Rattle.fz_judge.specs.of_model.View.{located}
-use Rattle.fz_judge.proofs.of_model.Places.{located_is_bare}
+use Rattle.fz_filling.specs.of_syntax.AnyLength.{LexesWithNumbersInLimit}
+use Rattle.fz_filling.specs.of_syntax.Limits.{Limits}
+use Rattle.fz_filling.specs.of_syntax.Print.{CanBeWritten, tree_text}
+use Rattle.fz_filling.specs.of_syntax.Text.{IsTextOfTreeWithin}
+use Rattle.fz_filling.specs.of_syntax.Tokens.{toks}
+use Rattle.fz_filling.specs.of_syntax.View.{bare}
+use Rattle.fz_filling.specs.of_syntax.declared.Ast as the_ast
+use Rattle.fz_filling.proofs.of_syntax.PrintBack.{read_can_be_written}
+use Rattle.fz_search.specs.of_model.Names.{HasNoFault}
+use Rattle.fz_search.specs.of_model.Located.{bare_of}
+use Rattle.fz_search.specs.of_model.View.{located}
+use Rattle.fz_search.proofs.of_model.Places.{located_is_bare}
 use Rattle.fz_check.specs.Outputs.{with_all_printed}
 use Rattle.fz_check.proofs.Tokens.{can_be_written}
 use Rattle.fz_check.proofs.Same.{same_model}

@@ -2,9 +2,9 @@
 use Rattle.std.proofs.Common.{◌≡◌, List, [], ◌∷◌, ◌++◌, refl, ap, sym, ◌∙◌}
 use Rattle.std.specs.Option.{option_or}
 use Rattle.std.proofs.lemmas.List.{map-append}
-use Rattle.fz_judge.specs.of_model.Meaning.{first_some}
-use Rattle.fz_judge.specs.of_model.Names.{HasNoFault, kinds, scalar_kind, fault_at_decl, decls_fault, constraint_fault, goal_fault, first_fault}
-use Rattle.fz_judge.specs.of_model.Located.{Decl, LocatedTree}
+use Rattle.fz_search.specs.of_model.Meaning.{first_some}
+use Rattle.fz_search.specs.of_model.Names.{HasNoFault, kinds, scalar_kind, fault_at_decl, decls_fault, constraint_fault, goal_fault, first_fault}
+use Rattle.fz_search.specs.of_model.Located.{Decl, LocatedTree}
 use Rattle.fz_check.specs.Outputs.{printed_decl, with_all_printed}
 use Rattle.fz_check.proofs.Same.{printed, looked_up}
 

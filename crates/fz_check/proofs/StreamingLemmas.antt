@@ -4,11 +4,11 @@ use Rattle.std.specs.Prelude.{IfOk, IfErr, OnOk, OnErr, Result, Ok, Err}
 use Rattle.std.proofs.lemmas.Result.{IfErr-weaker, IfOk-weaker}
 use Rattle.std.proofs.KnownBytes.{Appends-nil, Consumes-nil, Consumes-trans}
 use Rattle.std.specs.Io.KnownBytes.{Appends, Consumes, IsAtEnd}
-use Rattle.fz_judge.specs.of_model.Meaning.{Model}
-use Rattle.fz_judge.specs.of_model.Texts.{IsLoadedFromWithin}
-use Rattle.fz_judge.specs.of_stream.declared.splitter.Stage.TheVariants.{Running, Finished}
-use Rattle.fz_judge.specs.of_stream.Parts.{StreamPart, Frame, IsStreamTextWithin}
-use Rattle.fz_judge.specs.of_syntax.Span.{Span}
+use Rattle.fz_search.specs.of_model.Meaning.{Model}
+use Rattle.fz_search.specs.of_model.Texts.{IsLoadedFromWithin}
+use Rattle.fz_filling.specs.of_stream.declared.splitter.Stage.TheVariants.{Running, Finished}
+use Rattle.fz_filling.specs.of_stream.Parts.{StreamPart, Frame, IsStreamTextWithin}
+use Rattle.fz_filling.specs.of_syntax.Span.{Span}
 use Rattle.fz_check.specs.declared.options.Options.{Options}
 use Rattle.fz_check.specs.declared.error.CheckError.{CheckError}
 use Rattle.fz_check.specs.declared.error.CheckError.TheVariants as errors

@@ -2,14 +2,14 @@
 -- annotation.
 use Rattle.std.proofs.Common.{◌≡◌, ℕ, List, [], ◌∷◌, ◌++◌, map, cond, true, false, flat_map, codes, rules}
 use Rattle.std.specs.List.{AllByRecursion}
-use Rattle.fz_judge.specs.of_syntax.Token.{TokenValue, Word, Marked, IsTokenText}
-use Rattle.fz_judge.specs.of_syntax.Lexing.{IsTokenWithinLimit}
-use Rattle.fz_judge.specs.of_syntax.Mark.TheVariants.{Colon, ColonColon, Semicolon}
-use Rattle.fz_judge.specs.of_syntax.Print.{CanBeWritten}
-use Rattle.fz_judge.specs.of_syntax.Tree as tree
-use Rattle.fz_judge.specs.of_syntax.Tokens.{decl_toks, predicate_toks, constraint_toks, solve_toks, notes_toks, note_toks, value_toks, prefix_toks, toks, var_toks, base_toks, word, mark}
-use Rattle.fz_judge.specs.of_model.Located.{Decl, LocatedTree, bare_decl, bare_constraint, bare_of}
-use Rattle.fz_judge.proofs.of_model.Lists.{all_append}
+use Rattle.fz_filling.specs.of_syntax.Token.{TokenValue, Word, Marked, IsTokenText}
+use Rattle.fz_filling.specs.of_syntax.Lexing.{IsTokenWithinLimit}
+use Rattle.fz_filling.specs.of_syntax.Mark.TheVariants.{Colon, ColonColon, Semicolon}
+use Rattle.fz_filling.specs.of_syntax.Print.{CanBeWritten}
+use Rattle.fz_filling.specs.of_syntax.Tree as tree
+use Rattle.fz_filling.specs.of_syntax.Tokens.{decl_toks, predicate_toks, constraint_toks, solve_toks, notes_toks, note_toks, value_toks, prefix_toks, toks, var_toks, base_toks, word, mark}
+use Rattle.fz_search.specs.of_model.Located.{Decl, LocatedTree, bare_decl, bare_constraint, bare_of}
+use Rattle.fz_search.proofs.of_model.Lists.{all_append}
 use Rattle.fz_check.specs.Outputs.{output_var, is_unprinted, printed_decl, with_all_printed}
 
 pub record Both {X : Type 0} (P : X → Type 0) (xs ys : List X) : Type 0 where

@@ -3,23 +3,23 @@
 use Rattle.std.specs.Prelude.{◌≡◌, ℕ, ℤ, Bool, true, false, cond, List, [], ◌∷◌, ◌++◌, Option, Some, None, IfSome, nat_le, ◌+◌, option_map, ⊤}
 use Rattle.std.specs.List.{AllByRecursion}
 use Rattle.std.specs.Option.{option_or}
-use Rattle.fz_judge.specs.of_syntax.Places.{standard_limits}
-use Rattle.fz_judge.specs.of_model.Located.{LocatedTree}
-use Rattle.fz_judge.specs.of_model.Names.{HasNoFault, model_of}
-use Rattle.fz_judge.specs.of_model.Meaning.{Aim, Model, Partial, Assignment, IsSolution, objective, whole}
-use Rattle.fz_judge.specs.of_stream.declared.line.ClaimKind.{ClaimKind}
-use Rattle.fz_judge.specs.of_stream.declared.line.ClaimKind.TheVariants.{Complete, Unsatisfiable}
-use Rattle.fz_judge.specs.of_stream.Found.{claims_in}
-use Rattle.fz_judge.specs.of_stream.Parts.{SolutionBlock, StreamPart, BlockPart, ClaimPart, IsStreamTextWithin, blocks_in}
-use Rattle.fz_judge.specs.of_filling.Solutions.{Extends}
-use Rattle.fz_judge.specs.of_filling.declared.completion.Completion.{Completion}
-use Rattle.fz_judge.specs.of_filling.declared.completion.Completion.TheVariants.{Off}
-use Rattle.fz_judge.specs.of_filling.Completed.{IsToldBy}
-use Rattle.fz_judge.specs.of_filling.Verdict.{Verdict, Answer, IsFilled, answer_of, is_undecided, is_violated, verdict}
-use Rattle.fz_judge.specs.of_filling.Verdict.Verdict.{Satisfied}
-use Rattle.fz_judge.specs.of_filling.Verdict.Answer.{Rejected, ClaimRejected}
-use Rattle.fz_judge.specs.of_search.Claims.{HasNoneBeyond, beats, is_better}
-use Rattle.fz_judge.specs.Bounds.{IsBound}
+use Rattle.fz_filling.specs.of_syntax.Places.{standard_limits}
+use Rattle.fz_search.specs.of_model.Located.{LocatedTree}
+use Rattle.fz_search.specs.of_model.Names.{HasNoFault, model_of}
+use Rattle.fz_search.specs.of_model.Meaning.{Aim, Model, Partial, Assignment, IsSolution, objective, whole}
+use Rattle.fz_filling.specs.of_stream.declared.line.ClaimKind.{ClaimKind}
+use Rattle.fz_filling.specs.of_stream.declared.line.ClaimKind.TheVariants.{Complete, Unsatisfiable}
+use Rattle.fz_filling.specs.of_stream.Found.{claims_in}
+use Rattle.fz_filling.specs.of_stream.Parts.{SolutionBlock, StreamPart, BlockPart, ClaimPart, IsStreamTextWithin, blocks_in}
+use Rattle.fz_filling.specs.Solutions.{Extends}
+use Rattle.fz_filling.specs.declared.completion.Completion.{Completion}
+use Rattle.fz_filling.specs.declared.completion.Completion.TheVariants.{Off}
+use Rattle.fz_filling.specs.Completed.{IsToldBy}
+use Rattle.fz_filling.specs.Verdict.{Verdict, Answer, IsFilled, answer_of, is_undecided, is_violated, verdict}
+use Rattle.fz_filling.specs.Verdict.Verdict.{Satisfied}
+use Rattle.fz_filling.specs.Verdict.Answer.{Rejected, ClaimRejected}
+use Rattle.fz_search.specs.Claims.{HasNoneBeyond, beats, is_better}
+use Rattle.fz_check.specs.Bounds.{IsBound}
 use Rattle.fz_check.specs.declared.claims.Saying.{Saying}
 use Rattle.fz_check.specs.declared.claims.Saying.TheVariants.{Nothing, NoSolution, NoneBetter}
 use Rattle.fz_check.specs.declared.claims.Statement.{Statement}

@@ -1,11 +1,11 @@
 -- Where a stream is cut that ends inside a block, and what is judged of it (this project's
 -- profile).
 use Rattle.std.specs.Prelude.{◌≡◌, ℕ, List, [], ◌∷◌, ◌++◌, ◌⊎◌}
-use Rattle.fz_judge.specs.of_syntax.Span.{Span}
-use Rattle.fz_judge.specs.of_syntax.Limits.{Limits}
-use Rattle.fz_judge.specs.of_stream.declared.error.StreamError.TheVariants.{Unfinished}
-use Rattle.fz_judge.specs.of_stream.Broken.{BreaksAfter, CannotEnd}
-use Rattle.fz_judge.specs.of_stream.Parts.{Frame, joined, StreamPart, IsStreamTextWithin}
+use Rattle.fz_filling.specs.of_syntax.Span.{Span}
+use Rattle.fz_filling.specs.of_syntax.Limits.{Limits}
+use Rattle.fz_filling.specs.of_stream.declared.error.StreamError.TheVariants.{Unfinished}
+use Rattle.fz_filling.specs.of_stream.Broken.{BreaksAfter, CannotEnd}
+use Rattle.fz_filling.specs.of_stream.Parts.{Frame, joined, StreamPart, IsStreamTextWithin}
 use Rattle.fz_check.specs.declared.options.Ending.{Ending}
 use Rattle.fz_check.specs.declared.options.Ending.TheVariants.{Whole, Cut}
 use Rattle.fz_check.specs.Report.{Event}

@@ -1,11 +1,11 @@
 -- What an accepted stream has (this project's profile).
 use Rattle.std.specs.Prelude.{◌≡◌, ℕ, ◌≤◌, List, length, Option}
-use Rattle.fz_judge.specs.of_syntax.Limits.{Limits}
-use Rattle.fz_judge.specs.of_syntax.Text.{IsTextOfTreeWithin}
-use Rattle.fz_judge.specs.of_stream.Parts.{StreamPart, IsStreamTextWithin, blocks_in}
-use Rattle.fz_judge.specs.of_model.Located.{LocatedTree, bare_of}
-use Rattle.fz_judge.specs.of_model.Names.{HasNoFault}
-use Rattle.fz_judge.specs.of_filling.Solutions.{HaveSolutions}
+use Rattle.fz_filling.specs.of_syntax.Limits.{Limits}
+use Rattle.fz_filling.specs.of_syntax.Text.{IsTextOfTreeWithin}
+use Rattle.fz_filling.specs.of_stream.Parts.{StreamPart, IsStreamTextWithin, blocks_in}
+use Rattle.fz_search.specs.of_model.Located.{LocatedTree, bare_of}
+use Rattle.fz_search.specs.of_model.Names.{HasNoFault}
+use Rattle.fz_filling.specs.Solutions.{HaveSolutions}
 use Rattle.std.specs.Io.KnownBytes.{Consumes, IsAtEnd}
 
 -- The reader gave these bytes up to its end, and this holds of them.

@@ -1,7 +1,7 @@
 -- What contracts see of what is read, `pieces_of`, and of a reader of parts, `state_of`. The
 -- invariants serve private functions alone: a reader of the public contracts need not believe them.
 use Rattle.std.specs.Prelude.{◌≡◌, ◌-◌, ◌≤◌, [], take, drop, true, ◌↔◌}
-use Rattle.fz_judge.specs.of_stream.declared.splitter.Stage.TheVariants.{Finished}
+use Rattle.fz_filling.specs.of_stream.declared.splitter.Stage.TheVariants.{Finished}
 use Rattle.fz_check.specs.declared.pieces.Pieces.TheInside as the_pieces
 use Rattle.fz_check.specs.declared.reader.PartReader.TheInside.{Inside}
 use Rattle.fz_check.specs.Reading.{PiecesState, ReaderState, piece_size}

@@ -13,3 +13,4 @@ pub mod Refusal
 pub mod Inside
 pub mod Telling
 pub mod Outputs
+pub mod Bounds

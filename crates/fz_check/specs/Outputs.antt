@@ -2,11 +2,11 @@
 -- "Annotations": a solver prints the variables that have the annotation output_var).
 use Rattle.std.specs.Prelude.{List, [], ◌∷◌, ◌++◌, map, Bool, false, not, ◌&&◌, cond, bytes_eq, codes}
 use Rattle.std.specs.List.{list_any}
-use Rattle.fz_judge.specs.of_syntax.Tree as tree
-use Rattle.fz_judge.specs.of_syntax.Tree.Note.{Called}
-use Rattle.fz_judge.specs.of_syntax.Tree.NoteArgs.{NoMoreArgs}
-use Rattle.fz_judge.specs.of_model.Located.{Decl, LocatedTree}
-use Rattle.fz_judge.specs.of_model.Names.{is_scalar_variable}
+use Rattle.fz_filling.specs.of_syntax.Tree as tree
+use Rattle.fz_filling.specs.of_syntax.Tree.Note.{Called}
+use Rattle.fz_filling.specs.of_syntax.Tree.NoteArgs.{NoMoreArgs}
+use Rattle.fz_search.specs.of_model.Located.{Decl, LocatedTree}
+use Rattle.fz_search.specs.of_model.Names.{is_scalar_variable}
 
 abbrev pub output_var : tree.Note
 output_var = Called (codes "output_var") NoMoreArgs

@@ -4,14 +4,14 @@
 use Rattle.std.specs.Prelude.{◌≡◌, ℕ, Bool, true, cond, ◌+◌, ◌*◌, ◌≤◌, List, [], ◌∷◌, ◌++◌, length, map, Option, Some, ◌⊎◌}
 use Rattle.std.specs.List.{AllByRecursion}
 use Rattle.std.specs.Io.KnownBytes.{Consumes, IsAtEnd}
-use Rattle.fz_judge.specs.of_syntax.Limits.{Limits}
-use Rattle.fz_judge.specs.of_stream.declared.error.StreamError.{StreamError}
-use Rattle.fz_judge.specs.of_stream.declared.error.StreamError.TheVariants.{TooLong, Unfinished}
-use Rattle.fz_judge.specs.of_stream.declared.splitter.Stage.{Stage}
-use Rattle.fz_judge.specs.of_stream.declared.splitter.Stage.TheVariants.{Running, Finished, Failed}
-use Rattle.fz_judge.specs.of_stream.Broken.{IsBrokenAfter, IsBrokenAtEndAfter}
-use Rattle.fz_judge.specs.of_stream.Parts.{StreamPart, Frame, frame_of, HasItems, IsStreamTextWithin}
-use Rattle.fz_judge.specs.of_stream.Splitting.{SplitterState, Holds, Fits, EndsLast, PassesLimit, most_taken}
+use Rattle.fz_filling.specs.of_syntax.Limits.{Limits}
+use Rattle.fz_filling.specs.of_stream.declared.error.StreamError.{StreamError}
+use Rattle.fz_filling.specs.of_stream.declared.error.StreamError.TheVariants.{TooLong, Unfinished}
+use Rattle.fz_filling.specs.of_stream.declared.splitter.Stage.{Stage}
+use Rattle.fz_filling.specs.of_stream.declared.splitter.Stage.TheVariants.{Running, Finished, Failed}
+use Rattle.fz_filling.specs.of_stream.Broken.{IsBrokenAfter, IsBrokenAtEndAfter}
+use Rattle.fz_filling.specs.of_stream.Parts.{StreamPart, Frame, frame_of, HasItems, IsStreamTextWithin}
+use Rattle.fz_filling.specs.of_stream.Splitting.{SplitterState, Holds, Fits, EndsLast, PassesLimit, most_taken}
 use Rattle.fz_check.specs.declared.options.Ending.{Ending}
 use Rattle.fz_check.specs.declared.options.Ending.TheVariants.{Whole, Cut}
 

@@ -1,14 +1,14 @@
 -- The line and the byte range of a refusal, and the program's exit status (this project's profile).
 use Rattle.std.specs.Prelude.{ℕ, List, ◌++◌, Option, Some, None, Result, Ok, Err, codes, decimal}
-use Rattle.fz_judge.specs.of_syntax.Span.{Span}
-use Rattle.fz_judge.specs.of_syntax.SyntaxError.{SyntaxError}
-use Rattle.fz_judge.specs.of_syntax.SyntaxError.TheVariants as syntax
-use Rattle.fz_judge.specs.of_model.declared.ModelError.{ModelError}
-use Rattle.fz_judge.specs.of_model.declared.ModelError.TheVariants as model
-use Rattle.fz_judge.specs.of_stream.declared.error.StreamError.{StreamError}
-use Rattle.fz_judge.specs.of_stream.declared.error.StreamError.TheVariants as stream
-use Rattle.fz_judge.specs.of_filling.declared.error.BlockError.{BlockError}
-use Rattle.fz_judge.specs.of_filling.declared.error.BlockError.TheVariants as block
+use Rattle.fz_filling.specs.of_syntax.Span.{Span}
+use Rattle.fz_filling.specs.of_syntax.SyntaxError.{SyntaxError}
+use Rattle.fz_filling.specs.of_syntax.SyntaxError.TheVariants as syntax
+use Rattle.fz_search.specs.of_model.declared.ModelError.{ModelError}
+use Rattle.fz_search.specs.of_model.declared.ModelError.TheVariants as model
+use Rattle.fz_filling.specs.of_stream.declared.error.StreamError.{StreamError}
+use Rattle.fz_filling.specs.of_stream.declared.error.StreamError.TheVariants as stream
+use Rattle.fz_filling.specs.declared.error.BlockError.{BlockError}
+use Rattle.fz_filling.specs.declared.error.BlockError.TheVariants as block
 use Rattle.fz_check.specs.declared.error.CheckError.{CheckError}
 use Rattle.fz_check.specs.declared.error.CheckError.TheVariants as errors
 use Rattle.fz_check.specs.declared.refusal.Told.{Told}

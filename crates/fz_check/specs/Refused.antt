@@ -1,29 +1,29 @@
 -- What holds where a check is refused (this project's profile).
 use Rattle.std.specs.Prelude.{◌≡◌, ◌≢◌, ◌↔◌, ℕ, ◌+◌, ◌<◌, ◌≤◌, List, ◌∷◌, ◌++◌, length, map, ⊤}
 use Rattle.std.specs.List.{AllByRecursion}
-use Rattle.fz_judge.specs.of_syntax.Limits.{Limits}
-use Rattle.fz_judge.specs.of_syntax.Places.{most_bytes, standard_limits, IsPlacedWithin}
-use Rattle.fz_judge.specs.of_syntax.SyntaxError.{SyntaxError}
-use Rattle.fz_judge.specs.of_syntax.SyntaxError.TheVariants.{TooLong as TextTooLong, Memory as TextMemory}
-use Rattle.fz_judge.specs.of_syntax.Text.{IsTextOfTreeWithin}
-use Rattle.fz_judge.specs.of_syntax.Refusals.{IsRefusalWithin}
-use Rattle.fz_judge.specs.of_syntax.Tree.{Tree}
-use Rattle.fz_judge.specs.of_syntax.View.{bare_items}
-use Rattle.fz_judge.specs.of_stream.Broken.{StopsAfter}
-use Rattle.fz_judge.specs.of_stream.Faults.{IsStreamFault}
-use Rattle.fz_judge.specs.of_stream.Found.{HasPlaces, block_of, IsStreamText}
-use Rattle.fz_judge.specs.of_stream.Parts.{blocks_in, StreamPart}
-use Rattle.fz_judge.specs.of_stream.declared.block.Block as the_block
-use Rattle.fz_judge.specs.of_stream.declared.error.StreamError.{StreamError}
-use Rattle.fz_judge.specs.of_stream.declared.error.StreamError.TheVariants as stream
-use Rattle.fz_judge.specs.of_model.Meaning.{Model}
-use Rattle.fz_judge.specs.of_model.Texts.{IsNameFaultWithin}
-use Rattle.fz_judge.specs.of_model.declared.ModelError.{ModelError}
-use Rattle.fz_judge.specs.of_model.declared.ModelError.TheVariants.{Memory as NameMemory}
-use Rattle.fz_judge.specs.of_filling.BlockFaults.{AllFit}
-use Rattle.fz_judge.specs.of_filling.Judged.{IsBlockRefusal}
-use Rattle.fz_judge.specs.of_filling.declared.error.BlockError.{BlockError}
-use Rattle.fz_judge.specs.of_filling.declared.error.BlockError.TheVariants.{Memory as BlockMemory}
+use Rattle.fz_filling.specs.of_syntax.Limits.{Limits}
+use Rattle.fz_filling.specs.of_syntax.Places.{most_bytes, standard_limits, IsPlacedWithin}
+use Rattle.fz_filling.specs.of_syntax.SyntaxError.{SyntaxError}
+use Rattle.fz_filling.specs.of_syntax.SyntaxError.TheVariants.{TooLong as TextTooLong, Memory as TextMemory}
+use Rattle.fz_filling.specs.of_syntax.Text.{IsTextOfTreeWithin}
+use Rattle.fz_filling.specs.of_syntax.Refusals.{IsRefusalWithin}
+use Rattle.fz_filling.specs.of_syntax.Tree.{Tree}
+use Rattle.fz_filling.specs.of_syntax.View.{bare_items}
+use Rattle.fz_filling.specs.of_stream.Broken.{StopsAfter}
+use Rattle.fz_filling.specs.of_stream.Faults.{IsStreamFault}
+use Rattle.fz_filling.specs.of_stream.Found.{HasPlaces, block_of, IsStreamText}
+use Rattle.fz_filling.specs.of_stream.Parts.{blocks_in, StreamPart}
+use Rattle.fz_filling.specs.of_stream.declared.block.Block as the_block
+use Rattle.fz_filling.specs.of_stream.declared.error.StreamError.{StreamError}
+use Rattle.fz_filling.specs.of_stream.declared.error.StreamError.TheVariants as stream
+use Rattle.fz_search.specs.of_model.Meaning.{Model}
+use Rattle.fz_search.specs.of_model.Texts.{IsNameFaultWithin}
+use Rattle.fz_search.specs.of_model.declared.ModelError.{ModelError}
+use Rattle.fz_search.specs.of_model.declared.ModelError.TheVariants.{Memory as NameMemory}
+use Rattle.fz_filling.specs.BlockFaults.{AllFit}
+use Rattle.fz_filling.specs.Judged.{IsBlockRefusal}
+use Rattle.fz_filling.specs.declared.error.BlockError.{BlockError}
+use Rattle.fz_filling.specs.declared.error.BlockError.TheVariants.{Memory as BlockMemory}
 use Rattle.fz_check.specs.declared.error.CheckError.{CheckError}
 use Rattle.fz_check.specs.declared.error.CheckError.TheVariants as errors
 use Rattle.fz_check.specs.Reported.{HoldsOfModel}

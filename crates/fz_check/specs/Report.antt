@@ -2,15 +2,15 @@
 -- profile).
 use Rattle.std.specs.Prelude.{◌≡◌, ℕ, ◌+◌, List, [], ◌∷◌, ◌++◌, cond, map, nat_eq, nat_le, codes, decimal, flat_map}
 use Rattle.std.specs.Fmt.{signed_decimal}
-use Rattle.fz_judge.specs.of_syntax.Span.{Span}
-use Rattle.fz_judge.specs.of_stream.declared.line.ClaimKind.{ClaimKind}
-use Rattle.fz_judge.specs.of_stream.declared.line.ClaimKind.TheVariants.{Complete, Unsatisfiable, Unknown, Unbounded, UnsatOrUnbounded, Error}
-use Rattle.fz_judge.specs.of_stream.declared.reading.Claim.{Claim}
-use Rattle.fz_judge.specs.of_filling.Verdict.{Fault, Reason, Verdict, Answer}
-use Rattle.fz_judge.specs.of_filling.Verdict.Fault.{PrintedFault, DomainFault, DefinitionFault, ConstraintFault, NotBetter}
-use Rattle.fz_judge.specs.of_filling.Verdict.Reason.{NoValueFor, NotKnown, NotShownBetter, SumTooLarge}
-use Rattle.fz_judge.specs.of_filling.Verdict.Verdict.{Satisfied, Violated, Undecided}
-use Rattle.fz_judge.specs.of_filling.Verdict.Answer.{Accepted, Rejected, UndecidedAt, NoBlocks, ClaimRejected}
+use Rattle.fz_filling.specs.of_syntax.Span.{Span}
+use Rattle.fz_filling.specs.of_stream.declared.line.ClaimKind.{ClaimKind}
+use Rattle.fz_filling.specs.of_stream.declared.line.ClaimKind.TheVariants.{Complete, Unsatisfiable, Unknown, Unbounded, UnsatOrUnbounded, Error}
+use Rattle.fz_filling.specs.of_stream.declared.reading.Claim.{Claim}
+use Rattle.fz_filling.specs.Verdict.{Fault, Reason, Verdict, Answer}
+use Rattle.fz_filling.specs.Verdict.Fault.{PrintedFault, DomainFault, DefinitionFault, ConstraintFault, NotBetter}
+use Rattle.fz_filling.specs.Verdict.Reason.{NoValueFor, NotKnown, NotShownBetter, SumTooLarge}
+use Rattle.fz_filling.specs.Verdict.Verdict.{Satisfied, Violated, Undecided}
+use Rattle.fz_filling.specs.Verdict.Answer.{Accepted, Rejected, UndecidedAt, NoBlocks, ClaimRejected}
 use Rattle.fz_check.specs.declared.claims.Refutation.{Refutation}
 use Rattle.fz_check.specs.declared.claims.Refuter.{Refuter}
 use Rattle.fz_check.specs.declared.claims.Refuter.TheVariants as refuters

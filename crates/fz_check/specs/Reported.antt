@@ -1,16 +1,16 @@
 -- What holds of a report (this project's profile).
 use Rattle.std.specs.Prelude.{◌≡◌, ℕ, suc, ℤ, List, Some}
 use Rattle.std.specs.List.{slice_get}
-use Rattle.fz_judge.specs.of_syntax.Places.{standard_limits}
-use Rattle.fz_judge.specs.of_syntax.Limits.{Limits}
-use Rattle.fz_judge.specs.of_model.Meaning.{Model, Assignment, IsSolution}
-use Rattle.fz_judge.specs.of_model.States.{IsKnownSolution}
-use Rattle.fz_judge.specs.of_model.Texts.{IsLoadedFromWithin}
-use Rattle.fz_judge.specs.of_stream.Parts.{SolutionBlock}
-use Rattle.fz_judge.specs.of_filling.Solutions.{Extends, Improves}
-use Rattle.fz_judge.specs.of_filling.Verdict.{Verdict, Fault}
-use Rattle.fz_judge.specs.of_filling.Verdict.Verdict.{Satisfied, Violated}
-use Rattle.fz_judge.specs.of_filling.Verdict.Fault.{NotBetter}
+use Rattle.fz_filling.specs.of_syntax.Places.{standard_limits}
+use Rattle.fz_filling.specs.of_syntax.Limits.{Limits}
+use Rattle.fz_search.specs.of_model.Meaning.{Model, Assignment, IsSolution}
+use Rattle.fz_search.specs.of_model.States.{IsKnownSolution}
+use Rattle.fz_search.specs.of_model.Texts.{IsLoadedFromWithin}
+use Rattle.fz_filling.specs.of_stream.Parts.{SolutionBlock}
+use Rattle.fz_filling.specs.Solutions.{Extends, Improves}
+use Rattle.fz_filling.specs.Verdict.{Verdict, Fault}
+use Rattle.fz_filling.specs.Verdict.Verdict.{Satisfied, Violated}
+use Rattle.fz_filling.specs.Verdict.Fault.{NotBetter}
 use Rattle.fz_check.specs.Headline.{HasSolutionsWithin}
 
 -- Within the limits the model's bytes are a text of a tree without faults, and this holds of its

@@ -1,12 +1,12 @@
 -- What `show` gives of a model (this project's profile).
 use Rattle.std.specs.Prelude.{◌≡◌, ℕ, List}
-use Rattle.fz_judge.specs.of_syntax.Limits.{Limits}
-use Rattle.fz_judge.specs.of_syntax.AnyLength.{LexesWithNumbersInLimit}
-use Rattle.fz_judge.specs.of_syntax.Print.{tree_text}
-use Rattle.fz_judge.specs.of_syntax.Text.{IsTextOfTreeWithin}
-use Rattle.fz_judge.specs.of_syntax.Tokens.{toks}
-use Rattle.fz_judge.specs.of_model.Located.{LocatedTree, bare_of}
-use Rattle.fz_judge.specs.of_model.Names.{HasNoFault, model_of}
+use Rattle.fz_filling.specs.of_syntax.Limits.{Limits}
+use Rattle.fz_filling.specs.of_syntax.AnyLength.{LexesWithNumbersInLimit}
+use Rattle.fz_filling.specs.of_syntax.Print.{tree_text}
+use Rattle.fz_filling.specs.of_syntax.Text.{IsTextOfTreeWithin}
+use Rattle.fz_filling.specs.of_syntax.Tokens.{toks}
+use Rattle.fz_search.specs.of_model.Located.{LocatedTree, bare_of}
+use Rattle.fz_search.specs.of_model.Names.{HasNoFault, model_of}
 use Rattle.fz_check.specs.Outputs.{with_all_printed}
 
 -- Within the limits the model's bytes are a text of a tree without faults, and what is shown is

@@ -4,17 +4,17 @@
 -- bytes may be written of an event.
 use Rattle.std.specs.Prelude.{◌≡◌, ◌≢◌, ℕ, suc, List, [], ◌∷◌, ◌++◌, ◌⊎◌, ⊤, length, Option}
 use Rattle.std.specs.Io.KnownBytes.{Appends, Consumes, IsAtEnd}
-use Rattle.fz_judge.specs.of_syntax.Limits.{Limits}
-use Rattle.fz_judge.specs.of_model.Meaning.{Model}
-use Rattle.fz_judge.specs.of_stream.declared.block.Block as the_block
-use Rattle.fz_judge.specs.of_stream.declared.error.StreamError.TheVariants.{Memory as StreamMemory}
-use Rattle.fz_judge.specs.of_stream.Faults.{IsStreamFault}
-use Rattle.fz_judge.specs.of_stream.Found.{HasPlaces, block_of}
-use Rattle.fz_judge.specs.of_stream.Parts.{blocks_in, StreamPart, BlockPart, IsStreamTextWithin}
-use Rattle.fz_judge.specs.of_filling.Verdict.{Answer}
-use Rattle.fz_judge.specs.of_filling.declared.error.BlockError.{BlockError}
-use Rattle.fz_judge.specs.of_filling.declared.error.BlockError.TheVariants.{Memory}
-use Rattle.fz_judge.specs.of_filling.Judged.{IsBlockRefusal}
+use Rattle.fz_filling.specs.of_syntax.Limits.{Limits}
+use Rattle.fz_search.specs.of_model.Meaning.{Model}
+use Rattle.fz_filling.specs.of_stream.declared.block.Block as the_block
+use Rattle.fz_filling.specs.of_stream.declared.error.StreamError.TheVariants.{Memory as StreamMemory}
+use Rattle.fz_filling.specs.of_stream.Faults.{IsStreamFault}
+use Rattle.fz_filling.specs.of_stream.Found.{HasPlaces, block_of}
+use Rattle.fz_filling.specs.of_stream.Parts.{blocks_in, StreamPart, BlockPart, IsStreamTextWithin}
+use Rattle.fz_filling.specs.Verdict.{Answer}
+use Rattle.fz_filling.specs.declared.error.BlockError.{BlockError}
+use Rattle.fz_filling.specs.declared.error.BlockError.TheVariants.{Memory}
+use Rattle.fz_filling.specs.Judged.{IsBlockRefusal}
 use Rattle.fz_check.specs.declared.options.Options.{Options}
 use Rattle.fz_check.specs.declared.error.CheckError.{CheckError}
 use Rattle.fz_check.specs.declared.error.CheckError.TheVariants as errors

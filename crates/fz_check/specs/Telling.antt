@@ -2,20 +2,20 @@
 -- and a reader need not believe it.
 use Rattle.std.specs.Prelude.{◌≡◌, ◌≢◌, ℕ, suc, ℤ, ◌+◌, ◌*◌, ◌≤◌, List, [], ◌∷◌, ◌++◌, length, Option, Some, None, Result, Ok, Err, ⊤, ◌⊎◌}
 use Rattle.std.specs.Io.KnownBytes.{Appends, Consumes, IsAtEnd}
-use Rattle.fz_judge.specs.of_syntax.Limits.{Limits}
-use Rattle.fz_judge.specs.of_model.Meaning.{Model}
-use Rattle.fz_judge.specs.of_stream.declared.block.Block as the_block
-use Rattle.fz_judge.specs.of_stream.declared.line.ClaimKind.{ClaimKind}
-use Rattle.fz_judge.specs.of_stream.declared.error.StreamError.{StreamError}
-use Rattle.fz_judge.specs.of_stream.declared.error.StreamError.TheVariants as stream
-use Rattle.fz_judge.specs.of_stream.declared.error.StreamError.TheVariants.{Memory as StreamMemory}
-use Rattle.fz_judge.specs.of_stream.Faults.{IsStreamFault}
-use Rattle.fz_judge.specs.of_stream.Found.{EndsWithin, HasPlaces}
-use Rattle.fz_judge.specs.of_stream.Parts.{SolutionBlock, StreamPart, Frame, IsStreamTextWithin}
-use Rattle.fz_judge.specs.of_filling.Verdict.{Answer, Verdict}
-use Rattle.fz_judge.specs.of_filling.declared.error.BlockError.TheVariants.{Memory}
-use Rattle.fz_judge.specs.of_filling.Judged.{IsBlockRefusal, JudgeState}
-use Rattle.fz_judge.specs.of_syntax.Span.{Span}
+use Rattle.fz_filling.specs.of_syntax.Limits.{Limits}
+use Rattle.fz_search.specs.of_model.Meaning.{Model}
+use Rattle.fz_filling.specs.of_stream.declared.block.Block as the_block
+use Rattle.fz_filling.specs.of_stream.declared.line.ClaimKind.{ClaimKind}
+use Rattle.fz_filling.specs.of_stream.declared.error.StreamError.{StreamError}
+use Rattle.fz_filling.specs.of_stream.declared.error.StreamError.TheVariants as stream
+use Rattle.fz_filling.specs.of_stream.declared.error.StreamError.TheVariants.{Memory as StreamMemory}
+use Rattle.fz_filling.specs.of_stream.Faults.{IsStreamFault}
+use Rattle.fz_filling.specs.of_stream.Found.{EndsWithin, HasPlaces}
+use Rattle.fz_filling.specs.of_stream.Parts.{SolutionBlock, StreamPart, Frame, IsStreamTextWithin}
+use Rattle.fz_filling.specs.Verdict.{Answer, Verdict}
+use Rattle.fz_filling.specs.declared.error.BlockError.TheVariants.{Memory}
+use Rattle.fz_filling.specs.Judged.{IsBlockRefusal, JudgeState}
+use Rattle.fz_filling.specs.of_syntax.Span.{Span}
 use Rattle.fz_check.specs.declared.options.Ending.{Ending}
 use Rattle.fz_check.specs.declared.options.Ending.TheVariants.{Whole, Cut}
 use Rattle.fz_check.specs.declared.options.Options.{Options}

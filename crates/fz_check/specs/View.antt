@@ -1,7 +1,7 @@
 -- What the code tells and answers, as definitions have it.
 use Rattle.std.specs.Prelude.{List, map}
-use Rattle.fz_judge.specs.of_filling.Verdict as plain
-use Rattle.fz_judge.specs.of_filling.View.{verdict_view}
+use Rattle.fz_filling.specs.Verdict as plain
+use Rattle.fz_filling.specs.View.{verdict_view}
 use Rattle.fz_check.specs.declared.account.Answer.{Answer}
 use Rattle.fz_check.specs.declared.account.Answer.TheVariants as answers
 use Rattle.fz_check.specs.declared.event.Event as the_event

@@ -3,9 +3,9 @@
 
 ghost use Rattle.std.specs.Prelude.{◌≡◌, ◌+◌, ◌<◌, cond, Some, None};
 ghost use Rattle.std.specs.Option.{option_or};
-ghost use Rattle.fz_judge.specs.of_model.Parts.{goal_view};
-ghost use Rattle.fz_judge.specs.of_filling.Verdict.{answer_by, is_undecided, is_violated};
-ghost use Rattle.fz_judge.specs.of_filling.View.{verdict_view};
+ghost use Rattle.fz_search.specs.of_model.Parts.{goal_view};
+ghost use Rattle.fz_filling.specs.Verdict.{answer_by, is_undecided, is_violated};
+ghost use Rattle.fz_filling.specs.View.{verdict_view};
 ghost use Rattle.fz_check.specs.Claims.{answer_with, behind_block, behind_claim, block_refuter, claim_refutation, earliest, is_satisfied, late_refuted, no_account, statement};
 ghost use Rattle.fz_check.specs.View.{answer_view};
 

@@ -2,15 +2,15 @@
 
 ghost use Rattle.std.specs.Prelude.{◌≡◌, ◌≤◌, ℕ, List, length, map, IfOk, IfErr};
 ghost use Rattle.std.specs.List.{AllByRecursion};
-ghost use Rattle.fz_judge.specs.of_syntax.Places.{standard_limits};
-ghost use Rattle.fz_judge.specs.of_syntax.Offering.{IsTextOfAllWithin};
-ghost use Rattle.fz_judge.specs.of_syntax.View.{items_of_tree};
-ghost use Rattle.fz_judge.specs.of_syntax.Places.{most_bytes};
-ghost use Rattle.fz_judge.specs.of_model.Names.{HasNoFault};
-ghost use Rattle.fz_judge.specs.of_model.Texts.{IsLoadedFromWithin};
-ghost use Rattle.fz_judge.specs.of_model.View.{located};
-ghost use Rattle.fz_judge.specs.of_stream.Found.{EndsWithin, HasPlaces, IsReadAs, IsStreamText, block_of, claims_in};
-ghost use Rattle.fz_judge.specs.of_stream.Parts.{StreamPart};
+ghost use Rattle.fz_filling.specs.of_syntax.Places.{standard_limits};
+ghost use Rattle.fz_filling.specs.of_syntax.Offering.{IsTextOfAllWithin};
+ghost use Rattle.fz_filling.specs.of_syntax.View.{items_of_tree};
+ghost use Rattle.fz_filling.specs.of_syntax.Places.{most_bytes};
+ghost use Rattle.fz_search.specs.of_model.Names.{HasNoFault};
+ghost use Rattle.fz_search.specs.of_model.Texts.{IsLoadedFromWithin};
+ghost use Rattle.fz_search.specs.of_model.View.{located};
+ghost use Rattle.fz_filling.specs.of_stream.Found.{EndsWithin, HasPlaces, IsReadAs, IsStreamText, block_of, claims_in};
+ghost use Rattle.fz_filling.specs.of_stream.Parts.{StreamPart};
 ghost use Rattle.fz_check.specs.declared.account.Answer.TheVariants.{Accepted};
 ghost use Rattle.fz_check.specs.Claims.{HasReport, IsReportWith, standard_options};
 ghost use Rattle.fz_check.specs.Refused.{IsModelRefusal, IsRefusal};

@@ -1,8 +1,8 @@
 //! Claims of a solver on its whole search, and what is known of other streams that refutes them.
 
 ghost use Rattle.std.specs.Prelude.{◌≡◌, None};
-ghost use Rattle.fz_judge.specs.of_model.Parts.{goal_view};
-ghost use Rattle.fz_judge.specs.of_search.Claims.{is_better};
+ghost use Rattle.fz_search.specs.of_model.Parts.{goal_view};
+ghost use Rattle.fz_search.specs.Claims.{is_better};
 ghost use Rattle.fz_check.specs.Claims.{known_refuter, known_with, refutes, saying};
 
 use fz_search::Branch;

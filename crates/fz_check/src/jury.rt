@@ -1,11 +1,11 @@
 //! The verdicts on blocks, one after another, and the answer on all of them.
 
 ghost use Rattle.std.specs.Prelude.{◌≡◌, ◌+◌, ◌<◌, None, IfOk, IfErr, IfSome, OnOk};
-ghost use Rattle.fz_judge.specs.Bounds.{IsBound};
-ghost use Rattle.fz_judge.specs.of_filling.declared.completion.Completion.TheVariants.{Off};
-ghost use Rattle.fz_judge.specs.of_filling.Verdict.{answer_by};
-ghost use Rattle.fz_judge.specs.of_stream.Found.{block_of};
-ghost use Rattle.fz_judge.specs.of_filling.View.{verdict_view};
+ghost use Rattle.fz_check.specs.Bounds.{IsBound};
+ghost use Rattle.fz_filling.specs.declared.completion.Completion.TheVariants.{Off};
+ghost use Rattle.fz_filling.specs.Verdict.{answer_by};
+ghost use Rattle.fz_filling.specs.of_stream.Found.{block_of};
+ghost use Rattle.fz_filling.specs.View.{verdict_view};
 ghost use Rattle.fz_check.specs.Claims.{IsShown, answer_with, is_satisfied, late_refuted, no_account};
 ghost use Rattle.fz_check.specs.Telling.{HearsOneMore, IsUnjudged, JudgesOneMore};
 ghost use Rattle.fz_check.specs.View.{answer_view, event_view};
@@ -14,9 +14,9 @@ use crate::account::{Account, Answer};
 use crate::claims::{Claims, Proofs, Saying, Statement, said_by};
 use crate::error::CheckError;
 use crate::event::Event;
+use crate::judge::Judge;
 use crate::options::Options;
 use fz_filling::{BlockError, Verdict};
-use fz_judge::Judge;
 use fz_store::Model;
 use fz_stream::{Block, ClaimKind};
 use std::alloc::{AllocError, Global};

@@ -1,18 +1,18 @@
 //! What the blocks of other solvers' streams tell of a model. Each is judged by itself.
 
 ghost use Rattle.std.specs.Prelude.{◌≡◌, ℕ, List, [], ◌∷◌, ◌++◌, Option, OnOk, IsSome};
-ghost use Rattle.fz_judge.specs.of_stream.Parts.{Frame, StreamPart};
-ghost use Rattle.fz_judge.specs.of_syntax.Limits.{Limits};
+ghost use Rattle.fz_filling.specs.of_stream.Parts.{Frame, StreamPart};
+ghost use Rattle.fz_filling.specs.of_syntax.Limits.{Limits};
 ghost use Rattle.fz_check.specs.Claims.{Knows};
 ghost use Rattle.fz_check.specs.Reading.{HasNext, StandsAt};
 
 use crate::claims::{Known, Source};
 use crate::error::CheckError;
+use crate::judge::Judge;
 use crate::options::{Ending, Options};
 use crate::pieces::ReadFailed;
 use crate::reader::{PartReader, Step};
 use fz_filling::{BlockError, Verdict};
-use fz_judge::Judge;
 use fz_store::Model;
 use fz_stream::{Block, Part};
 use std::alloc::Global;

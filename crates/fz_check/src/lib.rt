@@ -1,5 +1,5 @@
 //! The check of a stream of solution blocks against a model, and the canonical text of a model. The
-//! internal crate `fz_judge` judges one block after another. What is told of a stream goes to a
+//! judge (`Judge`) judges one block after another. What is told of a stream goes to a
 //! taker, as events, which says what is written of each.
 //!
 //! Worked cases are in `tests/cases`.
@@ -10,6 +10,7 @@ mod checking;
 mod claims;
 mod error;
 mod event;
+mod judge;
 mod jury;
 mod learning;
 mod line;
@@ -34,10 +35,10 @@ pub use error::CheckError;
 pub use event::{Event, Judged, Taker, TextTaker};
 pub use fz_filling::{BlockError, Completion, Fault, Reason, Verdict, fill, fill_with_steps};
 pub use fz_index::Ends;
-pub use fz_judge::Judge;
 pub use fz_search::Branch;
 pub use fz_store::{Model, ModelError};
 pub use fz_stream::{Claim, ClaimKind, Limits, Span, StreamError, SyntaxError};
+pub use judge::Judge;
 pub use learning::{Listener, learn};
 pub use line::{block_text, claim_text};
 pub use options::{Ending, Options};

@@ -3,7 +3,7 @@
 ghost use Rattle.std.specs.Prelude.{◌≡◌, ◌++◌, ◌∷◌, [], IfOk, OnOk, codes, decimal};
 ghost use Rattle.fz_check.specs.Report.{claim_text, event_line, nodes_text, place_text, refuter_text, verdict_text};
 ghost use Rattle.fz_check.specs.Report.Event.{Answered, Claimed, CutOff, Judged, Proved, Refuted};
-ghost use Rattle.fz_judge.specs.of_filling.View.{verdict_view};
+ghost use Rattle.fz_filling.specs.View.{verdict_view};
 ghost use Rattle.fz_check.specs.View.{answer_view};
 
 use crate::account::Answer;

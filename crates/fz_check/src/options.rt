@@ -1,8 +1,8 @@
 //! How a stream is checked.
 
 use crate::claims::Claims;
+use crate::judge::STEPS;
 use fz_filling::Completion;
-use fz_judge::STEPS;
 use fz_stream::Limits;
 
 /// What becomes of a stream that ends inside a block, such as that of a solver that was killed.

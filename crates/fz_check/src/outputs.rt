@@ -4,9 +4,9 @@
 
 ghost use Rattle.std.specs.Prelude.{◌≡◌, IfOk, OnOk, map};
 ghost use Rattle.std.specs.List.{list_any};
-ghost use Rattle.fz_judge.specs.of_syntax.View.{bare_note, bare_notes};
-ghost use Rattle.fz_judge.specs.of_model.Names.{is_scalar_variable};
-ghost use Rattle.fz_judge.specs.of_model.View.{located, located_decl};
+ghost use Rattle.fz_filling.specs.of_syntax.View.{bare_note, bare_notes};
+ghost use Rattle.fz_search.specs.of_model.Names.{is_scalar_variable};
+ghost use Rattle.fz_search.specs.of_model.View.{located, located_decl};
 ghost use Rattle.fz_check.specs.Outputs.{is_output_var, is_unprinted, printed_decl, with_all_printed};
 
 use fz_stream::{Ast, Decl, Name, Note, Span};

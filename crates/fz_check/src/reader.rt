@@ -1,8 +1,8 @@
 ghost use Rattle.std.specs.Prelude.{◌≡◌, ◌≢◌, ℕ, Option, ◌+◌, ◌<◌, ◌≤◌, List, [], ◌∷◌, ◌++◌, length, map, Ok, Some, IfOk, IfSome, OnOk, OnErr, IfErr, IsSome, true, false};
 ghost use Rattle.std.specs.Io.KnownBytes.{Consumes, IsAtEnd};
-ghost use Rattle.fz_judge.specs.of_stream.Parts.{StreamPart, Frame, frame_of};
-ghost use Rattle.fz_judge.specs.of_syntax.Limits.{Limits};
-ghost use Rattle.fz_judge.specs.of_stream.Splitting.{EndsLast, most_taken};
+ghost use Rattle.fz_filling.specs.of_stream.Parts.{StreamPart, Frame, frame_of};
+ghost use Rattle.fz_filling.specs.of_syntax.Limits.{Limits};
+ghost use Rattle.fz_filling.specs.of_stream.Splitting.{EndsLast, most_taken};
 ghost use Rattle.fz_check.specs.Reading.{HasNext, HasRead, StandsAt, WaitsInside, piece_size, steps_left};
 ghost use Rattle.fz_check.specs.Telling.{IsEndOf, IsUnread, broken_end};
 
@@ -61,10 +61,10 @@ impl Model for PartReader {
 }
 
 impl PartReader {
-    ghost use Rattle.fz_judge.specs.of_syntax.Span.{Span as SpanData};
+    ghost use Rattle.fz_filling.specs.of_syntax.Span.{Span as SpanData};
     ghost use Rattle.fz_check.specs.declared.options.Ending.{Ending};
-    ghost use Rattle.fz_judge.specs.of_stream.declared.splitter.Stage.TheVariants.{Running, Finished};
-    ghost use Rattle.fz_judge.specs.of_stream.Lending.{part_of, HasPlacesOfItems, PartEndsWithin};
+    ghost use Rattle.fz_filling.specs.of_stream.declared.splitter.Stage.TheVariants.{Running, Finished};
+    ghost use Rattle.fz_filling.specs.of_stream.Lending.{part_of, HasPlacesOfItems, PartEndsWithin};
 
     /// Nothing is read yet, and at most so many reads will be made.
     pub(crate) fn new(alloc: Global, reads: u64, limits: Limits) -> PartReader

@@ -1,7 +1,7 @@
 //! The report on a stream that was read whole, and its text.
 
 ghost use Rattle.std.specs.Prelude.{◌≡◌, [], ◌∷◌, ◌++◌, map, IfOk, OnOk};
-ghost use Rattle.fz_judge.specs.of_filling.View.{verdict_view};
+ghost use Rattle.fz_filling.specs.View.{verdict_view};
 ghost use Rattle.fz_check.specs.Report.{claimed, claims_by, claims_past, event_line, in_order, text_of};
 ghost use Rattle.fz_check.specs.Report.Event.{Answered};
 ghost use Rattle.fz_check.specs.View.{answer_view, report_events};

@@ -1,9 +1,9 @@
 ghost use Rattle.std.specs.Prelude.{◌≡◌, ℕ, ◌<◌, ◌≤◌, ◌+◌, List, [], ◌∷◌, ◌++◌, Option, IfOk, IfErr, OnOk, OnErr, IsSome};
-ghost use Rattle.fz_judge.specs.of_model.Meaning.{Model as PlainModel};
-ghost use Rattle.fz_judge.specs.of_stream.Parts.{StreamPart};
-ghost use Rattle.fz_judge.specs.of_stream.Splitting.{most_taken};
-ghost use Rattle.fz_judge.specs.of_stream.Lending.{part_of, HasPlacesOfItems, PartEndsWithin};
-ghost use Rattle.fz_judge.specs.of_filling.View.{verdict_view};
+ghost use Rattle.fz_search.specs.of_model.Meaning.{Model as PlainModel};
+ghost use Rattle.fz_filling.specs.of_stream.Parts.{StreamPart};
+ghost use Rattle.fz_filling.specs.of_stream.Splitting.{most_taken};
+ghost use Rattle.fz_filling.specs.of_stream.Lending.{part_of, HasPlacesOfItems, PartEndsWithin};
+ghost use Rattle.fz_filling.specs.View.{verdict_view};
 ghost use Rattle.fz_check.specs.Report.{AreOf};
 ghost use Rattle.fz_check.specs.declared.options.Options.{Options};
 ghost use Rattle.fz_check.specs.Claims.{Outcome, late_events};

@@ -3,7 +3,7 @@
 ghost use Rattle.std.specs.Prelude.{◌≡◌, ◌++◌, codes, decimal, OnOk};
 ghost use Rattle.std.specs.Fmt.{signed_decimal};
 ghost use Rattle.fz_check.specs.Report.{fault_text, reason_text};
-ghost use Rattle.fz_judge.specs.of_filling.View.{fault_view, reason_view};
+ghost use Rattle.fz_filling.specs.View.{fault_view, reason_view};
 
 use fz_filling::{Fault, Reason};
 use itoa::Buffer;

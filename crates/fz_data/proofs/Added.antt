@@ -5,7 +5,7 @@ use Rattle.std.specs.Option.{option_map_or}
 use Rattle.std.proofs.lemmas.Bool.{and_right, cond-true, cond-false}
 use Rattle.std.proofs.lemmas.Option.{slice_get_within}
 use Rattle.fz_store.proofs.of_meaning.Points.{slice_get_at}
-use Rattle.fz_tree.specs.of_lex.of_base.declared.value.Value.{Value}
+use Rattle.fz_tree.specs.of_base.declared.value.Value.{Value}
 use Rattle.fz_store.specs.of_meaning.declared.kind.Kind.{Kind}
 use Rattle.fz_store.specs.of_meaning.declared.term.Term.{Term}
 use Rattle.fz_store.specs.of_meaning.declared.term.Term.TheVariants.{Var, Fixed}
@@ -21,7 +21,7 @@ use Rattle.fz_store.specs.of_meaning.Names.{kind_of_base, domain_of, is_scalar, 
 use Rattle.fz_store.proofs.of_meaning.Scope.{same_kind_is}
 use Rattle.fz_store.proofs.of_meaning.KnownNames.{declares, next_number, number_here}
 use Rattle.fz_store.specs.declared.parts.Array as the_array
-use Rattle.fz_store.specs.of_names.Naming.{Declared as declarations}
+use Rattle.fz_store.specs.Naming.{Declared as declarations}
 use Rattle.fz_store.specs.declared.parts.DeclaredPoint.TheVariants as points
 use Rattle.fz_store.specs.declared.parts.Variable.{Variable}
 use Rattle.fz_store.specs.Parts.{variable_view, no_variable, variable_at, definition_at, array_view, declared_point, definition_point, elements_point, no_array, elements_of}

@@ -12,7 +12,7 @@ use Rattle.fz_data.specs.declared.scope.Item.TheVariants as items
 use Rattle.fz_store.specs.declared.scope.Scope.{Scope}
 use Rattle.fz_store.specs.Parts.{variable_view}
 use Rattle.fz_store.specs.Declarations.{declared_place}
-use Rattle.fz_store.specs.of_names.Naming.{has_text}
+use Rattle.fz_store.specs.Naming.{has_text}
 use Rattle.fz_data.specs.Scope.{IsNewName, IsAdded, IsItem, place_kind, kinds_in, kept_with, new_variables, new_arrays, new_points}
 use Rattle.fz_data.specs.Stands.{StandsFor}
 use Rattle.fz_data.proofs.Stands.{Adds, stands_more}

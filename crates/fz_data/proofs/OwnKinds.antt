@@ -3,7 +3,7 @@
 use Rattle.std.proofs.Common.{◌≡◌, cond, List, [], ◌∷◌, map, Option, Some, None, option_map, slice_get, refl, sym, ap, ◌∙◌}
 use Rattle.std.specs.List.{AllByRecursion}
 use Rattle.std.specs.Option.{option_map_or}
-use Rattle.fz_tree.specs.of_lex.of_base.declared.value.Value.{Value}
+use Rattle.fz_tree.specs.of_base.declared.value.Value.{Value}
 use Rattle.fz_store.specs.of_meaning.declared.kind.Kind.{Kind}
 use Rattle.fz_store.specs.of_meaning.declared.kind.Kind.TheVariants.{Int as IntKind}
 use Rattle.fz_store.specs.of_meaning.declared.term.Term.TheVariants.{Var, Fixed}
@@ -20,8 +20,8 @@ use Rattle.fz_store.proofs.of_meaning.Table.{array_by_place, scalar_by_place}
 use Rattle.fz_store.specs.declared.parts.Array as the_array
 use Rattle.fz_store.specs.declared.parts.Variable.{Variable}
 use Rattle.fz_store.specs.Kinds.{ArgumentFits, PlaceFits, PostedFits}
-use Rattle.fz_store.specs.of_names.Naming as the_declared
-use Rattle.fz_store.specs.of_names.Naming.{Declared as declarations}
+use Rattle.fz_store.specs.Naming as the_declared
+use Rattle.fz_store.specs.Naming.{Declared as declarations}
 use Rattle.fz_store.specs.Parts.{array_view, no_array, elements_of}
 use Rattle.fz_store.specs.Declarations.{declared_place}
 use Rattle.fz_data.specs.Stands.{Entry, declared_pair, entry_place}

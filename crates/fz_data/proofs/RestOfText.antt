@@ -4,8 +4,8 @@ use Rattle.std.specs.Prelude.{◌≢◌, ◌⊎◌}
 use Rattle.std.proofs.lemmas.List.{map-append}
 use Rattle.fz_syntax.specs.Offering.{IsTextOfAllWithin, all_items}
 use Rattle.fz_tree.specs.View.{TreeItems}
-use Rattle.fz_tree.specs.of_lex.declared.limits.Limits.{Limits}
-use Rattle.fz_tree.specs.of_lex.declared.error.SyntaxError.{SyntaxError}
+use Rattle.fz_tree.specs.declared.limits.Limits.{Limits}
+use Rattle.fz_tree.specs.declared.error.SyntaxError.{SyntaxError}
 use Rattle.fz_tree.specs.declared.tree.Decl.{Decl}
 use Rattle.fz_tree.specs.declared.tree.Constraint.{Constraint}
 use Rattle.fz_tree.specs.declared.tree.Solve.{Solve}

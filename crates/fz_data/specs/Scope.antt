@@ -14,8 +14,8 @@ use Rattle.fz_store.specs.declared.scope.Scope.{Scope}
 use Rattle.fz_data.specs.declared.scope.Item.{Item}
 use Rattle.fz_data.specs.declared.scope.Item.TheVariants as items
 use Rattle.fz_store.specs.declared.parts.Array as the_array
-use Rattle.fz_store.specs.of_names.Naming as the_declared
-use Rattle.fz_store.specs.of_names.Naming.{has_text, Declared as declarations}
+use Rattle.fz_store.specs.Naming as the_declared
+use Rattle.fz_store.specs.Naming.{has_text, Declared as declarations}
 use Rattle.fz_store.specs.declared.parts.DeclaredPoint.{DeclaredPoint}
 use Rattle.fz_store.specs.declared.parts.DeclaredPoint.TheVariants as points
 use Rattle.fz_store.specs.declared.parts.Variable.{Variable}

@@ -8,7 +8,7 @@ use Rattle.fz_store.specs.of_meaning.Laws.{scalar_variables}
 use Rattle.fz_store.specs.of_meaning.Meaning as meaning
 use Rattle.fz_store.specs.of_meaning.Meaning.{Place, declared_points, numbered_from}
 use Rattle.fz_store.specs.declared.parts.Array as the_array
-use Rattle.fz_store.specs.of_names.Naming as the_declared
+use Rattle.fz_store.specs.Naming as the_declared
 use Rattle.fz_store.specs.declared.parts.DeclaredPoint.{DeclaredPoint}
 use Rattle.fz_store.specs.declared.parts.Variable.{Variable}
 use Rattle.fz_store.specs.declared.scope.Scope.{Scope}

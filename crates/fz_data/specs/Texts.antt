@@ -2,9 +2,9 @@
 use Rattle.std.specs.Prelude.{◌≡◌, ◌⊎◌, ℕ, List, map}
 use Rattle.fz_syntax.specs.Offering.{IsTextOfAllWithin, IsLeft, TookAll, from_decls, from_constraints}
 use Rattle.fz_tree.specs.View.{TreeItems}
-use Rattle.fz_tree.specs.of_lex.declared.limits.Limits.{Limits}
-use Rattle.fz_tree.specs.of_lex.View.{standard_limits}
-use Rattle.fz_tree.specs.of_lex.declared.error.SyntaxError.{SyntaxError}
+use Rattle.fz_tree.specs.declared.limits.Limits.{Limits}
+use Rattle.fz_tree.specs.Spanned.{standard_limits}
+use Rattle.fz_tree.specs.declared.error.SyntaxError.{SyntaxError}
 use Rattle.fz_tree.specs.Text.{IsTextOfTreeWithin}
 use Rattle.fz_syntax.specs.declared.reader.Rest.{Rest}
 use Rattle.fz_tree.specs.declared.tree.Solve.{Solve}

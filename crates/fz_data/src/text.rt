@@ -3,8 +3,8 @@
 ghost use Rattle.std.specs.Prelude.{◌≡◌, ◌≢◌, ◌<◌, ◌↔◌, Err, ◌++◌, ◌∷◌, [], IfErr, IfOk, List, OnOk, length, map};
 ghost use Rattle.fz_store.specs.of_meaning.Located.{Constraint as LocatedConstraint, Decl as LocatedDecl};
 ghost use Rattle.fz_syntax.specs.Offering.{IsLeft, IsRefusedAt, IsRefusedWithin, IsTextOfAllWithin, Took, TookAll, all_items, from_constraints, from_decls, from_predicates, left_of};
-ghost use Rattle.fz_tree.specs.of_lex.declared.error.SyntaxError.{SyntaxError as SyntaxFault};
-ghost use Rattle.fz_tree.specs.of_lex.declared.error.SyntaxError.TheVariants.{TooLong};
+ghost use Rattle.fz_tree.specs.declared.error.SyntaxError.{SyntaxError as SyntaxFault};
+ghost use Rattle.fz_tree.specs.declared.error.SyntaxError.TheVariants.{TooLong};
 ghost use Rattle.fz_tree.specs.declared.tree.Decl as the_decl;
 ghost use Rattle.fz_tree.specs.declared.tree.Predicate as the_predicate;
 ghost use Rattle.fz_store.specs.of_meaning.Names.{fault_at_decl, kinds};

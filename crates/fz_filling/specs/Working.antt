@@ -1,5 +1,5 @@
 -- Values taken into a partial assignment one after another, and what is asked of one scalar. Only
--- private functions use these, here and in `fz_judge`, but for `HasRoom`, which `filled` cites.
+-- private functions use these, here and in `fz_check`, but for `HasRoom`, which `filled` cites.
 use Rattle.std.specs.Prelude.{◌≡◌, ℕ, ℤ, ◌<◌, Bool, false, true, cond, ◌&&◌, is_none, List, [], ◌∷◌, length, map, Option, None, Some, ⊤}
 use Rattle.std.specs.Option.{option_map_or}
 use Rattle.fz_index.specs.of_model.of_base.declared.value.Value.{Value}

@@ -3,7 +3,7 @@
 //! steps. Where they come to the same in any order, points are tried behind those that give what
 //! they wait for; one search through the points finds the rest. Where values that a solver left out
 //! are looked for, a second filling goes on from there, by whichever result a row has. An internal
-//! crate of `fz_judge`.
+//! crate of `fz_check`.
 //!
 //! What a verdict or an accepted stream means for solutions is defined in `specs/`, and told by the
 //! laws in `laws.rt`. Worked cases are in `tests/cases`.

@@ -6,17 +6,17 @@ use Rattle.std.specs.Map.{lookup}
 use Rattle.std.specs.Cmp.{both_ways}
 use Rattle.std.proofs.lemmas.Slice.Eq.{bytes_eq-Decides}
 use Rattle.std.proofs.lemmas.Option.{slice_get-map, same_Some}
-use Rattle.fz_names.specs.of_meaning.Meaning as meaning
-use Rattle.fz_names.specs.of_meaning.Meaning.{find_name, first_some, place_if_named, numbered, variables_of}
-use Rattle.fz_names.specs.of_meaning.declared.kind.Kind.TheVariants.{Int as IntKind}
-use Rattle.fz_names.specs.of_meaning.declared.term.Term.{Term}
-use Rattle.fz_names.specs.of_meaning.declared.term.Term.TheVariants.{Var, Fixed}
-use Rattle.fz_names.proofs.of_meaning.ScanSteps.{first_map}
+use Rattle.fz_meaning.specs.Meaning as meaning
+use Rattle.fz_meaning.specs.Meaning.{find_name, first_some, place_if_named, numbered, variables_of}
+use Rattle.fz_meaning.specs.declared.kind.Kind.TheVariants.{Int as IntKind}
+use Rattle.fz_meaning.specs.declared.term.Term.{Term}
+use Rattle.fz_meaning.specs.declared.term.Term.TheVariants.{Var, Fixed}
+use Rattle.fz_meaning.proofs.ScanSteps.{first_map}
 use Rattle.fz_store.specs.declared.model.Model.TheInside.{Inside}
 use Rattle.fz_store.specs.declared.parts.Variable.{Variable}
 use Rattle.fz_store.specs.declared.parts.Array.{Array}
-use Rattle.fz_names.specs.Naming.{Declared, has_text}
-use Rattle.fz_names.specs.Naming.{Declared as declarations}
+use Rattle.fz_store.specs.Naming.{Declared, has_text}
+use Rattle.fz_store.specs.Naming.{Declared as declarations}
 use Rattle.fz_store.specs.Parts.{variable_view, no_variable, kind_of_term, array_view, no_array, elements_of}
 use Rattle.fz_store.specs.Declarations.{declared_place}
 use Rattle.fz_store.specs.Layout.{model_view, named_place, IsArrayNamed, IsKeptAs, IsLaidOut}

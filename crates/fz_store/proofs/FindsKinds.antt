@@ -1,6 +1,6 @@
 -- What is found under a name has its kind.
 use Rattle.std.proofs.Common.{◌≡◌, ℕ, List, Option, Some, None, sym, subst, option_map, IfSome}
-use Rattle.fz_names.specs.of_meaning.Meaning.{Model, Place, find_name, variables_of}
+use Rattle.fz_meaning.specs.Meaning.{Model, Place, find_name, variables_of}
 use Rattle.fz_store.specs.Kinds.{PlaceFits}
 use Rattle.fz_store.specs.Layout.{IsLaidOut, model_view}
 use Rattle.fz_store.specs.Shown.{found_place}

@@ -3,5 +3,6 @@ pub mod Points
 pub mod FindsKinds
 pub mod Loops
 pub mod Tabled
-pub use Rattle.fz_names.proofs as of_names
-pub use Rattle.fz_names.proofs.of_meaning
+pub mod NameTable
+pub mod Noted
+pub use Rattle.fz_meaning.proofs as of_meaning

@@ -3,7 +3,7 @@ use Rattle.std.proofs.Common.{◌≡◌, ℕ, true, false, cond, List, [], ◌�
 use Rattle.std.specs.List.{AllByRecursion}
 use Rattle.std.specs.Map.{lookup}
 use Rattle.std.proofs.lemmas.Slice.Eq.{bytes_eq-Decides}
-use Rattle.fz_names.specs.Naming.{has_text}
+use Rattle.fz_store.specs.Naming.{has_text}
 
 -- what holds of each entry holds of the one that is found
 pub found_entry : {D : Type 0} (P : List ℕ → D → Type 0) (x : List ℕ) (es : List (List ℕ × D))

@@ -4,12 +4,12 @@ use Rattle.std.proofs.lemmas.List.{length-map}
 use Rattle.std.proofs.Common.{length-append}
 use Rattle.std.proofs.lemmas.Option.{slice_get-map, slice_get_read, same_Some}
 use Rattle.std.specs.Option.{option_map_or}
-use Rattle.fz_names.proofs.NameTable.{get_front}
-use Rattle.fz_names.specs.of_meaning.Meaning.{Point, Posted, constraint_points, points, row_of}
-use Rattle.fz_names.specs.of_meaning.Meaning.Point.{DomainPoint, DefinitionPoint, ArrayPoint, ConstraintPoint}
-use Rattle.fz_names.proofs.of_meaning.Lists.{at_place}
-use Rattle.fz_names.specs.of_meaning.declared.term.Term.{Term}
-use Rattle.fz_names.specs.of_meaning.declared.term.Domain.TheVariants.{All}
+use Rattle.fz_store.proofs.NameTable.{get_front}
+use Rattle.fz_meaning.specs.Meaning.{Point, Posted, constraint_points, points, row_of}
+use Rattle.fz_meaning.specs.Meaning.Point.{DomainPoint, DefinitionPoint, ArrayPoint, ConstraintPoint}
+use Rattle.fz_meaning.proofs.Lists.{at_place}
+use Rattle.fz_meaning.specs.declared.term.Term.{Term}
+use Rattle.fz_meaning.specs.declared.term.Domain.TheVariants.{All}
 use Rattle.std.proofs.lemmas.Bool.{false≢true}
 use Rattle.fz_store.specs.declared.model.Model.TheInside.{Inside}
 use Rattle.fz_store.specs.declared.parts.DeclaredPoint.{DeclaredPoint}

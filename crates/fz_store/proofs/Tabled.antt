@@ -2,9 +2,9 @@
 use Rattle.std.proofs.Common.{◌≡◌, ℕ, ◌+◌, ◌<◌, ◌≤◌, ℤ, Bool, zero, suc, List, [], ◌∷◌, ◌++◌, length, map, take, replicate, Option, None, Some, is_some, true, false, slice_set, add-one, arith, refl, ap, ◌∙◌}
 use Rattle.std.proofs.Math.Seq.{take-append_seam}
 use Rattle.std.proofs.lemmas.List.{length-map}
-use Rattle.fz_names.specs.of_meaning.of_base.declared.value.Value.{Value}
-use Rattle.fz_names.specs.of_meaning.Meaning.{Variable, value_at}
-use Rattle.fz_names.specs.of_meaning.Steps.{give}
+use Rattle.fz_meaning.specs.of_base.declared.value.Value.{Value}
+use Rattle.fz_meaning.specs.Meaning.{Variable, value_at}
+use Rattle.fz_meaning.specs.Steps.{give}
 use Rattle.fz_store.specs.Partial.{IsTabled, number_in, truth_in, unset_count, without}
 
 map_set : {A B : Type 0} (f : A → B) (xs : List A) (n : ℕ) (x : A)

@@ -1,11 +1,11 @@
 -- What declared names stand for, as the declarations of a model.
 use Rattle.std.specs.Prelude.{ℕ, List, cond, slice_get}
 use Rattle.std.specs.Option.{option_map_or}
-use Rattle.fz_names.specs.of_meaning.Relations.{kind_of}
-use Rattle.fz_names.specs.of_meaning.declared.term.Term.{Term}
-use Rattle.fz_names.specs.of_meaning.declared.term.Term.TheVariants.{Var, Fixed}
-use Rattle.fz_names.specs.of_meaning.Meaning as meaning
-use Rattle.fz_names.specs.Naming.{Declared, Declared as declarations}
+use Rattle.fz_meaning.specs.Relations.{kind_of}
+use Rattle.fz_meaning.specs.declared.term.Term.{Term}
+use Rattle.fz_meaning.specs.declared.term.Term.TheVariants.{Var, Fixed}
+use Rattle.fz_meaning.specs.Meaning as meaning
+use Rattle.fz_store.specs.Naming.{Declared, Declared as declarations}
 use Rattle.fz_store.specs.declared.parts.Variable.{Variable}
 use Rattle.fz_store.specs.declared.parts.Array.{Array}
 use Rattle.fz_store.specs.Parts.{variable_at, definition_at, scalar_view, elements_of, array_view, array_at, no_array}

@@ -1,14 +1,14 @@
 -- The kinds of what a name stands for, and of the scalars of a constraint (this project's profile).
 use Rattle.std.specs.Prelude.{◌≡◌, Some}
 use Rattle.std.specs.List.{AllByRecursion}
-use Rattle.fz_names.specs.of_meaning.Relations.{kind_of}
-use Rattle.fz_names.specs.of_meaning.declared.kind.Kind.{Kind}
-use Rattle.fz_names.specs.of_meaning.declared.term.Term.{Term}
-use Rattle.fz_names.specs.of_meaning.declared.term.Term.TheVariants.{Var, Fixed}
-use Rattle.fz_names.specs.of_meaning.Meaning.{Argument, Model, Place, Posted}
-use Rattle.fz_names.specs.of_meaning.Meaning.Place.{Scalar, Array}
-use Rattle.fz_names.specs.of_meaning.Meaning.Argument.{One, ListOf}
-use Rattle.fz_names.specs.of_meaning.Steps.{kind_at}
+use Rattle.fz_meaning.specs.Relations.{kind_of}
+use Rattle.fz_meaning.specs.declared.kind.Kind.{Kind}
+use Rattle.fz_meaning.specs.declared.term.Term.{Term}
+use Rattle.fz_meaning.specs.declared.term.Term.TheVariants.{Var, Fixed}
+use Rattle.fz_meaning.specs.Meaning.{Argument, Model, Place, Posted}
+use Rattle.fz_meaning.specs.Meaning.Place.{Scalar, Array}
+use Rattle.fz_meaning.specs.Meaning.Argument.{One, ListOf}
+use Rattle.fz_meaning.specs.Steps.{kind_at}
 
 -- a scalar has the kind: its variable, or its value
 abbrev pub TermFits : Model → Kind → Term → Type 0

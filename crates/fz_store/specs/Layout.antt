@@ -1,12 +1,12 @@
 -- The loaded model: what its fields stand for, and how they fit together (this project's profile).
 use Rattle.std.specs.Prelude.{◌≡◌, ℕ, ◌<◌, ⊤, List, length, map, flat_map, is_some, IsTrue, Some, option_map, slice_get}
 use Rattle.std.specs.List.{AllByRecursion}
-use Rattle.fz_names.specs.of_meaning.Meaning as meaning
-use Rattle.fz_names.specs.of_meaning.Meaning.{Model, find_name, name_of, place_named, numbered, variables_of, declared_points, row_of}
+use Rattle.fz_meaning.specs.Meaning as meaning
+use Rattle.fz_meaning.specs.Meaning.{Model, find_name, name_of, place_named, numbered, variables_of, declared_points, row_of}
 use Rattle.fz_store.specs.declared.parts.Variable.{Variable}
 use Rattle.fz_store.specs.declared.parts.Array.{Array}
-use Rattle.fz_names.specs.Naming.{Declared}
-use Rattle.fz_names.specs.Naming.{Declared as declarations}
+use Rattle.fz_store.specs.Naming.{Declared}
+use Rattle.fz_store.specs.Naming.{Declared as declarations}
 use Rattle.fz_store.specs.declared.parts.DeclaredPoint.{DeclaredPoint}
 use Rattle.fz_store.specs.declared.parts.DeclaredPoint.TheVariants as points
 use Rattle.fz_store.specs.declared.model.Model.TheInside.{Inside}

@@ -5,5 +5,7 @@ pub mod Layout
 pub mod Shown
 pub mod Partial
 pub mod Slots
-pub use Rattle.fz_names.specs as of_names
-pub use Rattle.fz_names.specs.of_meaning
+pub mod Naming
+pub mod Names
+pub mod Numbered
+pub use Rattle.fz_meaning.specs as of_meaning

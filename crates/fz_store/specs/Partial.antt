@@ -1,8 +1,8 @@
 -- The partial assignment without a value, and its values by their kinds (this project's profile).
 use Rattle.std.specs.Prelude.{◌≡◌, ℕ, suc, ℤ, pos, Bool, false, List, [], ◌∷◌, map, Option, None, Some, is_some, slice_set}
-use Rattle.fz_names.specs.of_meaning.of_base.declared.value.Value.{Value}
-use Rattle.fz_names.specs.of_meaning.of_base.declared.value.Value.TheVariants.{Int, Bool as Truth}
-use Rattle.fz_names.specs.of_meaning.Meaning.{Model, Partial, variables_of}
+use Rattle.fz_meaning.specs.of_base.declared.value.Value.{Value}
+use Rattle.fz_meaning.specs.of_base.declared.value.Value.TheVariants.{Int, Bool as Truth}
+use Rattle.fz_meaning.specs.Meaning.{Model, Partial, variables_of}
 
 -- no variable of the model has a value
 abbrev pub nothing_for : Model → Partial

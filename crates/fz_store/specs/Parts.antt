@@ -3,19 +3,19 @@
 -- number stands for that no variable or array has.
 use Rattle.std.specs.Prelude.{ℕ, List, [], map, Option, None, Some, option_map, slice_get}
 use Rattle.std.specs.Option.{option_map_or}
-use Rattle.fz_names.specs.of_meaning.Relations.{kind_of}
-use Rattle.fz_names.specs.of_meaning.declared.kind.Kind.{Kind}
-use Rattle.fz_names.specs.of_meaning.declared.kind.Kind.TheVariants.{Int as IntKind}
-use Rattle.fz_names.specs.of_meaning.declared.term.Term.{Term}
-use Rattle.fz_names.specs.of_meaning.declared.term.Term.TheVariants.{Var, Fixed}
-use Rattle.fz_names.specs.of_meaning.declared.term.Domain.TheVariants.{All}
-use Rattle.fz_names.specs.of_meaning.Builtins.{Row}
-use Rattle.fz_names.specs.of_meaning.Known.{known_row}
-use Rattle.fz_names.specs.of_meaning.Meaning as meaning
+use Rattle.fz_meaning.specs.Relations.{kind_of}
+use Rattle.fz_meaning.specs.declared.kind.Kind.{Kind}
+use Rattle.fz_meaning.specs.declared.kind.Kind.TheVariants.{Int as IntKind}
+use Rattle.fz_meaning.specs.declared.term.Term.{Term}
+use Rattle.fz_meaning.specs.declared.term.Term.TheVariants.{Var, Fixed}
+use Rattle.fz_meaning.specs.declared.term.Domain.TheVariants.{All}
+use Rattle.fz_meaning.specs.Builtins.{Row}
+use Rattle.fz_meaning.specs.Known.{known_row}
+use Rattle.fz_meaning.specs.Meaning as meaning
 use Rattle.fz_store.specs.declared.parts.Variable.{Variable}
 use Rattle.fz_store.specs.declared.parts.Array.{Array}
 use Rattle.fz_store.specs.declared.parts.ScalarList.{ScalarList}
-use Rattle.fz_names.specs.of_meaning.of_base.declared.value.Value.{Value}
+use Rattle.fz_meaning.specs.of_base.declared.value.Value.{Value}
 use Rattle.fz_store.specs.declared.store.Slot.{Slot}
 use Rattle.fz_store.specs.declared.store.Slot.TheVariants as slots
 use Rattle.fz_store.specs.declared.store.Argument.{Argument}

@@ -2,13 +2,13 @@
 -- project's profile).
 use Rattle.std.specs.Prelude.{ℕ, List, map, slice_get, ⊤}
 use Rattle.std.specs.Option.{option_map_or}
-use Rattle.fz_names.specs.of_meaning.Relations.{kind_of}
-use Rattle.fz_names.specs.of_meaning.declared.kind.Kind.{Kind}
-use Rattle.fz_names.specs.of_meaning.declared.kind.Kind.TheVariants.{Int as IntKind}
-use Rattle.fz_names.specs.of_meaning.declared.term.Term.{Term}
-use Rattle.fz_names.specs.of_meaning.declared.term.Term.TheVariants.{Var, Fixed}
-use Rattle.fz_names.specs.of_meaning.Meaning as meaning
-use Rattle.fz_names.specs.of_meaning.States as states
+use Rattle.fz_meaning.specs.Relations.{kind_of}
+use Rattle.fz_meaning.specs.declared.kind.Kind.{Kind}
+use Rattle.fz_meaning.specs.declared.kind.Kind.TheVariants.{Int as IntKind}
+use Rattle.fz_meaning.specs.declared.term.Term.{Term}
+use Rattle.fz_meaning.specs.declared.term.Term.TheVariants.{Var, Fixed}
+use Rattle.fz_meaning.specs.Meaning as meaning
+use Rattle.fz_meaning.specs.States as states
 use Rattle.fz_store.specs.Slots.{scalar_term, slot_term}
 use Rattle.fz_store.specs.Parts.{variable_view, constraint_view}
 use Rattle.fz_store.specs.declared.point.Point.{Point}

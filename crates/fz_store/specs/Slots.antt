@@ -3,10 +3,10 @@
 -- array.
 use Rattle.std.specs.Prelude.{◌≡◌, ℕ, pos, Bool, true, false, List, ◌++◌, take, drop, slice_get}
 use Rattle.std.specs.Option.{option_map_or}
-use Rattle.fz_names.specs.of_meaning.of_base.declared.value.Value.{Value}
-use Rattle.fz_names.specs.of_meaning.of_base.declared.value.Value.TheVariants.{Int, Bool as Truth, Set}
-use Rattle.fz_names.specs.of_meaning.declared.term.Term.{Term}
-use Rattle.fz_names.specs.of_meaning.declared.term.Term.TheVariants.{Var, Fixed}
+use Rattle.fz_meaning.specs.of_base.declared.value.Value.{Value}
+use Rattle.fz_meaning.specs.of_base.declared.value.Value.TheVariants.{Int, Bool as Truth, Set}
+use Rattle.fz_meaning.specs.declared.term.Term.{Term}
+use Rattle.fz_meaning.specs.declared.term.Term.TheVariants.{Var, Fixed}
 use Rattle.fz_store.specs.declared.store.Slot.{Slot}
 use Rattle.fz_store.specs.declared.store.Slot.TheVariants as slots
 use Rattle.fz_store.specs.declared.store.Segment.{Segment}

@@ -5,7 +5,7 @@ ghost use Rattle.fz_store.specs.Slots.{scalar_term};
 ghost use Rattle.fz_store.specs.Shown.{scalar_terms};
 
 use crate::store::{Scalar, Slot, scalar_at};
-use fz_names::{Kind, Value};
+use fz_meaning::{Kind, Value};
 
 /// A list of scalars, as slots.
 #[derive(Clone, Copy)]

@@ -2,20 +2,20 @@
 
 ghost use Rattle.std.specs.Prelude.{◌≡◌, ◌<◌, IfSome, Some, length, map, option_map, slice_get};
 ghost use Rattle.std.specs.List.{AllByRecursion};
-ghost use Rattle.fz_names.specs.of_meaning.Meaning.{constraint_points, find_name, points, row_of, variables_of};
-ghost use Rattle.fz_names.specs.of_meaning.States.{shown_point};
-ghost use Rattle.fz_names.specs.of_meaning.Known.{known_row};
+ghost use Rattle.fz_meaning.specs.Meaning.{constraint_points, find_name, points, row_of, variables_of};
+ghost use Rattle.fz_meaning.specs.States.{shown_point};
+ghost use Rattle.fz_meaning.specs.Known.{known_row};
 ghost use Rattle.fz_store.specs.Kinds.{PlaceFits, PostedFits};
 ghost use Rattle.fz_store.specs.Layout.{IsLaidOut, model_view};
 ghost use Rattle.fz_store.specs.Parts.{constraint_view, elements_of, goal_view, kept_row, posted_view, variable_view};
 ghost use Rattle.fz_store.specs.Shown.{IfConstraint, found_place, point_name, point_view, scalar_terms};
 
 use crate::found::{Found, Scalars, What};
+use crate::names::{Names, Standing};
 use crate::parts::{Array, DeclaredPoint, Goal, Posted, Variable};
 use crate::point::{ConstraintParts, Constraints, Point, PointParts};
 use crate::scope::Scope;
 use crate::store::{Scalar, Store, read_term};
-use fz_names::{Names, Standing};
 
 /// A model with its names looked up. A contract sees it as the model of the tree that it was loaded
 /// from.
@@ -34,8 +34,8 @@ pub struct Model<'a> {
 }
 
 impl<'a> std::marker::Model for Model<'a> {
-    ghost use Rattle.fz_names.specs.of_meaning.Meaning.{Model as Meaning};
-    ghost use Rattle.fz_names.specs.of_meaning.of_base.contracts.sets.IntSet as the_set;
+    ghost use Rattle.fz_meaning.specs.Meaning.{Model as Meaning};
+    ghost use Rattle.fz_meaning.specs.of_base.contracts.sets.IntSet as the_set;
     ghost use Rattle.std.specs.Coded.{codes};
 
     ghost Value = { Meaning };

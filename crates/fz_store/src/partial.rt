@@ -2,12 +2,12 @@
 
 ghost use Rattle.std.specs.Prelude.{◌≡◌, ◌<◌, IfOk, None, Some, false, is_some, length, map, option_map, pos, replicate};
 ghost use Rattle.std.specs.FinSet as sets;
-ghost use Rattle.fz_names.specs.of_meaning.Meaning.{value, value_at};
-ghost use Rattle.fz_names.specs.of_meaning.Steps.{give};
+ghost use Rattle.fz_meaning.specs.Meaning.{value, value_at};
+ghost use Rattle.fz_meaning.specs.Steps.{give};
 ghost use Rattle.fz_store.specs.Partial.{nothing_for, number_in, truth_in, unset_count, without};
 
 use crate::model::Model;
-use fz_names::{IntSet, Term, Value};
+use fz_meaning::{IntSet, Term, Value};
 use std::alloc::{AllocError, Global};
 use std::mem;
 
@@ -32,8 +32,8 @@ pub struct Partial {
 
 impl std::marker::Model for Partial {
     ghost use Rattle.std.specs.Prelude.{List, Option};
-    ghost use Rattle.fz_names.specs.of_meaning.of_base.declared.value.Value.{Value as Held};
-    ghost use Rattle.fz_names.specs.of_meaning.of_base.contracts.sets.IntSet as the_set;
+    ghost use Rattle.fz_meaning.specs.of_base.declared.value.Value.{Value as Held};
+    ghost use Rattle.fz_meaning.specs.of_base.contracts.sets.IntSet as the_set;
     ghost use Rattle.std.specs.Coded.{codes};
 
     ghost Value = { List (Option Held) };

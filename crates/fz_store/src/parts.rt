@@ -5,7 +5,7 @@ ghost use Rattle.std.specs.List.{list_all};
 ghost use Rattle.fz_store.specs.Slots.{is_scalar};
 
 use crate::store::{Segment, Slot};
-use fz_names::{Domain, Kind, Known, Term, Value};
+use fz_meaning::{Domain, Kind, Known, Term, Value};
 
 /// A scalar variable: its name, its kind, and the values that its declaration admits.
 #[derive(Debug, Drop)]

@@ -6,7 +6,7 @@ ghost use Rattle.fz_store.specs.Slots.{segment};
 use crate::found::Scalars;
 use crate::parts::{Array, Posted, Variable};
 use crate::store::{Argument, Store, part};
-use fz_names::{Domain, Term};
+use fz_meaning::{Domain, Term};
 
 /// How a point is reported: a declared name, or a constraint's number, from 1, and the name of its
 /// predicate. Names are slices of the source.

@@ -1,11 +1,11 @@
 //! The store: the lists of constraints and of declared arrays, with eight bytes for each scalar.
 
 ghost use Rattle.std.specs.Prelude.{◌≡◌, ◌<◌, IfOk, OnOk, Some, length, slice_get};
-ghost use Rattle.fz_names.specs.of_meaning.of_base.declared.value.Value.TheVariants.{Int};
-ghost use Rattle.fz_names.specs.of_meaning.declared.term.Term.TheVariants.{Fixed};
+ghost use Rattle.fz_meaning.specs.of_base.declared.value.Value.TheVariants.{Int};
+ghost use Rattle.fz_meaning.specs.declared.term.Term.TheVariants.{Fixed};
 ghost use Rattle.fz_store.specs.Slots.{IsGrown, IsSlotOf, constant_at, scalar_term, segment, slot_term};
 
-use fz_names::{IntSet, Term, Value};
+use fz_meaning::{IntSet, Term, Value};
 use std::alloc::{AllocError, Global};
 
 /// A scalar, or a declared array. It is the number of a variable, an integer, a Boolean, the index

@@ -1,9 +1,9 @@
 //! Kinds of values.
 
 ghost use Rattle.std.specs.Prelude.{◌≡◌};
-ghost use Rattle.fz_names.specs.of_meaning.Relations.{kind_of, same_kind};
+ghost use Rattle.fz_meaning.specs.Relations.{kind_of, same_kind};
 
-use fz_names::{Kind, Value};
+use fz_meaning::{Kind, Value};
 
 /// The kind of a value. It takes no memory.
 #[inline]

@@ -2,11 +2,11 @@
 use Rattle.std.proofs.Common.{◌≡◌, ℕ, ℤ, ◌≤◌, Bool, true, false, List, [], ◌∷◌, ◌++◌, length, drop, Ok, refl, ◌∙◌, arith, ◌||◌}
 use Rattle.std.specs.Prelude.{codes}
 use Rattle.std.specs.List.{AllByRecursion}
-use Rattle.fz_tree.specs.of_lex.declared.token.Mark.TheVariants.{OpenBracket, CloseBracket, OpenBrace, CloseBrace, DotDot}
-use Rattle.fz_tree.specs.of_lex.Token.{TokenValue, Word, Whole, Marked}
+use Rattle.fz_tree.specs.declared.token.Mark.TheVariants.{OpenBracket, CloseBracket, OpenBrace, CloseBrace, DotDot}
+use Rattle.fz_tree.specs.Token.{TokenValue, Word, Whole, Marked}
 use Rattle.fz_tree.specs.Tree.{Literal, Number, Truth, Range, Braces, Basic, Lit, Named, Expr, One, Several}
 use Rattle.fz_tree.specs.Tokens.{mark, number_toks, literal_toks, word, basic_toks, expr_toks, separated}
-use Rattle.fz_tree.specs.of_lex.declared.limits.Limits.{Limits}
+use Rattle.fz_tree.specs.declared.limits.Limits.{Limits}
 use Rattle.fz_tree.specs.Text.{is_reserved, IsName, IsLiteral, IsBounds, IsBasic, IsExpr, IsLiteralBasic}
 use Rattle.fz_syntax.specs.Reading.{is_mark, is_word, next_passes, next_is, next_word, whole_at, name_at, is_whole, is_name, braces_at, from_whole, literal_at, basic_at, expr_at, literal_basic_at}
 use Rattle.fz_syntax.proofs.Laws.{Always, Took, Takes, ◌⟫◌, step, made, choose, refused, first, marked, worded}

@@ -8,7 +8,7 @@ use Rattle.fz_tree.specs.declared.tree.NoteArg.TheViews as views
 use Rattle.fz_tree.specs.declared.tree.NoteArg.TheVariants as variants
 use Rattle.fz_tree.specs.declared.tree.NoteArg.TheOpen.{NoteArg-F}
 use Rattle.fz_tree.specs.declared.tree.NoteArg.TheFolds.{fold-roll-Note, fold-roll-NoteArg}
-use Rattle.fz_tree.specs.of_lex.declared.token.Mark.TheVariants.{OpenBracket, CloseBracket}
+use Rattle.fz_tree.specs.declared.token.Mark.TheVariants.{OpenBracket, CloseBracket}
 use Rattle.fz_syntax.specs.Placed.{PlacedToken, placed_name, placed_between, placed_parts, placed_args, placed_note, placed_arg, placed_note_basic, placed_arg_layer, placed_note_basic_layer, placed_note_layer}
 
 pub note_unfolds : (n : Name) (args : Vec NoteArg Global) → placed_note (roll-Note (record { name = n; args = args })) ≡ placed_name n ++ placed_args (map placed_arg args.items)

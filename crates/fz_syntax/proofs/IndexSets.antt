@@ -1,10 +1,10 @@
 -- The loop invariant over an array's index sets.
 use Rattle.std.proofs.Common.{◌≡◌, ℕ, zero, suc, List, [], ◌∷◌, ◌++◌, Ok, Err, refl, sym, ap, subst, ◌∙◌}
 use Rattle.std.proofs.lemmas.List.{append-nil}
-use Rattle.fz_tree.specs.of_lex.Token.{TokenValue}
+use Rattle.fz_tree.specs.Token.{TokenValue}
 use Rattle.fz_syntax.specs.declared.parser.refusal.Refusal.{Refusal}
 use Rattle.fz_tree.specs.Tree.{Literal}
-use Rattle.fz_tree.specs.of_lex.declared.limits.Limits.{Limits}
+use Rattle.fz_tree.specs.declared.limits.Limits.{Limits}
 use Rattle.fz_syntax.specs.Reading.{Fault, Read}
 use Rattle.fz_syntax.specs.ReadingItems.{index_set_at, index_sets_at}
 use Rattle.fz_syntax.specs.Outcome.{Fails}

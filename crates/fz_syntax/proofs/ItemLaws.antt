@@ -3,10 +3,10 @@ use Rattle.std.proofs.Common.{◌≡◌, ℕ, Bool, true, false, not, ◌&&◌, 
 use Rattle.std.specs.Prelude.{codes}
 use Rattle.std.specs.List.{flat_map}
 use Rattle.std.proofs.lemmas.List.{append-nil}
-use Rattle.fz_tree.specs.of_lex.declared.token.Mark.TheVariants.{OpenParen, CloseParen, OpenBracket, CloseBracket, Semicolon, Colon, ColonColon, Equals}
-use Rattle.fz_tree.specs.of_lex.Token.{TokenValue, Word, Marked}
+use Rattle.fz_tree.specs.declared.token.Mark.TheVariants.{OpenParen, CloseParen, OpenBracket, CloseBracket, Semicolon, Colon, ColonColon, Equals}
+use Rattle.fz_tree.specs.Token.{TokenValue, Word, Marked}
 use Rattle.fz_tree.specs.Tree.{Number, Truth, Expr, One, Several, Base, IntBase, Param, Predicate, Decl, Constraint, Goal, Satisfy, Minimize, Maximize, Solve, Tree}
-use Rattle.fz_tree.specs.of_lex.declared.limits.Limits.{Limits}
+use Rattle.fz_tree.specs.declared.limits.Limits.{Limits}
 use Rattle.fz_tree.specs.Text.{IsBase, IsBaseOf, IsParam, IsPredicate, IsValueOf, IsDecl, IsConstraint, IsGoal, IsSolve, HasShape}
 use Rattle.fz_tree.specs.Tokens.{mark, basic_toks, expr_toks, separated, notes_toks, base_toks, var_toks, prefix_toks, param_prefix_toks, param_toks, predicate_toks, value_toks, decl_toks, constraint_toks, goal_toks, solve_toks, toks}
 use Rattle.fz_syntax.specs.Reading.{is_word, next_is, next_word, next_passes, any_number, mark_at, word_at, begins_decl, may_lack_value, value_at, given_value_at, param_at, predicate_at, decl_at, constraint_at, goal_at, solve_at, tree_at, ended, tree_of}

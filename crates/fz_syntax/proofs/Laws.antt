@@ -3,9 +3,9 @@
 use Rattle.std.proofs.Common.{◌≡◌, ℕ, Bool, true, false, cond, eqb, List, [], ◌∷◌, ◌++◌, drop, Ok, Err, refl, sym, ap, subst, append_assoc, ◌∙◌}
 use Rattle.std.proofs.lemmas.Bool.{eqb-true, eq-eqb}
 use Rattle.std.proofs.lemmas.Slice.Eq.{bytes_eq-Decides}
-use Rattle.fz_tree.specs.of_lex.declared.token.Mark.{Mark}
-use Rattle.fz_tree.specs.of_lex.declared.token.Mark.TheVariants.{OpenParen, CloseParen, OpenBracket, CloseBracket, OpenBrace, CloseBrace, Comma, Semicolon, Colon, ColonColon, Equals, DotDot}
-use Rattle.fz_tree.specs.of_lex.Token.{TokenValue, Word, Marked}
+use Rattle.fz_tree.specs.declared.token.Mark.{Mark}
+use Rattle.fz_tree.specs.declared.token.Mark.TheVariants.{OpenParen, CloseParen, OpenBracket, CloseBracket, OpenBrace, CloseBrace, Comma, Semicolon, Colon, ColonColon, Equals, DotDot}
+use Rattle.fz_tree.specs.Token.{TokenValue, Word, Marked}
 use Rattle.fz_tree.specs.Tokens.{mark, word}
 use Rattle.fz_syntax.specs.Reading.{mark_number, next_word, word_at, Fault, Read, Reader, ◌>>=◌, is_mark, next_is, mark_at}
 

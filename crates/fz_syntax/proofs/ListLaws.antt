@@ -5,9 +5,9 @@ use Rattle.std.proofs.lemmas.Bool.{eq-eqb, leb-false, lt-leb, cases_Bool}
 use Rattle.std.specs.Str.{bytes_eq}
 use Rattle.std.proofs.lemmas.Slice.Eq.{bytes_eq-Decides}
 use Rattle.std.proofs.lemmas.List.Concat.{flat_map-cons}
-use Rattle.fz_tree.specs.of_lex.declared.token.Mark.{Mark}
-use Rattle.fz_tree.specs.of_lex.declared.token.Mark.TheVariants.{OpenParen, Comma, DotDot}
-use Rattle.fz_tree.specs.of_lex.Token.{TokenValue, Word, Marked}
+use Rattle.fz_tree.specs.declared.token.Mark.{Mark}
+use Rattle.fz_tree.specs.declared.token.Mark.TheVariants.{OpenParen, Comma, DotDot}
+use Rattle.fz_tree.specs.Token.{TokenValue, Word, Marked}
 use Rattle.fz_tree.specs.Tokens.{separated, mark}
 use Rattle.fz_syntax.specs.Reading.{mark_number, next_word, Reader, ◌>>=◌, is_mark, next_passes, next_is, many_upto, many_at, after_token, separated_at, list_at, any_number, at_most}
 use Rattle.fz_syntax.proofs.Lists.{Shrinks, many_step, many_ends}

@@ -1,12 +1,12 @@
 -- A literal of one token with a comma behind it is an element of a list.
 use Rattle.std.proofs.Common.{◌≡◌, ◌<◌, ℕ, ℤ, true, false, List, ◌∷◌, Ok, Option, Some, None, IfSome, refl}
 use Rattle.std.proofs.lemmas.Bool.{lt-leb}
-use Rattle.fz_tree.specs.of_lex.Token.{TokenValue, Whole, Marked}
-use Rattle.fz_tree.specs.of_lex.declared.token.Mark.TheVariants.{Comma}
+use Rattle.fz_tree.specs.Token.{TokenValue, Whole, Marked}
+use Rattle.fz_tree.specs.declared.token.Mark.TheVariants.{Comma}
 use Rattle.fz_tree.specs.Tree.{Literal, Number, Truth}
 use Rattle.fz_tree.specs.declared.tree.Literal.{Literal as TreeLiteral}
 use Rattle.fz_tree.specs.View.{bare_literal}
-use Rattle.fz_tree.specs.of_lex.declared.limits.Limits.{Limits}
+use Rattle.fz_tree.specs.declared.limits.Limits.{Limits}
 use Rattle.fz_syntax.specs.Outcome.{IsListed}
 use Rattle.fz_syntax.specs.Reading.{at_most, literal_at, whole_at, from_whole}
 

@@ -1,7 +1,7 @@
 -- Reading parts one after another: the steps that a loop makes.
 use Rattle.std.proofs.Common.{◌≡◌, ℕ, zero, suc, ◌+◌, ◌≤◌, ◌<◌, Bool, true, false, cond, List, [], ◌∷◌, ◌++◌, length, Ok, Err, refl, sym, ap, ◌∙◌, append_assoc, arith}
 use Rattle.std.proofs.lemmas.List.{append-nil}
-use Rattle.fz_tree.specs.of_lex.Token.{TokenValue}
+use Rattle.fz_tree.specs.Token.{TokenValue}
 use Rattle.fz_syntax.specs.Reading.{Fault, Read, Reader, ◌>>=◌, next_passes, many_upto, many_at}
 
 abbrev done : {A : Type 0} → A × List TokenValue → Read A

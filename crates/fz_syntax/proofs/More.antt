@@ -1,10 +1,10 @@
 -- Tokens have one tree, whatever its size: it is read from them under limits that are large enough.
 use Rattle.std.proofs.Common.{◌≡◌, ◌+◌, List, Result, Ok, sym, ap, ◌∙◌, arith, ℕ}
 use Rattle.std.specs.List.{AllByRecursion}
-use Rattle.fz_tree.specs.of_lex.Token.{TokenValue}
+use Rattle.fz_tree.specs.Token.{TokenValue}
 use Rattle.fz_tree.specs.Tree.{Tree, Printed}
 use Rattle.fz_tree.specs.Tokens.{toks, itoks}
-use Rattle.fz_tree.specs.of_lex.declared.limits.Limits.{Limits}
+use Rattle.fz_tree.specs.declared.limits.Limits.{Limits}
 use Rattle.fz_tree.specs.Text.{HasShape, IsPrinted, IsTextOfTreeWithin, IsTextOfItemsWithin}
 use Rattle.fz_syntax.specs.Reading.{Fault, tree_of}
 use Rattle.fz_syntax.specs.ReadingItems.{items_of}

@@ -1,12 +1,12 @@
 -- The laws of annotations.
 use Rattle.std.proofs.Common.{◌≡◌, ℕ, zero, suc, ◌≤◌, Bool, true, false, cond, List, [], ◌∷◌, ◌++◌, length, drop, Ok, refl, sym, ap, subst, ◌∙◌, append_assoc, arith, ◌||◌}
 use Rattle.std.specs.List.{AllByRecursion}
-use Rattle.fz_tree.specs.of_lex.declared.token.Mark.TheVariants.{OpenParen, CloseParen, OpenBracket, CloseBracket, ColonColon}
-use Rattle.fz_tree.specs.of_lex.Token.{TokenValue, FloatText, StringText, Marked}
+use Rattle.fz_tree.specs.declared.token.Mark.TheVariants.{OpenParen, CloseParen, OpenBracket, CloseBracket, ColonColon}
+use Rattle.fz_tree.specs.Token.{TokenValue, FloatText, StringText, Marked}
 use Rattle.fz_tree.specs.Tree.{Literal, Truth, Note, Called, NoteArgs, NoMoreArgs, MoreArgs, NoteArg, OneBasic, ListOf, NoteBasics, NoMoreBasics, MoreBasics, NoteBasic, NoteLiteral, NoteFloat, NoteString, Inner}
 use Rattle.fz_tree.specs.Tokens.{mark, literal_toks, in_parens, in_brackets, note_toks, args_toks, arg_toks, basics_toks, note_basic_toks, notes_toks, separated}
 use Rattle.fz_tree.specs.View.{arg_list, basic_list}
-use Rattle.fz_tree.specs.of_lex.declared.limits.Limits.{Limits}
+use Rattle.fz_tree.specs.declared.limits.Limits.{Limits}
 use Rattle.fz_tree.specs.Text.{IsNote, AreArgs, IsArg, AreBasics, IsNoteBasic, AreNotes, count_basics}
 use Rattle.fz_syntax.specs.Reading.{Reader, ◌>>=◌, is_mark, next_passes, next_is, after_token, any_number, is_name, literal_at, note_at, note_args_at, note_arg_at, note_basic_at, notes_at}
 use Rattle.fz_syntax.proofs.Separated.{Shrinks-after_token}

@@ -4,16 +4,16 @@ use Rattle.std.proofs.Common.{◌≡◌, ℕ, zero, suc, ◌+◌, Bool, true, fa
 use Rattle.std.specs.Prelude.{◌≤◌, ◌<◌, ◌⊎◌, Option, Some, None, IfSome, IfNone, is_some}
 use Rattle.std.specs.List.{flat_map}
 use Rattle.std.proofs.lemmas.List.{append-nil}
-use Rattle.fz_tree.specs.of_lex.Ahead.{tokens_ahead}
-use Rattle.fz_tree.specs.of_lex.Left.{left, source_of}
-use Rattle.fz_tree.specs.of_lex.Lexing.{SpannedToken, LexesWithin}
-use Rattle.fz_tree.specs.of_lex.declared.limits.Limits.{Limits}
-use Rattle.fz_tree.specs.of_lex.View.{IsLexicalFaultWithin, IsPlacedWithin, spanned, AreWithinLimit, LexesToSpanned}
-use Rattle.fz_tree.specs.of_lex.declared.ahead.Tokens.{Tokens}
-use Rattle.fz_tree.specs.of_lex.declared.token.Token.{Token}
-use Rattle.fz_tree.specs.of_lex.Token.{TokenValue}
-use Rattle.fz_tree.specs.of_lex.declared.error.SyntaxError.{SyntaxError}
-use Rattle.fz_tree.specs.of_lex.declared.error.SyntaxError.TheVariants as errors
+use Rattle.fz_tree.specs.Ahead.{tokens_ahead}
+use Rattle.fz_tree.specs.Left.{left, source_of}
+use Rattle.fz_tree.specs.Lexing.{SpannedToken, LexesWithin}
+use Rattle.fz_tree.specs.declared.limits.Limits.{Limits}
+use Rattle.fz_tree.specs.Spanned.{IsLexicalFaultWithin, IsPlacedWithin, spanned, AreWithinLimit, LexesToSpanned}
+use Rattle.fz_tree.specs.declared.ahead.Tokens.{Tokens}
+use Rattle.fz_tree.specs.declared.token.Token.{Token}
+use Rattle.fz_tree.specs.Token.{TokenValue}
+use Rattle.fz_tree.specs.declared.error.SyntaxError.{SyntaxError}
+use Rattle.fz_tree.specs.declared.error.SyntaxError.TheVariants as errors
 use Rattle.fz_tree.specs.Tree as tree
 use Rattle.fz_syntax.specs.declared.parser.cursor.Parser.{Parser}
 use Rattle.fz_syntax.specs.declared.parser.refusal.Refusal.{Refusal}

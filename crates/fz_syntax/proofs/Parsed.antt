@@ -3,16 +3,16 @@ use Rattle.std.proofs.Common.{Vec, Global, ◌≡◌, ◌∙◌, ◌≤◌, ℕ,
 use Rattle.std.specs.Prelude.{MatchResult}
 use Rattle.std.specs.List.{All, AllByRecursion}
 use Rattle.std.proofs.lemmas.List.Elements.{All-from_recursion}
-use Rattle.fz_tree.specs.of_lex.Token.{TokenValue, IsTokenText}
-use Rattle.fz_tree.specs.of_lex.Lexing.{SpannedToken, nothing, IsTextOfTokensWithin}
-use Rattle.fz_tree.specs.of_lex.View.{AreWithinLimit, LexesToSpanned}
-use Rattle.fz_tree.specs.of_lex.declared.limits.Limits.{Limits}
-use Rattle.fz_tree.specs.of_lex.Found.{AreInOrder}
-use Rattle.fz_tree.specs.of_lex.Ahead.{tokens_ahead}
-use Rattle.fz_tree.proofs.of_lex.Texts.{words_are_words}
-use Rattle.fz_tree.proofs.of_lex.AheadLaws.{lexed_ahead}
-use Rattle.fz_tree.specs.of_lex.declared.error.SyntaxError.{SyntaxError}
-use Rattle.fz_tree.specs.of_lex.declared.error.SyntaxError.TheVariants as errors
+use Rattle.fz_tree.specs.Token.{TokenValue, IsTokenText}
+use Rattle.fz_tree.specs.Lexing.{SpannedToken, nothing, IsTextOfTokensWithin}
+use Rattle.fz_tree.specs.Spanned.{AreWithinLimit, LexesToSpanned}
+use Rattle.fz_tree.specs.declared.limits.Limits.{Limits}
+use Rattle.fz_tree.specs.Found.{AreInOrder}
+use Rattle.fz_tree.specs.Ahead.{tokens_ahead}
+use Rattle.fz_tree.proofs.Texts.{words_are_words}
+use Rattle.fz_tree.proofs.AheadLaws.{lexed_ahead}
+use Rattle.fz_tree.specs.declared.error.SyntaxError.{SyntaxError}
+use Rattle.fz_tree.specs.declared.error.SyntaxError.TheVariants as errors
 use Rattle.fz_tree.specs.View.{bare_printed, bare_items}
 use Rattle.fz_syntax.specs.declared.parser.cursor.Parser.{Parser}
 use Rattle.fz_tree.specs.declared.tree.Printed.{Printed as Item}

@@ -5,10 +5,10 @@ use Rattle.std.specs.Str.{bytes_eq}
 use Rattle.std.proofs.lemmas.Bool.Decides.{nat_tests}
 use Rattle.std.proofs.lemmas.Slice.Eq.{bytes_eq-Decides}
 use Rattle.std.proofs.lemmas.List.{append-nil}
-use Rattle.fz_tree.specs.of_lex.declared.token.Mark.TheVariants.{OpenParen, CloseParen, OpenBracket, CloseBracket, Comma, Semicolon, Equals}
-use Rattle.fz_tree.specs.of_lex.Token.{TokenValue, Word, Marked}
+use Rattle.fz_tree.specs.declared.token.Mark.TheVariants.{OpenParen, CloseParen, OpenBracket, CloseBracket, Comma, Semicolon, Equals}
+use Rattle.fz_tree.specs.Token.{TokenValue, Word, Marked}
 use Rattle.fz_tree.specs.Tree.{Literal, Truth, PrintedValue, OneValue, ArrayOf, Printed}
-use Rattle.fz_tree.specs.of_lex.declared.limits.Limits.{Limits}
+use Rattle.fz_tree.specs.declared.limits.Limits.{Limits}
 use Rattle.fz_tree.specs.Text.{IsLiteral, IsBounds, IsPrintedValue, IsPrinted}
 use Rattle.fz_tree.specs.Tokens.{mark, word, literal_toks, separated, array_word, printed_value_toks, printed_toks, itoks}
 use Rattle.fz_syntax.specs.Reading.{is_name, ended}

@@ -2,11 +2,11 @@
 use Rattle.std.proofs.Common.{◌≡◌, ◌+◌, ℕ, Bool, true, false, cond, drop, List, [], ◌∷◌, ◌++◌, length, map, Ok, Err, refl, sym, ap, subst, ◌∙◌, arith, length-append}
 use Rattle.std.proofs.lemmas.List.{length-map, map_push}
 use Rattle.fz_syntax.specs.declared.parser.refusal.Refusal.{Refusal}
-use Rattle.fz_tree.specs.of_lex.declared.token.Mark.{Mark}
-use Rattle.fz_tree.specs.of_lex.declared.token.Mark.TheVariants.{Comma, ColonColon}
-use Rattle.fz_tree.specs.of_lex.Token.{TokenValue}
+use Rattle.fz_tree.specs.declared.token.Mark.{Mark}
+use Rattle.fz_tree.specs.declared.token.Mark.TheVariants.{Comma, ColonColon}
+use Rattle.fz_tree.specs.Token.{TokenValue}
 use Rattle.fz_tree.specs.Tree.{Note}
-use Rattle.fz_tree.specs.of_lex.declared.limits.Limits.{Limits}
+use Rattle.fz_tree.specs.declared.limits.Limits.{Limits}
 use Rattle.fz_syntax.specs.Reading.{Read, Reader, is_mark, next_is, next_passes, many_at, after_token, separated_at, any_number, note_at, notes_at}
 use Rattle.fz_syntax.specs.Outcome.{Fails}
 use Rattle.fz_syntax.proofs.Lists.{with_front, Shrinks, loop_step, loop_fails, loop_ends}

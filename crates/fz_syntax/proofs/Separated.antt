@@ -3,9 +3,9 @@
 use Rattle.std.proofs.Common.{◌≡◌, ℕ, cond, List, [], ◌∷◌, drop, Result, Ok, Err, refl, ap, arith, length-drop}
 use Rattle.fz_syntax.specs.declared.parser.refusal.Refusal.{Refusal}
 use Rattle.fz_syntax.specs.declared.parser.refusal.Refusal.TheVariants as refusals
-use Rattle.fz_tree.specs.of_lex.declared.token.Mark.{Mark}
-use Rattle.fz_tree.specs.of_lex.declared.token.Mark.TheVariants.{Comma}
-use Rattle.fz_tree.specs.of_lex.Token.{TokenValue}
+use Rattle.fz_tree.specs.declared.token.Mark.{Mark}
+use Rattle.fz_tree.specs.declared.token.Mark.TheVariants.{Comma}
+use Rattle.fz_tree.specs.Token.{TokenValue}
 use Rattle.fz_syntax.specs.Reading.{Fault, Read, Reader, ◌>>=◌, is_mark, next_is, many_at, after_token, separated_at}
 use Rattle.fz_syntax.specs.Outcome.{Fails}
 use Rattle.fz_syntax.proofs.Lists.{Shrinks, with_front}

@@ -3,15 +3,15 @@ use Rattle.std.proofs.Common.{◌≡◌, ◌≤◌, ◌<◌, ℕ, List, [], ◌�
 use Rattle.std.specs.List.{flat_map, AllByRecursion}
 use Rattle.std.specs.Option.{option_or}
 use Rattle.std.proofs.lemmas.List.{append-nil}
-use Rattle.fz_tree.specs.of_lex.Token.{TokenValue, Word, Whole, Marked, Spells}
-use Rattle.fz_tree.specs.of_lex.declared.token.Mark.{Mark}
-use Rattle.fz_tree.specs.of_lex.declared.token.Mark.TheVariants.{OpenParen, CloseParen, OpenBracket, CloseBracket, OpenBrace, CloseBrace, DotDot, Comma, Semicolon, Equals}
-use Rattle.fz_tree.specs.of_lex.Lexing.{SpannedToken}
-use Rattle.fz_tree.specs.of_lex.Found.{AreInOrder}
-use Rattle.fz_tree.specs.of_lex.Ahead.{tokens_ahead}
-use Rattle.fz_tree.specs.of_lex.View.{IsSpanWithin, IsSpelledAtSpan, LexesToSpanned}
-use Rattle.fz_tree.proofs.of_lex.Cuts.{cut_ordered}
-use Rattle.fz_tree.proofs.of_lex.Texts.{cut_spelled}
+use Rattle.fz_tree.specs.Token.{TokenValue, Word, Whole, Marked, Spells}
+use Rattle.fz_tree.specs.declared.token.Mark.{Mark}
+use Rattle.fz_tree.specs.declared.token.Mark.TheVariants.{OpenParen, CloseParen, OpenBracket, CloseBracket, OpenBrace, CloseBrace, DotDot, Comma, Semicolon, Equals}
+use Rattle.fz_tree.specs.Lexing.{SpannedToken}
+use Rattle.fz_tree.specs.Found.{AreInOrder}
+use Rattle.fz_tree.specs.Ahead.{tokens_ahead}
+use Rattle.fz_tree.specs.Spanned.{IsSpanWithin, IsSpelledAtSpan, LexesToSpanned}
+use Rattle.fz_tree.proofs.Cuts.{cut_ordered}
+use Rattle.fz_tree.proofs.Texts.{cut_spelled}
 use Rattle.fz_tree.specs.Tree as tree
 use Rattle.fz_tree.specs.Tokens.{mark, truth_word, number_toks, separated, literal_toks, array_word}
 use Rattle.fz_tree.specs.View.{bare_literal}

@@ -3,10 +3,10 @@ use Rattle.std.proofs.Common.{◌≡◌, ℕ, pos, ◌≤◌, Bool, true, false,
 use Rattle.std.specs.Prelude.{codes, nat_le, IfSome}
 use Rattle.std.proofs.lemmas.Bool.{leb-true, le-leb}
 use Rattle.std.proofs.lemmas.Bool.Decides.{Decides-int_eq}
-use Rattle.fz_tree.specs.of_lex.declared.token.Mark.TheVariants.{OpenBracket, CloseBracket, OpenBrace, DotDot}
-use Rattle.fz_tree.specs.of_lex.Token.{TokenValue, Word, Whole, Marked}
+use Rattle.fz_tree.specs.declared.token.Mark.TheVariants.{OpenBracket, CloseBracket, OpenBrace, DotDot}
+use Rattle.fz_tree.specs.Token.{TokenValue, Word, Whole, Marked}
 use Rattle.fz_tree.specs.Tree.{Literal, Range, Braces, Base, BoolBase, IntBase, SetBase}
-use Rattle.fz_tree.specs.of_lex.declared.limits.Limits.{Limits}
+use Rattle.fz_tree.specs.declared.limits.Limits.{Limits}
 use Rattle.fz_tree.specs.Text.{IsBounds, IsBase, IsPlain, IsBaseOf, IsAnyIndex, IsParamArray, most_indexes}
 use Rattle.fz_tree.specs.Tokens.{mark, word, literal_toks, separated, in_brackets, bounds_toks, base_toks, var_toks, index_toks, prefix_toks, any_index_toks, param_prefix_toks}
 use Rattle.fz_syntax.specs.Reading.{Reader, ◌>>=◌, is_mark, is_word, is_whole, next_is, next_word, next_passes, whole_at, mark_at, word_at, range_at, bounds_at, int_at, base_at, plain_at, type_at, is_one, one_at, size_at, index_at, array_at, any_index_at, param_prefix_at, prefix_at, var_at, listed_index, separated_at}

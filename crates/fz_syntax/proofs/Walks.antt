@@ -7,15 +7,15 @@ use Rattle.std.specs.Bool.{OnFalse}
 use Rattle.std.proofs.lemmas.List.{append-nil, append_cancel_right, map-append, length-map}
 use Rattle.std.proofs.lemmas.Bool.{eqb-true, cases_Bool}
 use Rattle.std.proofs.lemmas.Grind.{flat_map-append}
-use Rattle.fz_tree.specs.of_lex.of_base.declared.span.Span.{Span}
-use Rattle.fz_tree.specs.of_lex.Token.{TokenValue, Word, Marked}
-use Rattle.fz_tree.specs.of_lex.Lexing.{SpannedToken}
-use Rattle.fz_tree.specs.of_lex.Left.{left, listed_comma, source_of}
-use Rattle.fz_tree.specs.of_lex.declared.ahead.Listed.{Listed}
-use Rattle.fz_tree.specs.of_lex.View.{spanned}
-use Rattle.fz_tree.specs.of_lex.declared.token.Mark.{Mark}
-use Rattle.fz_tree.specs.of_lex.declared.token.Mark.TheVariants.{OpenParen, CloseParen, OpenBracket, CloseBracket, Comma}
-use Rattle.fz_tree.specs.of_lex.declared.token.Token.{Token}
+use Rattle.fz_tree.specs.of_base.declared.span.Span.{Span}
+use Rattle.fz_tree.specs.Token.{TokenValue, Word, Marked}
+use Rattle.fz_tree.specs.Lexing.{SpannedToken}
+use Rattle.fz_tree.specs.Left.{left, listed_comma, source_of}
+use Rattle.fz_tree.specs.declared.ahead.Listed.{Listed}
+use Rattle.fz_tree.specs.Spanned.{spanned}
+use Rattle.fz_tree.specs.declared.token.Mark.{Mark}
+use Rattle.fz_tree.specs.declared.token.Mark.TheVariants.{OpenParen, CloseParen, OpenBracket, CloseBracket, Comma}
+use Rattle.fz_tree.specs.declared.token.Token.{Token}
 use Rattle.fz_tree.specs.Tree as tree
 use Rattle.fz_tree.specs.Tokens.{mark, word, literal_toks, var_toks, array_word}
 use Rattle.fz_tree.specs.View.{lexeme, bare_literal, bare_literal_kind}

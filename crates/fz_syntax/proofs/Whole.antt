@@ -1,16 +1,16 @@
 -- All of the tokens: what is read of them is of the grammar, spelled by them, and only that.
 use Rattle.std.proofs.Common.{ℕ, ◌≡◌, ◌∙◌, ◌<◌, List, [], ◌∷◌, length, Result, Ok, Err, ap, arith}
 use Rattle.std.proofs.lemmas.List.{append-nil}
-use Rattle.fz_tree.specs.of_lex.declared.error.SyntaxError.{SyntaxError}
-use Rattle.fz_tree.specs.of_lex.declared.error.SyntaxError.TheVariants as errors
+use Rattle.fz_tree.specs.declared.error.SyntaxError.{SyntaxError}
+use Rattle.fz_tree.specs.declared.error.SyntaxError.TheVariants as errors
 use Rattle.fz_syntax.specs.declared.parser.refusal.Refusal.{Refusal}
 use Rattle.fz_syntax.specs.declared.parser.refusal.Refusal.TheVariants as refusals
-use Rattle.fz_tree.specs.of_lex.Token.{TokenValue}
+use Rattle.fz_tree.specs.Token.{TokenValue}
 use Rattle.fz_syntax.specs.Reading.{Fault, Read, Reader, ended, whole}
 use Rattle.fz_syntax.specs.Outcome.{IsWhole, IsErrorOf, Fails}
-use Rattle.fz_tree.specs.of_lex.Lexing.{SpannedToken, LexesWithin}
-use Rattle.fz_tree.specs.of_lex.View.{IsLexicalFaultWithin}
-use Rattle.fz_tree.specs.of_lex.declared.limits.Limits.{Limits}
+use Rattle.fz_tree.specs.Lexing.{SpannedToken, LexesWithin}
+use Rattle.fz_tree.specs.Spanned.{IsLexicalFaultWithin}
+use Rattle.fz_tree.specs.declared.limits.Limits.{Limits}
 use Rattle.fz_tree.specs.Refusals.{IsValue, IsRefusalWithin}
 use Rattle.fz_syntax.proofs.Laws.{Takes}
 use Rattle.fz_syntax.proofs.Separated.{fails_from}

@@ -6,20 +6,20 @@ pub mod Placed
 pub mod Walk
 pub mod Offering
 pub mod Words
-pub use Rattle.fz_tree.specs.of_lex.Token
-pub use Rattle.fz_tree.specs.of_lex.Lexing
-pub use Rattle.fz_tree.specs.of_lex.View as Places
-pub use Rattle.fz_tree.specs.of_lex.of_base.Sets
-pub use Rattle.fz_tree.specs.of_lex.of_base.Ranges
-pub use Rattle.fz_tree.specs.of_lex.declared.error.SyntaxError
-pub use Rattle.fz_tree.specs.of_lex.declared.limits.Limits
-pub use Rattle.fz_tree.specs.of_lex.declared.token.Mark
-pub use Rattle.fz_tree.specs.of_lex.declared.token.TokenKind
-pub use Rattle.fz_tree.specs.of_lex.of_base.declared.span.Span
+pub use Rattle.fz_tree.specs.Token
+pub use Rattle.fz_tree.specs.Lexing
+pub use Rattle.fz_tree.specs.Spanned as Places
+pub use Rattle.fz_tree.specs.of_base.Sets
+pub use Rattle.fz_tree.specs.of_base.Ranges
+pub use Rattle.fz_tree.specs.declared.error.SyntaxError
+pub use Rattle.fz_tree.specs.declared.limits.Limits
+pub use Rattle.fz_tree.specs.declared.token.Mark
+pub use Rattle.fz_tree.specs.declared.token.TokenKind
+pub use Rattle.fz_tree.specs.of_base.declared.span.Span
 pub use Rattle.fz_tree.specs.Tree
 pub use Rattle.fz_tree.specs.View
 pub use Rattle.fz_tree.specs.Tokens
 pub use Rattle.fz_tree.specs.Text
 pub use Rattle.fz_tree.specs.Print
 pub use Rattle.fz_tree.specs.Refusals
-pub use Rattle.fz_tree.specs.of_lex.AnyLength
+pub use Rattle.fz_tree.specs.AnyLength

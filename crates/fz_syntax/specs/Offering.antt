@@ -5,16 +5,16 @@
 -- left.
 use Rattle.std.specs.Prelude.{◌≡◌, ◌<◌, ◌≤◌, ℕ, List, [], ◌∷◌, ◌++◌, map, length, codes, Bool, None, Result, Ok, Err}
 use Rattle.std.specs.List.{flat_map}
-use Rattle.fz_tree.specs.of_lex.View.{IsLexicalFaultWithin, IsPlacedWithin}
-use Rattle.fz_tree.specs.of_lex.Lexing.{LexesWithin, SpannedToken}
-use Rattle.fz_tree.specs.of_lex.declared.limits.Limits.{Limits}
+use Rattle.fz_tree.specs.Spanned.{IsLexicalFaultWithin, IsPlacedWithin}
+use Rattle.fz_tree.specs.Lexing.{LexesWithin, SpannedToken}
+use Rattle.fz_tree.specs.declared.limits.Limits.{Limits}
 use Rattle.fz_syntax.specs.Outcome.{IsErrorOf}
 use Rattle.fz_syntax.specs.declared.parser.refusal.Refusal.{Refusal}
-use Rattle.fz_tree.specs.of_lex.Ahead.{tokens_ahead}
-use Rattle.fz_tree.specs.of_lex.Left.{source_of}
-use Rattle.fz_tree.specs.of_lex.Token.{TokenValue}
-use Rattle.fz_tree.specs.of_lex.declared.error.SyntaxError.{SyntaxError}
-use Rattle.fz_tree.specs.of_lex.declared.error.SyntaxError.TheVariants.{Memory}
+use Rattle.fz_tree.specs.Ahead.{tokens_ahead}
+use Rattle.fz_tree.specs.Left.{source_of}
+use Rattle.fz_tree.specs.Token.{TokenValue}
+use Rattle.fz_tree.specs.declared.error.SyntaxError.{SyntaxError}
+use Rattle.fz_tree.specs.declared.error.SyntaxError.TheVariants.{Memory}
 use Rattle.fz_tree.specs.Tree as tree
 use Rattle.fz_syntax.specs.declared.parser.cursor.Parser.{Parser}
 use Rattle.fz_syntax.specs.declared.reader.Offer.{Offer}

@@ -1,15 +1,15 @@
 -- Used only by private functions: a reader of the contracts need not believe this file. How what a
 -- method of the parser returned agrees with what the definitions in Reading give.
 use Rattle.std.specs.Prelude.{◌≡◌, List, ◌∷◌, Result, Ok, Err}
-use Rattle.fz_tree.specs.of_lex.declared.error.SyntaxError.{SyntaxError}
-use Rattle.fz_tree.specs.of_lex.declared.error.SyntaxError.TheVariants as errors
+use Rattle.fz_tree.specs.declared.error.SyntaxError.{SyntaxError}
+use Rattle.fz_tree.specs.declared.error.SyntaxError.TheVariants as errors
 use Rattle.fz_syntax.specs.declared.parser.refusal.Refusal.{Refusal}
 use Rattle.fz_syntax.specs.declared.parser.refusal.Refusal.TheVariants as refusals
 use Rattle.fz_syntax.specs.declared.parser.cursor.Parser.{Parser}
 use Rattle.fz_syntax.specs.declared.parser.kinds.Plain.{Plain}
 use Rattle.fz_syntax.specs.declared.parser.kinds.Plain.TheVariants as plains
-use Rattle.fz_tree.specs.of_lex.Token.{TokenValue, Word, Whole, Marked}
-use Rattle.fz_tree.specs.of_lex.declared.token.Mark.TheVariants.{Comma}
+use Rattle.fz_tree.specs.Token.{TokenValue, Word, Whole, Marked}
+use Rattle.fz_tree.specs.declared.token.Mark.TheVariants.{Comma}
 use Rattle.fz_tree.specs.declared.tree.LiteralKind.{LiteralKind}
 use Rattle.fz_tree.specs.declared.tree.LiteralKind.TheVariants as literals
 use Rattle.fz_tree.specs.Tree.{Literal, Number, Truth}

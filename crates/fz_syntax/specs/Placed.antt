@@ -3,11 +3,11 @@
 -- last one ends. Without the offsets the lists are those of Tokens. (This project's profile.)
 use Rattle.std.specs.Prelude.{◌≡◌, ℕ, List, [], ◌∷◌, ◌++◌, length, map, Option, Some, None, IfSome, codes}
 use Rattle.std.specs.List.{flat_map}
-use Rattle.fz_tree.specs.of_lex.declared.token.Mark.{Mark}
-use Rattle.fz_tree.specs.of_lex.declared.token.Mark.TheVariants.{OpenParen, CloseParen, OpenBracket, CloseBracket, Comma, Semicolon, Colon, ColonColon, Equals}
-use Rattle.fz_tree.specs.of_lex.Token.{TokenValue, Word, FloatText, StringText, Marked}
-use Rattle.fz_tree.specs.of_lex.Lexing.{SpannedToken}
-use Rattle.fz_tree.specs.of_lex.View.{LexesToSpanned}
+use Rattle.fz_tree.specs.declared.token.Mark.{Mark}
+use Rattle.fz_tree.specs.declared.token.Mark.TheVariants.{OpenParen, CloseParen, OpenBracket, CloseBracket, Comma, Semicolon, Colon, ColonColon, Equals}
+use Rattle.fz_tree.specs.Token.{TokenValue, Word, FloatText, StringText, Marked}
+use Rattle.fz_tree.specs.Lexing.{SpannedToken}
+use Rattle.fz_tree.specs.Spanned.{LexesToSpanned}
 use Rattle.fz_tree.specs.Tokens.{literal_toks, prefix_toks, param_prefix_toks, var_toks, array_word}
 use Rattle.fz_tree.specs.View.{bare_literal, bare_indexes}
 use Rattle.fz_tree.specs.declared.tree.Literal.{Literal}

@@ -2,10 +2,10 @@
 -- printed items from the front of a token list, as Reading does for a tree.
 use Rattle.std.specs.Prelude.{ℕ, zero, suc, if◌then◌else◌, ◌==◌, List, [], ◌∷◌, drop, Result, Ok, codes}
 use Rattle.std.specs.Str.{bytes_eq}
-use Rattle.fz_tree.specs.of_lex.declared.token.Mark.TheVariants.{OpenParen, CloseParen, OpenBracket, CloseBracket, Comma, Semicolon, Equals}
-use Rattle.fz_tree.specs.of_lex.Token.{TokenValue, Word}
+use Rattle.fz_tree.specs.declared.token.Mark.TheVariants.{OpenParen, CloseParen, OpenBracket, CloseBracket, Comma, Semicolon, Equals}
+use Rattle.fz_tree.specs.Token.{TokenValue, Word}
 use Rattle.fz_tree.specs.Tree.{Literal, PrintedValue, OneValue, ArrayOf, Printed}
-use Rattle.fz_tree.specs.of_lex.declared.limits.Limits.{Limits}
+use Rattle.fz_tree.specs.declared.limits.Limits.{Limits}
 use Rattle.fz_syntax.specs.Reading.{Fault, Reader, ◌>>=◌, mark_at, name_at, is_name, many_at, any_number, at_most, list_at, literal_at, bounds_at, whole}
 
 -- how many index sets the array that the word begins has; 0 where the word begins no array

@@ -2,7 +2,7 @@
 -- by its placed tokens. (This project's profile.)
 use Rattle.std.specs.Prelude.{◌≡◌, ◌≤◌, ◌<◌, ℕ, List, [], ◌∷◌, Option, Some, None, IfSome, slice_range}
 use Rattle.std.specs.Option.{option_or}
-use Rattle.fz_tree.specs.of_lex.Token.{TokenValue, Word}
+use Rattle.fz_tree.specs.Token.{TokenValue, Word}
 use Rattle.fz_tree.specs.declared.tree.Ast.{Ast}
 use Rattle.fz_tree.specs.declared.tree.Printed.{Printed}
 use Rattle.fz_syntax.specs.Placed.{PlacedToken, placed_tree, placed_items}

@@ -1,11 +1,11 @@
 -- Used only by private functions: a reader of the contracts need not believe this file. What the
 -- parser has left to read, and what it took between two states.
 use Rattle.std.specs.Prelude.{◌≡◌, ◌≤◌, ℕ, List, [], ◌∷◌, ◌++◌, length, map, Some, Result, Ok, Err}
-use Rattle.fz_tree.specs.of_lex.of_base.declared.span.Span.{Span}
-use Rattle.fz_tree.specs.of_lex.declared.token.Mark.TheVariants.{Comma}
-use Rattle.fz_tree.specs.of_lex.Token.{TokenValue}
-use Rattle.fz_tree.specs.of_lex.Lexing.{SpannedToken}
-use Rattle.fz_tree.specs.of_lex.Left.{left, source_of}
+use Rattle.fz_tree.specs.of_base.declared.span.Span.{Span}
+use Rattle.fz_tree.specs.declared.token.Mark.TheVariants.{Comma}
+use Rattle.fz_tree.specs.Token.{TokenValue}
+use Rattle.fz_tree.specs.Lexing.{SpannedToken}
+use Rattle.fz_tree.specs.Left.{left, source_of}
 use Rattle.fz_syntax.specs.declared.parser.cursor.Parser.{Parser}
 use Rattle.fz_syntax.specs.declared.parser.refusal.Refusal.{Refusal}
 use Rattle.fz_syntax.specs.Placed.{PlacedToken, AgreeWith, placed_mark}

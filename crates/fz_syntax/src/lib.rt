@@ -1,9 +1,8 @@
 //! The syntax of FlatZinc: `parse` gives the tree of a model, `PredicateItems` its items one by one
 //! without a tree, `read_items` the items of a block of solver output, and `to_text` the canonical
 //! text of a tree. `parse_within` and `read_items_within` are the same under other limits. A
-//! facade: it also passes on the lexer, the errors and the limits of `fz_lex`, and the tree and the
-//! printer of `fz_tree`.
-//! Its worked cases are in `tests/cases` (`shown.txt`, `calls.txt`) and `tests/broken`.
+//! facade: it also passes on the lexer, the errors, the limits, the tree and the printer of
+//! `fz_tree`. Its worked cases are in `tests/cases` (`shown.txt`, `calls.txt`) and `tests/broken`.
 #![tactic(auto)]
 
 mod parser;

@@ -2,19 +2,19 @@
 
 ghost use Rattle.std.specs.Prelude.{◌≡◌, ◌<◌, ◌↔◌, length, List, [], IfOk, IfErr, MatchResult, Err};
 ghost use Rattle.std.specs.List.{AllByRecursion};
-ghost use Rattle.fz_tree.specs.of_lex.View.{IsPlacedWithin, most_bytes};
+ghost use Rattle.fz_tree.specs.Spanned.{IsPlacedWithin, most_bytes};
 ghost use Rattle.fz_syntax.specs.Walk.{Walk, ahead, lexemes};
 ghost use Rattle.fz_syntax.specs.Placed.{ArePlacedIn, placed_tree, placed_items};
 ghost use Rattle.fz_syntax.specs.Spots.{Stand, spots, item_spots};
 ghost use Rattle.fz_tree.specs.View.{bare, bare_items};
 ghost use Rattle.fz_syntax.specs.Outcome.{IsWhole};
-ghost use Rattle.fz_tree.specs.of_lex.declared.limits.Limits.{Limits};
+ghost use Rattle.fz_tree.specs.declared.limits.Limits.{Limits};
 ghost use Rattle.fz_tree.specs.Text.{IsTextOfTreeWithin, IsTextOfItemsWithin, IsTree, IsPrinted};
 ghost use Rattle.fz_tree.specs.Refusals.{IsValue, IsRefusalOf, IsRefusalWithin, IsTextOfTree, IsTextOfItems};
 ghost use Rattle.fz_syntax.specs.ReadingItems.{items_of};
 ghost use Rattle.fz_tree.specs.Tokens.{toks, itoks};
 ghost use Rattle.fz_tree.specs.Tree as tree;
-ghost use Rattle.fz_tree.specs.of_lex.declared.error.SyntaxError.TheVariants.{TooLong, Memory};
+ghost use Rattle.fz_tree.specs.declared.error.SyntaxError.TheVariants.{TooLong, Memory};
 
 mod annotations;
 pub(crate) mod cursor;

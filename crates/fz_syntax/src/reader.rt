@@ -3,7 +3,7 @@
 //! after an error.
 
 ghost use Rattle.std.specs.Prelude.{◌≡◌, ◌<◌, ◌≤◌, [], length, IfErr, IfOk, Err};
-ghost use Rattle.fz_tree.specs.of_lex.declared.error.SyntaxError.TheVariants.{TooLong};
+ghost use Rattle.fz_tree.specs.declared.error.SyntaxError.TheVariants.{TooLong};
 ghost use Rattle.fz_syntax.specs.Offering.{IsLeft, IsRefusedAt, IsRefusedBy, IsRefusedWithin, IsTextOfAllWithin, IsWithin, Offers, Took, TookAll, TookOne, all_items, from_constraints, from_decls, from_predicates, from_solve, left_of};
 
 use crate::parser::cursor::Parser;

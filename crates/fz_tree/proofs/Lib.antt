@@ -1,4 +1,19 @@
 pub mod PrintSteps
 pub mod PrintLaws
 pub mod PrintBack
-pub use Rattle.fz_lex.proofs as of_lex
+pub mod AheadLaws
+pub mod Covers
+pub mod Cuts
+pub mod Fronts
+pub mod Joined
+pub mod Lanes
+pub mod Laws
+pub mod Lexed
+pub mod Next
+pub mod Numbers
+pub mod Runs
+pub mod Short
+pub mod Spelled
+pub mod Spelling
+pub mod StringRest
+pub mod Texts

@@ -1,10 +1,10 @@
 -- The canonical text of a tree lexes to the tree's tokens, so it is a text of the tree where it is
 -- short enough.
 use Rattle.std.proofs.Common.{◌≡◌, ◌≤◌, ℕ, false, List, length, sym, subst}
-use Rattle.fz_lex.specs.declared.limits.Limits.{Limits}
-use Rattle.fz_lex.specs.AnyLength.{LexesWithNumbersInLimit}
-use Rattle.fz_lex.proofs.Joined.{joined_lexes}
-use Rattle.fz_lex.proofs.Texts.{lexed_texts, text_lexes, text_of_tokens}
+use Rattle.fz_tree.specs.declared.limits.Limits.{Limits}
+use Rattle.fz_tree.specs.AnyLength.{LexesWithNumbersInLimit}
+use Rattle.fz_tree.proofs.Joined.{joined_lexes}
+use Rattle.fz_tree.proofs.Texts.{lexed_texts, text_lexes, text_of_tokens}
 use Rattle.fz_tree.specs.Tree.{Tree}
 use Rattle.fz_tree.specs.Tokens.{toks}
 use Rattle.fz_tree.specs.Text.{IsTextOfTreeWithin, IsTree}

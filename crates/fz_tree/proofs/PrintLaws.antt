@@ -4,13 +4,13 @@ use Rattle.std.proofs.lemmas.List.{append-nil}
 use Rattle.std.specs.Prelude.{codes, ◌&&◌}
 use Rattle.std.specs.List.{AllByRecursion}
 use Rattle.std.specs.Fmt.{signed_decimal}
-use Rattle.fz_lex.specs.Token.{TokenValue, mark_text, Word, Whole, FloatText, StringText, Marked, IsTokenText}
-use Rattle.fz_lex.specs.Lexing.{IsTokenWithinLimit}
-use Rattle.fz_lex.specs.declared.token.Mark.TheVariants.{OpenParen, Semicolon, Colon, DotDot}
-use Rattle.fz_lex.specs.Scan.{fraction_len}
-use Rattle.fz_lex.proofs.Covers.{EndsNumber}
-use Rattle.fz_lex.proofs.Joined.{Joins, done, gap, text}
-use Rattle.fz_lex.proofs.Printed.{signed_decimal_writes}
+use Rattle.fz_tree.specs.Token.{TokenValue, mark_text, Word, Whole, FloatText, StringText, Marked, IsTokenText}
+use Rattle.fz_tree.specs.Lexing.{IsTokenWithinLimit}
+use Rattle.fz_tree.specs.declared.token.Mark.TheVariants.{OpenParen, Semicolon, Colon, DotDot}
+use Rattle.fz_tree.specs.Scan.{fraction_len}
+use Rattle.fz_tree.proofs.Covers.{EndsNumber}
+use Rattle.fz_tree.proofs.Joined.{Joins, done, gap, text}
+use Rattle.fz_tree.proofs.Spelling.{signed_decimal_writes}
 use Rattle.fz_tree.specs.Print.{token_text, blanks, tokens_text}
 use Rattle.fz_tree.specs.Printing.{Page, page, with_token, Prints}
 use Rattle.fz_tree.specs.declared.printer.Printer.{Printer}

@@ -2,8 +2,8 @@
 use Rattle.std.proofs.Common.{◌≡◌, ◌≤◌, ◌-◌, ℕ, List, [], ◌∷◌, ◌++◌, length, get_or, map, take, drop, fold, refl, sym, ap, ◌∙◌, arith}
 use Rattle.std.proofs.lemmas.List.{take_all, drop_more, length-drop}
 use Rattle.std.proofs.lemmas.List.Sums.{fold-append}
-use Rattle.fz_lex.specs.declared.token.Mark.TheVariants.{OpenParen, CloseParen, Comma}
-use Rattle.fz_lex.specs.Token.{TokenValue, Marked}
+use Rattle.fz_tree.specs.declared.token.Mark.TheVariants.{OpenParen, CloseParen, Comma}
+use Rattle.fz_tree.specs.Token.{TokenValue, Marked}
 use Rattle.fz_tree.specs.Tree.{NoteArg, NoteBasic}
 use Rattle.fz_tree.specs.Tokens.{mark, in_parens, after_commas, args_toks, more_args_toks, arg_toks, basics_toks, more_basics_toks, note_basic_toks}
 use Rattle.fz_tree.specs.View.{arg_list, basic_list}

@@ -3,9 +3,9 @@
 use Rattle.std.specs.Prelude.{ℕ, Bool, true, false, ◌&&◌, if◌then◌else◌, List, [], ◌∷◌, ◌++◌, codes}
 use Rattle.std.specs.List.{AllByRecursion}
 use Rattle.std.specs.Fmt.{signed_decimal}
-use Rattle.fz_lex.specs.declared.token.Mark.TheVariants.{OpenParen, CloseParen, OpenBracket, CloseBracket, OpenBrace, CloseBrace, Comma, Semicolon, Colon, DotDot}
-use Rattle.fz_lex.specs.Token.{TokenValue, Word, Whole, FloatText, StringText, Marked, mark_text, IsTokenText}
-use Rattle.fz_lex.specs.Lexing.{IsTokenWithinLimit}
+use Rattle.fz_tree.specs.declared.token.Mark.TheVariants.{OpenParen, CloseParen, OpenBracket, CloseBracket, OpenBrace, CloseBrace, Comma, Semicolon, Colon, DotDot}
+use Rattle.fz_tree.specs.Token.{TokenValue, Word, Whole, FloatText, StringText, Marked, mark_text, IsTokenText}
+use Rattle.fz_tree.specs.Lexing.{IsTokenWithinLimit}
 use Rattle.fz_tree.specs.Tree.{Tree}
 use Rattle.fz_tree.specs.Tokens.{toks}
 

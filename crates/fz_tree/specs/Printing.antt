@@ -1,7 +1,7 @@
 -- What the methods of the printer promise each other. A reader need not believe this file: what the
 -- crate promises doesn't speak of it.
 use Rattle.std.specs.Prelude.{◌≡◌, ℕ, Bool, List, [], ◌∷◌, ◌++◌, fold}
-use Rattle.fz_lex.specs.Token.{TokenValue}
+use Rattle.fz_tree.specs.Token.{TokenValue}
 use Rattle.fz_tree.specs.Print.{blanks, tokens_text}
 use Rattle.fz_tree.specs.declared.printer.Printer.{Printer}
 

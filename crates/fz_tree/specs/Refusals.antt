@@ -1,11 +1,11 @@
 -- What a call that reads a tree or printed items answers (the order of faults is this project's
 -- profile).
 use Rattle.std.specs.Prelude.{◌≡◌, ◌<◌, ℕ, List, length, Result, Ok, Err}
-use Rattle.fz_lex.specs.Lexing.{SpannedToken, LexesWithin}
-use Rattle.fz_lex.specs.View.{IsLexicalFaultWithin, standard_limits}
-use Rattle.fz_lex.specs.declared.limits.Limits.{Limits}
-use Rattle.fz_lex.specs.declared.error.SyntaxError.{SyntaxError}
-use Rattle.fz_lex.specs.declared.error.SyntaxError.TheVariants as errors
+use Rattle.fz_tree.specs.Lexing.{SpannedToken, LexesWithin}
+use Rattle.fz_tree.specs.Spanned.{IsLexicalFaultWithin, standard_limits}
+use Rattle.fz_tree.specs.declared.limits.Limits.{Limits}
+use Rattle.fz_tree.specs.declared.error.SyntaxError.{SyntaxError}
+use Rattle.fz_tree.specs.declared.error.SyntaxError.TheVariants as errors
 use Rattle.fz_tree.specs.Tree.{Tree, Printed}
 use Rattle.fz_tree.specs.Text.{IsTextOfTreeWithin, IsTextOfItemsWithin}
 

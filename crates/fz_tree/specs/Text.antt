@@ -2,11 +2,11 @@
 -- FlatZinc grammar; the limits are this project's profile.)
 use Rattle.std.specs.Prelude.{◌≡◌, ℕ, List, bytes_eq, length, map, ◌≤◌, ◌+◌, zero, suc, Bool, true, false, [], ◌∷◌, Option, Some, None, codes, IfSome}
 use Rattle.std.specs.List.{AllByRecursion, list_any}
-use Rattle.fz_lex.specs.Lexing.{IsTextOfTokensWithin}
-use Rattle.fz_lex.specs.declared.limits.Limits.{Limits}
+use Rattle.fz_tree.specs.Lexing.{IsTextOfTokensWithin}
+use Rattle.fz_tree.specs.declared.limits.Limits.{Limits}
 use Rattle.fz_tree.specs.Tree.{Tree, Printed, Literal, Number, Truth, Braces, Basic, Lit, Named, Expr, One, Several, Note, Called, NoteArgs, NoMoreArgs, MoreArgs, NoteArg, OneBasic, ListOf, NoteBasics, NoMoreBasics, MoreBasics, NoteBasic, NoteLiteral, Inner, Base, BoolBase, IntBase, SetBase, Param, Predicate, Decl, Constraint, Goal, Satisfy, Minimize, Maximize, Solve, PrintedValue, OneValue, ArrayOf}
 use Rattle.fz_tree.specs.Tokens.{toks, itoks}
-use Rattle.fz_lex.specs.Token.{IsTokenText}
+use Rattle.fz_tree.specs.Token.{IsTokenText}
 
 -- the words that are no names (MiniZinc Handbook; the list is this project's profile)
 abbrev pub reserved_words : List (List ℕ)

@@ -1,9 +1,9 @@
 -- The token list of a tree, by cases on its parts.
 -- (MiniZinc Handbook, FlatZinc grammar, read from a tree to its text.)
 use Rattle.std.specs.Prelude.{ℕ, ℤ, ◌+◌, length, pos, Bool, true, false, List, [], ◌∷◌, ◌++◌, Option, Some, None, codes, flat_map}
-use Rattle.fz_lex.specs.declared.token.Mark.{Mark}
-use Rattle.fz_lex.specs.declared.token.Mark.TheVariants.{OpenParen, CloseParen, OpenBracket, CloseBracket, OpenBrace, CloseBrace, Comma, Semicolon, Colon, ColonColon, Equals, DotDot}
-use Rattle.fz_lex.specs.Token.{TokenValue, Word, Whole, FloatText, StringText, Marked}
+use Rattle.fz_tree.specs.declared.token.Mark.{Mark}
+use Rattle.fz_tree.specs.declared.token.Mark.TheVariants.{OpenParen, CloseParen, OpenBracket, CloseBracket, OpenBrace, CloseBrace, Comma, Semicolon, Colon, ColonColon, Equals, DotDot}
+use Rattle.fz_tree.specs.Token.{TokenValue, Word, Whole, FloatText, StringText, Marked}
 use Rattle.fz_tree.specs.Tree.{Literal, Number, Truth, Range, Braces, Basic, Lit, Named, Expr, One, Several, Note, Called, NoteArgs, NoMoreArgs, MoreArgs, NoteArg, OneBasic, ListOf, NoteBasics, NoMoreBasics, MoreBasics, NoteBasic, NoteLiteral, NoteFloat, NoteString, Inner, Base, BoolBase, IntBase, SetBase, Param, Predicate, Decl, Constraint, Goal, Satisfy, Minimize, Maximize, Solve, Tree, PrintedValue, OneValue, ArrayOf, Printed}
 
 abbrev pub mark : Mark → List TokenValue

@@ -3,9 +3,9 @@ use Rattle.std.specs.Prelude.{ℕ, List, [], ◌∷◌, map, Option, option_map}
 use Rattle.std.specs.Global.{Vec}
 use Rattle.fz_tree.specs.Tree as tree
 use Rattle.fz_tree.specs.Tree.{NoMoreArgs, MoreArgs, NoMoreBasics, MoreBasics}
-use Rattle.fz_lex.specs.Token.{TokenValue}
-use Rattle.fz_lex.specs.View.{token_value}
-use Rattle.fz_lex.specs.declared.token.Token.{Token}
+use Rattle.fz_tree.specs.Token.{TokenValue}
+use Rattle.fz_tree.specs.Spanned.{token_value}
+use Rattle.fz_tree.specs.declared.token.Token.{Token}
 use Rattle.fz_tree.specs.declared.tree.LiteralKind.{LiteralKind}
 use Rattle.fz_tree.specs.declared.tree.LiteralKind.TheVariants as literals
 use Rattle.fz_tree.specs.declared.tree.Literal.{Literal}

@@ -2,9 +2,9 @@
 
 ghost use Rattle.std.specs.Prelude.{◌≡◌, ◌≤◌, ◌++◌, if◌then◌else◌, ℕ, ℤ, List, [], ◌∷◌, length, codes, OnOk, IfOk};
 ghost use Rattle.std.specs.Fmt.{signed_decimal};
-ghost use Rattle.fz_lex.specs.declared.limits.Limits.{Limits};
-ghost use Rattle.fz_lex.specs.Token.{Word, Whole, FloatText, StringText, Marked};
-ghost use Rattle.fz_lex.specs.AnyLength.{LexesWithNumbersInLimit};
+ghost use Rattle.fz_tree.specs.declared.limits.Limits.{Limits};
+ghost use Rattle.fz_tree.specs.Token.{Word, Whole, FloatText, StringText, Marked};
+ghost use Rattle.fz_tree.specs.AnyLength.{LexesWithNumbersInLimit};
 ghost use Rattle.fz_tree.specs.View.{bare};
 ghost use Rattle.fz_tree.specs.Tokens.{toks, index_toks};
 ghost use Rattle.fz_tree.specs.Text.{IsTextOfTreeWithin};
@@ -16,8 +16,8 @@ mod expressions;
 mod items;
 mod types;
 
+use crate::token::Mark;
 use crate::tree::Ast;
-use fz_lex::Mark;
 use itoa::Buffer;
 use std::alloc::{AllocError, Global};
 

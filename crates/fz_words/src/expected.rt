@@ -2,7 +2,7 @@
 
 use crate::grammar::{Effect, Sort, Symbol, begins_item, step_of, things};
 use crate::text::Given;
-use fz_lex::{Token, Tokens};
+use fz_tree::{Token, Tokens};
 use std::alloc::{AllocError, Global};
 
 /// The most things that are told.

@@ -1,7 +1,7 @@
 //! The grammar of FlatZinc and of printed items (`docs/LANGUAGE.md`), as what each token does to
 //! what is expected. It is used only to find words.
 
-use fz_lex::{Mark, Token, TokenKind};
+use fz_tree::{Mark, Token, TokenKind};
 
 /// Something that is expected.
 #[derive(Clone, Copy)]

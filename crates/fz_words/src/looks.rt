@@ -2,7 +2,7 @@
 
 use crate::grammar::begins_item;
 use crate::text::Given;
-use fz_lex::{Mark, TokenKind, Tokens};
+use fz_tree::{Mark, TokenKind, Tokens};
 
 /// Bytes that stand at an offset of a file of some kind, and what to say of it.
 #[derive(Clone, Copy)]

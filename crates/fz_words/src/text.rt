@@ -2,7 +2,7 @@
 
 use crate::expected::expected_at;
 use crate::looks::look_at;
-use fz_lex::SyntaxError;
+use fz_tree::SyntaxError;
 use std::alloc::{AllocError, Global};
 
 /// What a file was given as.

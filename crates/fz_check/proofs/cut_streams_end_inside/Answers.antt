@@ -1,5 +1,5 @@
 use Rattle.std.proofs.Common.{map}
-use Rattle.fz_judge.specs.of_stream.Parts.{frame_of}
+use Rattle.fz_filling.specs.of_stream.Parts.{frame_of}
 use Rattle.fz_check.proofs.CutLemmas.{open_not_framed}
 use Rattle.fz_check.proofs.cut_streams_end_inside.Goals as goal
 

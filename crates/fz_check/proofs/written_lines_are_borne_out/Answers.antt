@@ -1,6 +1,6 @@
 use Rattle.std.proofs.Common.{None, refl}
-use Rattle.fz_judge.specs.of_model.Names.{model_of}
-use Rattle.fz_judge.specs.of_stream.Parts.{blocks_in}
+use Rattle.fz_search.specs.of_model.Names.{model_of}
+use Rattle.fz_filling.specs.of_stream.Parts.{blocks_in}
 use Rattle.fz_check.specs.Claims.{no_account, verdicts_of}
 use Rattle.fz_check.proofs.ClaimLemmas.{all_true, outcomes_told}
 use Rattle.fz_check.proofs.ReportLemmas.{borne_out}

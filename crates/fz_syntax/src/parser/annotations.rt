@@ -4,7 +4,7 @@ ghost use Rattle.std.specs.Prelude.{◌<◌, ◌++◌, length, map, IfOk};
 ghost use Rattle.fz_tree.specs.View.{bare_note, bare_arg, bare_basic, bare_notes};
 ghost use Rattle.fz_syntax.specs.Outcome.{Gives};
 ghost use Rattle.fz_syntax.specs.Reading.{at_most, separated_at, note_at, note_args_at, note_arg_at, note_basic_at, any_number, notes_at, list_at};
-ghost use Rattle.fz_tree.specs.of_lex.declared.token.Mark.TheVariants.{CloseBracket};
+ghost use Rattle.fz_tree.specs.declared.token.Mark.TheVariants.{CloseBracket};
 ghost use Rattle.fz_syntax.specs.Placed.{placed_mark, placed_separated, placed_note, placed_arg, placed_args, placed_note_basic, placed_notes};
 ghost use Rattle.fz_syntax.specs.Walk.{Walks};
 

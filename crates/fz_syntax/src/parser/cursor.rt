@@ -3,8 +3,8 @@
 ghost use Rattle.std.specs.Prelude.{List, ◌∷◌, ◌≡◌, ◌≤◌, ◌<◌, ◌-◌, drop, length, if◌then◌else◌};
 ghost use Rattle.std.specs.Bool.{OnTrue, OnFalse};
 ghost use Rattle.std.specs.List.{All};
-ghost use Rattle.fz_tree.specs.of_lex.View.{IsSpanWithin, IsPlacedWithin};
-ghost use Rattle.fz_tree.specs.of_lex.Left.{left};
+ghost use Rattle.fz_tree.specs.Spanned.{IsSpanWithin, IsPlacedWithin};
+ghost use Rattle.fz_tree.specs.Left.{left};
 ghost use Rattle.fz_tree.specs.View.{bare_name};
 ghost use Rattle.fz_syntax.specs.Reading.{next_is, next_word, next_passes, mark_at, word_at, name_at, whole_at, is_name, is_whole, begins_decl};
 
@@ -33,9 +33,9 @@ impl<'a> Parser<'a> {
     ghost use Rattle.fz_syntax.specs.Outcome.{Gives, IsErrorOf};
     ghost use Rattle.fz_syntax.specs.Walk.{Passed, Passes, Walks, start_of, ahead, lexemes};
     ghost use Rattle.fz_syntax.specs.Placed.{placed_name};
-    ghost use Rattle.fz_tree.specs.of_lex.Lexing.{SpannedToken};
-    ghost use Rattle.fz_tree.specs.of_lex.Ahead.{tokens_ahead};
-    ghost use Rattle.fz_tree.specs.of_lex.Left.{source_of};
+    ghost use Rattle.fz_tree.specs.Lexing.{SpannedToken};
+    ghost use Rattle.fz_tree.specs.Ahead.{tokens_ahead};
+    ghost use Rattle.fz_tree.specs.Left.{source_of};
 
     /// A parser at the first token of a source.
     pub(crate) fn new(alloc: Global, source: &'a [u8]) -> Parser<'a>

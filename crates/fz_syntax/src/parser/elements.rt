@@ -1,9 +1,9 @@
 //! Lists of elements with commas between them.
 
 ghost use Rattle.std.specs.Prelude.{ℕ, List, [], ◌∷◌, Ok, ◌≡◌, ◌<◌, ◌++◌, length, map, IfSome, IfNone};
-ghost use Rattle.fz_tree.specs.of_lex.Token.{Marked};
-ghost use Rattle.fz_tree.specs.of_lex.declared.token.Mark.TheVariants.{Comma};
-ghost use Rattle.fz_tree.specs.of_lex.declared.limits.Limits.{Limits};
+ghost use Rattle.fz_tree.specs.Token.{Marked};
+ghost use Rattle.fz_tree.specs.declared.token.Mark.TheVariants.{Comma};
+ghost use Rattle.fz_tree.specs.declared.limits.Limits.{Limits};
 ghost use Rattle.fz_tree.specs.Tree as tree;
 ghost use Rattle.fz_tree.specs.View.{bare_expr, bare_expression, bare_literal, bare_param};
 ghost use Rattle.fz_syntax.specs.Outcome.{Gives};

@@ -4,8 +4,8 @@ ghost use Rattle.std.specs.Prelude.{◌≡◌, ◌<◌, ◌∷◌, ◌++◌, len
 ghost use Rattle.fz_tree.specs.View.{lexeme, bare_literal, bare_expression, bare_expr};
 ghost use Rattle.fz_syntax.specs.Outcome.{Gives, IsListed};
 ghost use Rattle.fz_syntax.specs.Reading.{whole_at, at_most, separated_at, braces_at, from_whole, literal_at, basic_at, expr_at, literal_basic_at};
-ghost use Rattle.fz_tree.specs.of_lex.Token.{Whole, Marked};
-ghost use Rattle.fz_tree.specs.of_lex.declared.token.Mark.TheVariants.{Comma};
+ghost use Rattle.fz_tree.specs.Token.{Whole, Marked};
+ghost use Rattle.fz_tree.specs.declared.token.Mark.TheVariants.{Comma};
 ghost use Rattle.fz_syntax.specs.Placed.{placed_mark, placed_literal, placed_basic, placed_expr};
 ghost use Rattle.fz_syntax.specs.Walk.{Walks, Walk, Passes, Passed, placed_listed, lexemes};
 

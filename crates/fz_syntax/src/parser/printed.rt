@@ -6,7 +6,7 @@ ghost use Rattle.fz_syntax.specs.Outcome.{Gives};
 ghost use Rattle.fz_syntax.specs.Reading.{any_number, many_at, is_name};
 ghost use Rattle.fz_syntax.specs.ReadingItems.{next_dimensions, index_set_at, index_sets_at, printed_array_at, printed_value_at, printed_at};
 ghost use Rattle.fz_syntax.specs.Placed.{placed_mark, placed_word, placed_literal, placed_indexes, placed_printed_value, placed_printed, placed_items};
-ghost use Rattle.fz_tree.specs.of_lex.declared.token.Mark.TheVariants.{Comma};
+ghost use Rattle.fz_tree.specs.declared.token.Mark.TheVariants.{Comma};
 ghost use Rattle.fz_tree.specs.Tokens.{array_word};
 ghost use Rattle.fz_syntax.specs.Walk.{Walks, Passed, lexemes};
 

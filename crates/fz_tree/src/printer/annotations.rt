@@ -6,8 +6,8 @@ ghost use Rattle.fz_tree.specs.Tokens.{note_toks, args_toks, arg_toks, basics_to
 ghost use Rattle.fz_tree.specs.Printing.{Prints};
 
 use crate::printer::Printer;
+use crate::token::Mark;
 use crate::tree::{Note, NoteArg, NoteBasic};
-use fz_lex::Mark;
 use std::alloc::AllocError;
 
 impl Printer {

@@ -6,8 +6,8 @@ ghost use Rattle.fz_tree.specs.Tokens.{separated, in_parens, number_toks, litera
 ghost use Rattle.fz_tree.specs.Printing.{Prints};
 
 use crate::printer::Printer;
+use crate::token::Mark;
 use crate::tree::{Basic, Expr, Literal, LiteralKind};
-use fz_lex::Mark;
 use std::alloc::AllocError;
 
 impl Printer {

@@ -7,8 +7,8 @@ ghost use Rattle.fz_tree.specs.Tokens.{in_parens, separated, param_toks, predica
 ghost use Rattle.fz_tree.specs.Printing.{Prints};
 
 use crate::printer::Printer;
+use crate::token::Mark;
 use crate::tree::{Ast, Constraint, Decl, Expr, Goal, Param, Predicate, Solve};
-use fz_lex::Mark;
 use std::alloc::AllocError;
 
 impl Printer {

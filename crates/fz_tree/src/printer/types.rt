@@ -6,8 +6,8 @@ ghost use Rattle.fz_tree.specs.Tokens.{separated, any_index_toks, bounds_toks, b
 ghost use Rattle.fz_tree.specs.Printing.{Prints};
 
 use crate::printer::Printer;
+use crate::token::Mark;
 use crate::tree::{Base, Literal};
-use fz_lex::Mark;
 use std::alloc::AllocError;
 
 impl Printer {

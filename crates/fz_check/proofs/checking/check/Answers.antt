@@ -1,7 +1,7 @@
 use Rattle.std.proofs.Common.{map, ap, sym, ◌∙◌, subst}
 use Rattle.std.specs.List.{AllByRecursion}
 use Rattle.std.proofs.lemmas.Result.{IfErr-weaker, IfOk-weaker}
-use Rattle.fz_judge.specs.of_stream.Found.{HasPlaces, IsReadAs, block_of, claims_in}
+use Rattle.fz_filling.specs.of_stream.Found.{HasPlaces, IsReadAs, block_of, claims_in}
 use Rattle.fz_check.specs.Claims.{standard_options}
 use Rattle.fz_check.specs.View.{answer_view, report_events}
 use Rattle.fz_check.proofs.Refusals.{block_refused}

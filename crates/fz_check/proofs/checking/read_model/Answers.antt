@@ -1,6 +1,6 @@
 use Rattle.std.proofs.Common.{◌≡◌, ◌≢◌, ◌∙◌, Err, ap, rules}
-use Rattle.fz_judge.specs.of_model.declared.LoadError.TheVariants as loads
-use Rattle.fz_judge.specs.of_syntax.SyntaxError.TheVariants as syntax
+use Rattle.fz_search.specs.of_model.declared.LoadError.TheVariants as loads
+use Rattle.fz_filling.specs.of_syntax.SyntaxError.TheVariants as syntax
 use Rattle.fz_check.proofs.Refusals.{text_fault}
 use Rattle.fz_check.proofs.checking.read_model.Goals as goal
 

@@ -1,6 +1,6 @@
 use Rattle.std.proofs.Common.{◌≢◌, rules}
-use Rattle.fz_judge.specs.of_model.declared.ModelError.TheVariants as names
-use Rattle.fz_judge.specs.of_syntax.View.{items_of_tree}
+use Rattle.fz_search.specs.of_model.declared.ModelError.TheVariants as names
+use Rattle.fz_filling.specs.of_syntax.View.{items_of_tree}
 use Rattle.fz_check.proofs.checking.read_sound_tree.Goals as goal
 
 pub returns-in-Err-load : goal.returns-in-Err-load

@@ -1,5 +1,5 @@
 use Rattle.std.proofs.Common.{◌≡◌, Err, ap, sym, subst}
-use Rattle.fz_judge.specs.of_stream.declared.error.StreamError.TheVariants as stream
+use Rattle.fz_filling.specs.of_stream.declared.error.StreamError.TheVariants as stream
 use Rattle.fz_check.specs.Telling.{IsStreamRefusal}
 use Rattle.fz_check.proofs.Refusals.{stream_fault_on}
 use Rattle.fz_check.proofs.checking.read_stream.Goals as goal

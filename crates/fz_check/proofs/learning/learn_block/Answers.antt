@@ -1,9 +1,9 @@
 use Rattle.std.proofs.Common.{◌≡◌, ◌∙◌, ap}
-use Rattle.fz_judge.specs.of_model.Meaning.{Model}
-use Rattle.fz_judge.specs.of_model.Parts.{goal_view}
-use Rattle.fz_judge.specs.of_stream.Found.{block_of}
-use Rattle.fz_judge.specs.of_filling.Judged.{JudgeState}
-use Rattle.fz_judge.specs.of_filling.View.{verdict_view}
+use Rattle.fz_search.specs.of_model.Meaning.{Model}
+use Rattle.fz_search.specs.of_model.Parts.{goal_view}
+use Rattle.fz_filling.specs.of_stream.Found.{block_of}
+use Rattle.fz_filling.specs.Judged.{JudgeState}
+use Rattle.fz_filling.specs.View.{verdict_view}
 use Rattle.fz_check.proofs.LearningLemmas.{learned}
 use Rattle.fz_check.proofs.learning.learn_block.Goals as goal
 

@@ -1,5 +1,5 @@
 use Rattle.std.proofs.Common.{Result, Ok, Err, OnOk}
-use Rattle.fz_judge.specs.of_stream.Lending.{part_of}
+use Rattle.fz_filling.specs.of_stream.Lending.{part_of}
 use Rattle.fz_check.proofs.learning.learn_next.Goals as goal
 
 -- what holds whatever the result

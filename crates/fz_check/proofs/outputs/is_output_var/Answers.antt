@@ -1,9 +1,9 @@
 use Rattle.std.proofs.Common.{◌≡◌, ℕ, Bool, true, List, [], ◌∷◌, map, length, ◌==◌, bytes_eq, codes, refl, sym, ap, ◌∙◌, arith}
 use Rattle.std.specs.Vec.{vec_len}
 use Rattle.std.proofs.lemmas.List.{length-map}
-use Rattle.fz_judge.specs.of_syntax.Tree as tree
+use Rattle.fz_filling.specs.of_syntax.Tree as tree
 use Rattle.std.proofs.Math.Dec.{eqb-suc-zero}
-use Rattle.fz_judge.specs.of_syntax.View.{bare_arg, arg_list}
+use Rattle.fz_filling.specs.of_syntax.View.{bare_arg, arg_list}
 use Rattle.fz_check.specs.Outputs.{is_output_var}
 use Rattle.fz_check.proofs.Notes.{unfolds}
 use Rattle.fz_check.proofs.outputs.is_output_var.Goals as goal

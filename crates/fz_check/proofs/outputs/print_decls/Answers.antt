@@ -1,6 +1,6 @@
 use Rattle.std.proofs.Common.{map, refl, sym, ap, ◌∙◌, arith}
 use Rattle.std.proofs.lemmas.List.{length-map}
-use Rattle.fz_judge.specs.of_model.View.{located_decl}
+use Rattle.fz_search.specs.of_model.View.{located_decl}
 use Rattle.fz_check.specs.Outputs.{printed_decl}
 use Rattle.fz_check.proofs.Fronts.{all_turned, one_more_turned}
 use Rattle.fz_check.proofs.outputs.print_decls.Goals as goal

@@ -1,5 +1,5 @@
 use Rattle.std.proofs.Common.{◌≡◌, map}
-use Rattle.fz_judge.specs.of_model.View.{located_decl}
+use Rattle.fz_search.specs.of_model.View.{located_decl}
 use Rattle.fz_check.specs.Outputs.{printed_decl}
 use Rattle.fz_check.proofs.Fronts.{turned}
 use Rattle.fz_check.proofs.outputs.print_decls.Given as goal

@@ -1,5 +1,5 @@
 use Rattle.std.proofs.Common.{◌≡◌, ◌++◌, drop, map}
-use Rattle.fz_judge.specs.of_filling.View.{verdict_view}
+use Rattle.fz_filling.specs.View.{verdict_view}
 use Rattle.fz_check.specs.Report.{event_line, in_order, text_of}
 use Rattle.fz_check.proofs.report.push_parts.Given as goal
 

@@ -1,5 +1,5 @@
 use Rattle.std.proofs.Common.{◌≡◌, ◌∙◌, ◌++◌, map}
-use Rattle.fz_judge.specs.of_filling.View.{verdict_view}
+use Rattle.fz_filling.specs.View.{verdict_view}
 use Rattle.fz_check.specs.Report.{event_line, in_order, text_of}
 use Rattle.fz_check.specs.Report.Event.{Answered}
 use Rattle.fz_check.specs.View.{answer_view, report_events}

@@ -1,6 +1,6 @@
 use Rattle.std.proofs.Common.{◌≡◌, ◌≢◌, ◌∙◌, ◌+◌, ◌++◌, None, inl, sym, subst, Ok, rules, arith}
 use Rattle.std.proofs.lemmas.Result.{IfErr-weaker}
-use Rattle.fz_judge.specs.of_stream.declared.splitter.Stage.TheVariants.{Finished}
+use Rattle.fz_filling.specs.of_stream.declared.splitter.Stage.TheVariants.{Finished}
 use Rattle.fz_check.specs.declared.reader.Step.TheVariants as steps
 use Rattle.fz_check.specs.Streaming.{IsUnwritten}
 use Rattle.fz_check.specs.Writing.{WritesFront, Wrote}

@@ -1,6 +1,6 @@
 use Rattle.std.proofs.Common.{inl, inr}
 use Rattle.std.proofs.lemmas.Result.{IfErr-weaker, on_ok_weaker}
-use Rattle.fz_judge.specs.of_stream.Lending.{part_of}
+use Rattle.fz_filling.specs.of_stream.Lending.{part_of}
 use Rattle.fz_check.proofs.telling.tell_next.Goals as goal
 
 pub returns-clause-told : goal.returns-clause-told

@@ -1,9 +1,9 @@
 use Rattle.std.proofs.Common.{◌∷◌, sym, subst, subst₂, arith}
 use Rattle.std.proofs.lemmas.Result.{on_ok_weaker}
-use Rattle.fz_judge.specs.of_stream.Found.{EndsWithin, block_of}
-use Rattle.fz_judge.specs.of_stream.Lending.{part_of, HasPlacesOfItems, PartEndsWithin}
-use Rattle.fz_judge.specs.of_stream.Splitting.{most_taken}
-use Rattle.fz_judge.specs.of_filling.View.{verdict_view}
+use Rattle.fz_filling.specs.of_stream.Found.{EndsWithin, block_of}
+use Rattle.fz_filling.specs.of_stream.Lending.{part_of, HasPlacesOfItems, PartEndsWithin}
+use Rattle.fz_filling.specs.of_stream.Splitting.{most_taken}
+use Rattle.fz_filling.specs.View.{verdict_view}
 use Rattle.fz_check.specs.Claims.{late_events}
 use Rattle.fz_check.specs.Report.{AreOf}
 use Rattle.fz_check.specs.Report.Event.{Judged}

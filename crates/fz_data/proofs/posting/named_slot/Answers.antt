@@ -1,6 +1,6 @@
 use Rattle.std.proofs.Common.{Some, [], option_map, sym, ap, ◌∙◌}
 use Rattle.std.specs.Option.{option_map_or}
-use Rattle.fz_store.specs.of_names.Naming.{standing_view}
+use Rattle.fz_store.specs.Naming.{standing_view}
 use Rattle.fz_store.specs.Declarations.{declared_place}
 use Rattle.fz_store.specs.of_meaning.declared.kind.Kind.TheVariants.{Int as IntKind}
 use Rattle.fz_store.specs.of_meaning.Meaning.Place.{Array}

@@ -2,8 +2,8 @@ use Rattle.std.proofs.Common.{Vec, Global, ◌∙◌, Ok, Err, sym, subst}
 use Rattle.std.proofs.lemmas.Result.{err_from_is_err_and}
 use Rattle.fz_tree.specs.declared.tree.Printed.{Printed}
 use Rattle.fz_tree.specs.View.{bare_items}
-use Rattle.fz_tree.specs.of_lex.Ahead.{tokens_ahead}
-use Rattle.fz_tree.specs.of_lex.Lexing.{LexesWithin}
+use Rattle.fz_tree.specs.Ahead.{tokens_ahead}
+use Rattle.fz_tree.specs.Lexing.{LexesWithin}
 use Rattle.fz_syntax.specs.Placed.{placed_items}
 use Rattle.fz_syntax.proofs.Parsed.{items_found, items_only, empty_of_only}
 use Rattle.fz_syntax.proofs.More.{same_items}

@@ -1,10 +1,10 @@
 use Rattle.std.proofs.Common.{◌≡◌, ◌∙◌, ℤ, Option, None, IfOk, IfSome, ap, sym, subst}
-use Rattle.fz_judge.specs.Bounds.{IsBound}
-use Rattle.fz_judge.specs.of_model.Meaning.{Model}
-use Rattle.fz_judge.specs.of_model.Parts.{goal_view}
-use Rattle.fz_judge.specs.of_stream.Found.{block_of}
-use Rattle.fz_judge.specs.of_filling.Judged.{JudgeState}
-use Rattle.fz_judge.specs.of_filling.View.{verdict_view}
+use Rattle.fz_check.specs.Bounds.{IsBound}
+use Rattle.fz_search.specs.of_model.Meaning.{Model}
+use Rattle.fz_search.specs.of_model.Parts.{goal_view}
+use Rattle.fz_filling.specs.of_stream.Found.{block_of}
+use Rattle.fz_filling.specs.Judged.{JudgeState}
+use Rattle.fz_filling.specs.View.{verdict_view}
 use Rattle.fz_check.specs.declared.jury.Jury.{Jury}
 use Rattle.fz_check.specs.Claims.{IsOutcome, behind_block, is_satisfied, late_refuted}
 use Rattle.fz_check.specs.Telling.{last_outcome}

@@ -1,5 +1,5 @@
 use Rattle.std.proofs.Common.{◌≡◌, ◌≢◌, ◌∙◌, ap, sym, inl, inr, true, false, length, arith}
-use Rattle.fz_judge.specs.of_stream.declared.splitter.Stage.TheVariants.{Finished}
+use Rattle.fz_filling.specs.of_stream.declared.splitter.Stage.TheVariants.{Finished}
 use Rattle.fz_check.specs.Reading.{PiecesState, ReaderState, is_going}
 use Rattle.fz_check.proofs.ReaderLemmas.{stands_reading, stands_at_end}
 use Rattle.fz_check.proofs.reader.PartReader.advance.Goals as goal

@@ -1,6 +1,6 @@
 use Rattle.std.proofs.Common.{◌≡◌, ◌≢◌, ◌∙◌, ap, sym, subst, Err, true, false}
-use Rattle.fz_judge.specs.of_stream.declared.error.StreamError.TheVariants as stream
-use Rattle.fz_judge.specs.of_stream.declared.splitter.Stage.TheVariants.{Running, Failed}
+use Rattle.fz_filling.specs.of_stream.declared.error.StreamError.TheVariants as stream
+use Rattle.fz_filling.specs.of_stream.declared.splitter.Stage.TheVariants.{Running, Failed}
 use Rattle.fz_check.specs.Reading.{ReaderState}
 use Rattle.fz_check.specs.Telling.{IsUnread}
 use Rattle.fz_check.proofs.CutLemmas.{inside_by}

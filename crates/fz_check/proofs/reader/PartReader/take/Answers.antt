@@ -1,8 +1,8 @@
 use Rattle.std.proofs.Common.{◌∙◌, ap, sym, subst, option_map, Err, IfSome}
-use Rattle.fz_judge.specs.of_stream.Lending.{part_of}
-use Rattle.fz_judge.specs.of_stream.Parts.{frame_of}
-use Rattle.fz_judge.specs.of_stream.Splitting.{IsPartOfItems}
-use Rattle.fz_judge.specs.of_syntax.Limits.{Limits}
+use Rattle.fz_filling.specs.of_stream.Lending.{part_of}
+use Rattle.fz_filling.specs.of_stream.Parts.{frame_of}
+use Rattle.fz_filling.specs.of_stream.Splitting.{IsPartOfItems}
+use Rattle.fz_filling.specs.of_syntax.Limits.{Limits}
 use Rattle.fz_check.specs.Reading.{ReaderState}
 use Rattle.fz_check.specs.Telling.{IsUnread}
 use Rattle.fz_check.proofs.ReaderLemmas.{stands_next, refused_next}

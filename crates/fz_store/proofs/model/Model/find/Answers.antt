@@ -1,9 +1,9 @@
 use Rattle.std.proofs.Common.{◌≡◌, Some, slice_get, refl, ap, sym, ◌∙◌}
 use Rattle.std.proofs.lemmas.Option.{slice_get_past, slice_get_read}
-use Rattle.fz_names.specs.of_meaning.Meaning.{variables_of}
-use Rattle.fz_names.specs.of_meaning.Meaning.Place.{Scalar, Array}
-use Rattle.fz_names.specs.of_meaning.declared.term.Term.TheVariants.{Var}
-use Rattle.fz_names.specs.Naming.{standing_view}
+use Rattle.fz_meaning.specs.Meaning.{variables_of}
+use Rattle.fz_meaning.specs.Meaning.Place.{Scalar, Array}
+use Rattle.fz_meaning.specs.declared.term.Term.TheVariants.{Var}
+use Rattle.fz_store.specs.Naming.{standing_view}
 use Rattle.fz_store.specs.Parts.{elements_of}
 use Rattle.fz_store.specs.Shown.{found_place, kind_among}
 use Rattle.fz_store.proofs.Finds.{found_scalar, stands, found_array}

@@ -1,7 +1,7 @@
 use Rattle.std.proofs.Common.{◌≡◌, ◌+◌, ◌-◌, ◌<◌, length, refl, sym, ap, subst, ◌∙◌, slice_get, Some, arith}
 use Rattle.std.proofs.lemmas.Option.{slice_get_read}
-use Rattle.fz_names.specs.of_meaning.Meaning.{points, row_of}
-use Rattle.fz_names.specs.of_meaning.Meaning.Point.{ConstraintPoint}
+use Rattle.fz_meaning.specs.Meaning.{points, row_of}
+use Rattle.fz_meaning.specs.Meaning.Point.{ConstraintPoint}
 use Rattle.fz_store.specs.Kinds.{PostedFits}
 use Rattle.fz_store.specs.Layout.{model_view}
 use Rattle.fz_store.specs.Parts.{posted_view}

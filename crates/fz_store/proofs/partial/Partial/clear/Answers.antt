@@ -1,6 +1,6 @@
 use Rattle.std.proofs.Common.{◌≡◌, ◌++◌, None, Option, arith, ap, drop, length, map, sym, take, ◌∙◌}
 use Rattle.std.proofs.lemmas.List.{length-map}
-use Rattle.fz_names.specs.of_meaning.of_base.declared.value.Value.{Value}
+use Rattle.fz_meaning.specs.of_base.declared.value.Value.{Value}
 use Rattle.fz_store.specs.Partial.{unset_count}
 use Rattle.fz_store.proofs.Tabled.{all_unset, all_written, cleared_tabled}
 use Rattle.fz_store.proofs.partial.Partial.clear.Goals as goal

@@ -1,7 +1,7 @@
 use Rattle.std.proofs.Common.{◌++◌, ◌∷◌, [], None, Option, length, map, replicate, sym, ap, subst, subst₂, ◌∙◌, arith}
 use Rattle.std.proofs.lemmas.List.{map_more, length-map, take_all}
-use Rattle.fz_names.specs.of_meaning.of_base.declared.value.Value.{Value}
-use Rattle.fz_names.specs.of_meaning.Meaning.{Variable, variables_of}
+use Rattle.fz_meaning.specs.of_base.declared.value.Value.{Value}
+use Rattle.fz_meaning.specs.Meaning.{Variable, variables_of}
 use Rattle.fz_store.specs.Partial.{IsTabled, number_in, truth_in, unset_count}
 use Rattle.fz_store.specs.Parts.{variable_view, no_variable}
 use Rattle.fz_store.proofs.Tabled.{all_unset, none_tabled}

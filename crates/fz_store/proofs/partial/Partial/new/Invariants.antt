@@ -1,5 +1,5 @@
 use Rattle.std.proofs.Common.{◌≡◌, None, map, take}
-use Rattle.fz_names.specs.of_meaning.Meaning.{variables_of}
+use Rattle.fz_meaning.specs.Meaning.{variables_of}
 use Rattle.fz_store.proofs.partial.Partial.new.Given as goal
 
 abbrev pub invariant-loop : goal.invariant-loop

@@ -1,8 +1,8 @@
 use Rattle.std.proofs.Common.{◌≡◌, ℕ, ◌<◌, FitsSigned, List, Option, None, Some, arith, length, rules, slice_set, subst, subst₂, suc, sym, true, w64}
 use Rattle.std.proofs.lemmas.Int.{to_z-of_z}
-use Rattle.fz_names.specs.of_meaning.of_base.declared.value.Value.{Value}
-use Rattle.fz_names.specs.of_meaning.Meaning.{value_at}
-use Rattle.fz_names.specs.of_meaning.Steps.{give}
+use Rattle.fz_meaning.specs.of_base.declared.value.Value.{Value}
+use Rattle.fz_meaning.specs.Meaning.{value_at}
+use Rattle.fz_meaning.specs.Steps.{give}
 use Rattle.fz_store.specs.Partial.{IsTabled, unset_count}
 use Rattle.fz_store.proofs.Tabled.{one_unset_less, still_tabled}
 use Rattle.fz_store.proofs.partial.Partial.set.Goals as goal

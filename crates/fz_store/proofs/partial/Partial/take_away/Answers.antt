@@ -1,7 +1,7 @@
 use Rattle.std.proofs.Common.{◌≡◌, ℕ, List, Option, arith, is_some, length, suc, sym, ap, true, ◌∙◌}
 use Rattle.std.proofs.lemmas.List.{length-map}
-use Rattle.fz_names.specs.of_meaning.of_base.declared.value.Value.{Value}
-use Rattle.fz_names.specs.of_meaning.Meaning.{value_at}
+use Rattle.fz_meaning.specs.of_base.declared.value.Value.{Value}
+use Rattle.fz_meaning.specs.Meaning.{value_at}
 use Rattle.fz_store.specs.Partial.{number_in, truth_in, unset_count, without}
 use Rattle.fz_store.proofs.Tabled.{has_place, none_taken, one_less_tabled, one_unset_more, unset_fit}
 use Rattle.fz_store.proofs.partial.Partial.take_away.Goals as goal

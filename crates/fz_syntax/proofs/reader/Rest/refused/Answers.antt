@@ -1,5 +1,5 @@
 use Rattle.std.proofs.Common.{sym, subst}
-use Rattle.fz_tree.specs.of_lex.Lexing.{LexesWithin}
+use Rattle.fz_tree.specs.Lexing.{LexesWithin}
 use Rattle.fz_syntax.specs.Offering.{by_lexer}
 use Rattle.fz_syntax.proofs.reader.Rest.refused.Goals as goal
 

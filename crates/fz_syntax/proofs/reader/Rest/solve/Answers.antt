@@ -1,7 +1,7 @@
 use Rattle.std.proofs.Common.{◌≡◌, ◌∙◌, sym, subst}
 use Rattle.std.proofs.lemmas.Result.{err_from_is_err_and}
-use Rattle.fz_tree.specs.of_lex.Left.{source_of}
-use Rattle.fz_tree.specs.of_lex.Lexing.{LexesWithin}
+use Rattle.fz_tree.specs.Left.{source_of}
+use Rattle.fz_tree.specs.Lexing.{LexesWithin}
 use Rattle.fz_syntax.specs.Offering.{from_solve}
 use Rattle.fz_syntax.proofs.Offers.{left_refused, lexer_refused, more_refused, solve_left, some_left, none_left}
 use Rattle.fz_syntax.proofs.reader.Rest.solve.Goals as goal

@@ -1,6 +1,6 @@
 use Rattle.std.proofs.Common.{◌++◌, fold, ap, ◌∙◌}
 use Rattle.std.proofs.lemmas.Result.{on_ok_weaker}
-use Rattle.fz_lex.specs.declared.token.Mark.TheVariants.{Semicolon, Colon}
+use Rattle.fz_tree.specs.declared.token.Mark.TheVariants.{Semicolon, Colon}
 use Rattle.fz_tree.specs.View.{bare_decl, bare_notes}
 use Rattle.fz_tree.specs.Tokens.{mark, word, notes_toks, base_toks, var_toks, prefix_toks, value_toks}
 use Rattle.fz_tree.specs.Printing.{page, with_token}

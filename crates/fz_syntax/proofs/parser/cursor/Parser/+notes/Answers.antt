@@ -1,6 +1,6 @@
 use Rattle.std.proofs.Common.{sym, subst, ◌∙◌, ap, map, refl, arith}
 use Rattle.std.proofs.lemmas.Result.{err_from_is_err_and}
-use Rattle.fz_tree.specs.of_lex.declared.token.Mark.TheVariants.{OpenParen, CloseParen, OpenBracket, CloseBracket, Comma}
+use Rattle.fz_tree.specs.declared.token.Mark.TheVariants.{OpenParen, CloseParen, OpenBracket, CloseBracket, Comma}
 use Rattle.fz_syntax.specs.Placed.{placed_arg, placed_note_basic}
 use Rattle.fz_syntax.proofs.Walks.{separated_first, separated_more, some_pushed, walk_then, walk_from, walk_as, walk_end, walk_kept, walk_still, walk_empty, no_args_walk, ate, mark_walk, args_walk, note_list_walk}
 use Rattle.fz_syntax.proofs.Folds.{note_unfolds, list_unfolds}

@@ -1,4 +1,4 @@
-use Rattle.fz_tree.specs.of_lex.declared.token.Mark.TheVariants.{Semicolon, Colon}
+use Rattle.fz_tree.specs.declared.token.Mark.TheVariants.{Semicolon, Colon}
 use Rattle.fz_tree.specs.Tokens.{prefix_toks}
 use Rattle.fz_syntax.specs.Reading.{prefix_at}
 use Rattle.fz_syntax.proofs.TypeLaws.{prefix_takes}

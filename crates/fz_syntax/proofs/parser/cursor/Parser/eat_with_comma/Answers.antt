@@ -1,6 +1,6 @@
 use Rattle.std.proofs.Common.{refl, ◌≡◌, ◌≤◌, drop, sym, ap}
 use Rattle.std.proofs.lemmas.List.Elements.{All-drop}
-use Rattle.fz_tree.specs.of_lex.Left.{left}
+use Rattle.fz_tree.specs.Left.{left}
 use Rattle.fz_syntax.proofs.Walks.{listed_pair}
 use Rattle.fz_syntax.proofs.parser.cursor.Parser.eat_with_comma.Goals as goal
 

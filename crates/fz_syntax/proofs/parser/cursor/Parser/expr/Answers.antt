@@ -1,5 +1,5 @@
 use Rattle.std.proofs.Common.{refl}
-use Rattle.fz_tree.specs.of_lex.declared.token.Mark.TheVariants.{OpenBracket}
+use Rattle.fz_tree.specs.declared.token.Mark.TheVariants.{OpenBracket}
 use Rattle.fz_syntax.proofs.Walks.{ate, walk_then}
 use Rattle.fz_syntax.proofs.ListLaws.{bounded}
 use Rattle.fz_syntax.proofs.ExprLaws.{same, basic_law}

@@ -1,4 +1,4 @@
-use Rattle.fz_tree.specs.of_lex.declared.token.Mark.TheVariants.{Comma}
+use Rattle.fz_tree.specs.declared.token.Mark.TheVariants.{Comma}
 use Rattle.fz_syntax.proofs.Walks.{mark_walk, walk_then}
 use Rattle.fz_syntax.proofs.parser.cursor.Parser.index_set.Goals as goal
 

@@ -1,6 +1,6 @@
 use Rattle.std.proofs.Common.{◌∙◌}
 use Rattle.std.proofs.lemmas.Result.{err_from_is_err_and}
-use Rattle.fz_tree.specs.of_lex.declared.token.Mark.TheVariants.{Comma}
+use Rattle.fz_tree.specs.declared.token.Mark.TheVariants.{Comma}
 use Rattle.fz_syntax.specs.Reading.{listed_index}
 use Rattle.fz_syntax.proofs.TypeLaws.{any_index_law}
 use Rattle.fz_syntax.proofs.Running.{separated_init, keeps_on, stops, is_whole_list}

@@ -1,5 +1,5 @@
 use Rattle.std.proofs.Common.{length}
-use Rattle.fz_tree.specs.of_lex.declared.token.Mark.TheVariants.{Comma}
+use Rattle.fz_tree.specs.declared.token.Mark.TheVariants.{Comma}
 use Rattle.fz_syntax.specs.Walk.{Passed, lexemes}
 use Rattle.fz_syntax.specs.Reading.{listed_index, separated_at}
 use Rattle.fz_syntax.proofs.Running.{Continues}

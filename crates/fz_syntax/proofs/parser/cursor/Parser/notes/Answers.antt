@@ -1,7 +1,7 @@
-use Rattle.fz_tree.specs.of_lex.Token.{Marked}
+use Rattle.fz_tree.specs.Token.{Marked}
 use Rattle.std.proofs.Common.{◌∷◌, ap, map, refl, arith}
 use Rattle.std.proofs.lemmas.Result.{err_from_is_err_and}
-use Rattle.fz_tree.specs.of_lex.declared.token.Mark.TheVariants.{ColonColon}
+use Rattle.fz_tree.specs.declared.token.Mark.TheVariants.{ColonColon}
 use Rattle.fz_syntax.specs.Placed.{unplaced, placed_note}
 use Rattle.fz_syntax.proofs.Walks.{walk_zero, walk_more, walk_then, walk_as, walk_end, walk_kept, walk_still, ate}
 use Rattle.fz_tree.specs.View.{bare_note}

@@ -1,5 +1,5 @@
 use Rattle.std.proofs.Common.{length}
-use Rattle.fz_tree.specs.of_lex.declared.token.Mark.TheVariants.{ColonColon}
+use Rattle.fz_tree.specs.declared.token.Mark.TheVariants.{ColonColon}
 use Rattle.fz_syntax.specs.Walk.{Walk, lexemes}
 use Rattle.fz_syntax.specs.Placed.{placed_notes}
 use Rattle.fz_tree.specs.View.{bare_notes}

@@ -1,7 +1,7 @@
 use Rattle.std.proofs.Common.{◌≡◌, ◌++◌, ◌∷◌, [], ◌∙◌, refl, arith}
 use Rattle.std.proofs.lemmas.Int.{to_z-of_z}
 use Rattle.std.proofs.lemmas.Result.{err_from_is_err_and}
-use Rattle.fz_tree.specs.of_lex.declared.token.Mark.TheVariants.{Comma}
+use Rattle.fz_tree.specs.declared.token.Mark.TheVariants.{Comma}
 use Rattle.fz_syntax.specs.Reading.{at_most, whole_at}
 use Rattle.fz_syntax.proofs.Walks.{passed_then}
 use Rattle.fz_syntax.proofs.ExprLaws.{whole_law}

@@ -1,4 +1,4 @@
-use Rattle.fz_tree.specs.of_lex.declared.token.Mark.TheVariants.{Colon}
+use Rattle.fz_tree.specs.declared.token.Mark.TheVariants.{Colon}
 use Rattle.fz_tree.specs.Tokens.{param_prefix_toks}
 use Rattle.fz_syntax.specs.Reading.{param_prefix_at}
 use Rattle.fz_syntax.proofs.TypeLaws.{param_prefix_takes}

@@ -1,6 +1,6 @@
 use Rattle.std.proofs.Common.{◌≤◌, subst, arith}
 use Rattle.std.specs.List.{All}
-use Rattle.fz_tree.specs.of_lex.View.{spanned}
+use Rattle.fz_tree.specs.Spanned.{spanned}
 use Rattle.fz_syntax.proofs.parser.cursor.Parser.place.Goals as goal
 
 pub returns-in-Some-clause-within : goal.returns-in-Some-clause-within

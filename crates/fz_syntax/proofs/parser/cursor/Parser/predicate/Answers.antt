@@ -1,6 +1,6 @@
 use Rattle.std.proofs.Common.{refl}
 use Rattle.std.specs.Prelude.{codes}
-use Rattle.fz_tree.specs.of_lex.declared.token.Mark.TheVariants.{OpenParen, Semicolon}
+use Rattle.fz_tree.specs.declared.token.Mark.TheVariants.{OpenParen, Semicolon}
 use Rattle.fz_syntax.proofs.Walks.{mark_walk, word_walk, walk_then}
 use Rattle.fz_syntax.proofs.ListLaws.{unbounded}
 use Rattle.fz_syntax.proofs.ExprLaws.{same}

@@ -1,4 +1,4 @@
-use Rattle.fz_tree.specs.of_lex.declared.token.Mark.TheVariants.{Semicolon, Equals}
+use Rattle.fz_tree.specs.declared.token.Mark.TheVariants.{Semicolon, Equals}
 use Rattle.fz_syntax.proofs.Walks.{mark_walk, walk_then}
 use Rattle.fz_syntax.proofs.parser.cursor.Parser.printed.Goals as goal
 

@@ -1,4 +1,4 @@
-use Rattle.fz_tree.specs.of_lex.declared.token.Mark.TheVariants.{OpenParen, CloseParen, OpenBracket}
+use Rattle.fz_tree.specs.declared.token.Mark.TheVariants.{OpenParen, CloseParen, OpenBracket}
 use Rattle.fz_syntax.specs.Placed.{placed_between, placed_elements, placed_indexes, placed_word}
 use Rattle.std.proofs.Common.{ℕ, ◌++◌, ◌∙◌, map, refl, sym, ap}
 use Rattle.std.proofs.lemmas.List.{length-map}

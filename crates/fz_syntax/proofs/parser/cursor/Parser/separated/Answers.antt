@@ -1,7 +1,7 @@
 use Rattle.std.proofs.Common.{◌∙◌, ap, map, refl, arith}
 use Rattle.std.proofs.lemmas.Result.{err_from_is_err_and}
-use Rattle.fz_tree.specs.of_lex.declared.token.Mark.TheVariants.{Comma}
-use Rattle.fz_tree.specs.of_lex.Left.{left}
+use Rattle.fz_tree.specs.declared.token.Mark.TheVariants.{Comma}
+use Rattle.fz_tree.specs.Left.{left}
 use Rattle.fz_syntax.specs.Reading.{separated_at}
 use Rattle.fz_syntax.proofs.Walks.{walk_zero, walk_more, walk_then, walk_as, walk_kept, walk_end, separated_end, with_comma, ate}
 use Rattle.fz_syntax.proofs.Running.{wants_first, wants_next, wants_part, wants_fails, wants_more, awaits_first, is_whole_list, grown, length_seen}

@@ -1,6 +1,6 @@
 use Rattle.std.proofs.Common.{◌≤◌, refl}
 use Rattle.std.proofs.lemmas.List.Elements.{All-drop}
-use Rattle.fz_tree.specs.of_lex.Left.{left}
+use Rattle.fz_tree.specs.Left.{left}
 use Rattle.fz_syntax.proofs.Walks.{skip_passed}
 use Rattle.fz_syntax.proofs.parser.cursor.Parser.skip.Goals as goal
 

@@ -1,5 +1,5 @@
 use Rattle.std.specs.Prelude.{codes}
-use Rattle.fz_tree.specs.of_lex.declared.token.Mark.TheVariants.{Semicolon}
+use Rattle.fz_tree.specs.declared.token.Mark.TheVariants.{Semicolon}
 use Rattle.fz_syntax.proofs.Walks.{mark_walk, word_walk, walk_then}
 use Rattle.fz_syntax.proofs.parser.cursor.Parser.solve.Goals as goal
 

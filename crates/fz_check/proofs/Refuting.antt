@@ -1,0 +1,45 @@
+-- A block that lacks a value, where no known-solution has the values of its filling, or none with a
+-- better objective.
+use Rattle.std.proofs.Common.{◌≡◌, ℕ, ◌<◌, ℤ, List, length, Option, None, Some, IfSome, option_map, slice_get, sym, ap, subst₂, ◌∙◌}
+use Rattle.fz_check.specs.Bounds.{IsBound}
+use Rattle.fz_search.specs.Found.{HasNone}
+use Rattle.fz_search.specs.of_model.Meaning.{Assignment, Model, Partial, objective, points, whole}
+use Rattle.fz_search.specs.of_model.Openings.{HasEach}
+use Rattle.fz_search.specs.of_model.States.{IsKnownSolution, PointName, shown_point}
+use Rattle.fz_search.proofs.of_model.Lists.{there_is}
+use Rattle.fz_filling.specs.Completed.{IsCompleted}
+use Rattle.fz_filling.specs.Completed.IsCompleted.{Refuted}
+use Rattle.fz_filling.specs.declared.completion.Completion.{Completion}
+use Rattle.fz_filling.specs.declared.completion.Completion.TheVariants.{On}
+use Rattle.fz_filling.specs.Judged.{IsOfPoint}
+use Rattle.fz_filling.specs.of_stream.Parts.{SolutionBlock}
+use Rattle.fz_filling.specs.Verdict.{Fault, IsFilled, Verdict, fault_named}
+use Rattle.fz_filling.specs.Verdict.Reason.{NoValueFor}
+use Rattle.fz_filling.specs.Verdict.Verdict.{Undecided, Violated}
+use Rattle.fz_filling.proofs.Chains.{filling_agrees}
+
+-- the fault of the point of a number
+pub of_point : (m : Model) (k : ℕ) (name : PointName) (f : Fault) → k < length (points m)
+    → option_map shown_point (slice_get (points m) k) ≡ Some name → f ≡ fault_named name
+    → IsOfPoint m k (Violated f)
+of_point m k name f within told is =
+    let (p, at) = there_is (points m) k within in
+    let both : Some (shown_point p) ≡ Some name = ap (option_map shown_point) (sym at) ∙ told in
+    let same : shown_point p ≡ name = cc in
+    (p, at, ap Violated (is ∙ ap fault_named (sym same)))
+
+pub refuted_told : (m : Model) (block : SolutionBlock) (before : Option ℤ) (F : Partial) (name : List ℕ)
+    (k : ℕ) (v : Verdict) (kept : Option ℤ) → IsFilled On m block F → IsOfPoint m k v
+    → ((A : Assignment) → IsKnownSolution m A → HasEach F (whole A) → ⊥) → kept ≡ objective m F
+    → IsCompleted m block before F (Undecided (NoValueFor name)) v kept
+refuted_told m block before F name k v kept filled (p, at, is) none kept_is =
+    subst₂ (λ w o. IsCompleted m block before F (Undecided (NoValueFor name)) w o) (sym is) (sym kept_is)
+    (Refuted k p at (λ A solution extends. none A solution (filling_agrees On m A block F solution extends filled.filling)))
+
+pub bounded_by : (c : Completion) (m : Model) (block : SolutionBlock) (F : Partial) (o : Option ℤ)
+    → IsFilled c m block F
+    → IfSome o (λ b. HasNone (record { model = m; filling = F; last = Some b }))
+    → IfSome o (IsBound m block)
+bounded_by c m block F None filled none = tt
+bounded_by c m block F (Some b) filled none = λ A solution extends better.
+    none A (solution, filling_agrees c m A block F solution extends filled.filling, better)

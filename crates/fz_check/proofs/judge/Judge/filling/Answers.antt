@@ -1,0 +1,1 @@
+use Rattle.fz_check.proofs.judge.Judge.filling.Goals as goal

@@ -1,1 +1,0 @@
-use Rattle.fz_judge.proofs.judge.Judge.filling.Goals as goal
