@@ -42,7 +42,7 @@ def by_bash(*words):
 
 def main(program):
     words, zsh = read("crates/fz_command/src/words.rt"), read("completions/fzcheck.zsh")
-    options = set(re.findall(r'(?:\.long\(|flag\(alloc, )"([\w-]+)"', words))
+    options = set(re.findall(r'\("([a-z-]+)", Kind::', words))
     commands = set(re.search(r"\[subcommands: (.*)\]", said(program))[1].split(", "))
     expect("commands, by bash", commands, {it for it in by_bash("") if not it.startswith("-")})
     expect("commands, by zsh", commands, set(re.findall(r"(\w+)\\:", zsh)))

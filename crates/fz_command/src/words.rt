@@ -301,113 +301,96 @@ fn form_of(given: &ArgMatches<'_>) -> Form {
     }
 }
 
-/// An argument that names a file.
-fn file_word<'a>(alloc: Global, id: &'a str) -> Arg<'a> {
-    Arg::new(alloc, id).action(ArgAction::Set)
-}
-
-/// A command that requires the file of a model, which may be a large one. An option without a value
-/// may be given twice.
-fn over_model<'a>(alloc: Global, name: &'a str) -> Result<Command<'a>, AllocError> {
-    Command::new(alloc, name)
-        .args_override_self(true)
-        .arg(file_word(alloc, "MODEL").required(true))?
-        .arg(flag(alloc, "large"))
-}
-
-/// An option without a value.
-fn flag<'a>(alloc: Global, name: &'a str) -> Arg<'a> {
-    Arg::new(alloc, name).long(name).action(ArgAction::SetTrue)
-}
-
-fn show_command<'a>(alloc: Global) -> Result<Command<'a>, AllocError> {
-    over_model(alloc, "show")?.arg(flag(alloc, "print-all"))
-}
-
-fn check_command<'a>(alloc: Global) -> Result<Command<'a>, AllocError> {
-    over_model(alloc, "check")?
-        .arg(file_word(alloc, "STREAM"))?
-        .arg(flag(alloc, "complete"))?
-        .arg(steps_option(alloc))?
-        .arg(flag(alloc, "cut"))?
-        .arg(claims_option(alloc))?
-        .arg(known_option(alloc))?
-        .arg(tree_option(alloc))?
-        .arg(flag(alloc, "json"))?
-        .arg(explain_option(alloc))?
-        .arg(names_option(alloc)?)
-}
-
-/// The option that is `--complete-steps N`.
-fn steps_option<'a>(alloc: Global) -> Arg<'a> {
-    Arg::new(alloc, "complete-steps")
-        .long("complete-steps")
-        .value_name("N")
-        .action(ArgAction::Append)
-        .value_parser(ValueParser::unsigned(0, i64::MAX as u64))
+/// What a word of a command is.
+#[derive(Clone, Copy)]
+enum Kind {
+    /// A file, by its place among the files.
+    File { required: bool },
+    /// An option without a value.
+    Flag,
+    /// The option with a number of steps.
+    Steps,
+    /// An option with a value, which errors call so.
+    Called(&'static str),
+    /// An option with a file, which goes with this other option.
+    Beside(&'static str),
+    /// An option that may name one of the first words behind `=`; else it names the others.
+    Choice(&'static [&'static str], &'static [&'static str]),
 }
 
 /// What `--claims` may name.
 const CLAIMED: [&str; 1] = ["prove"];
 
-/// The option that is `--claims`, or `--claims=prove`.
-fn claims_option<'a>(alloc: Global) -> Arg<'a> {
-    Arg::new(alloc, "claims")
-        .long("claims")
-        .action(ArgAction::Append)
-        .num_args(0..=1)
-        .require_equals(true)
-        .value_parser(CLAIMED.as_slice())
-}
+/// What `--explain` may name.
+const EXPLAINED: [&str; 2] = ["answer", "all"];
+
+/// The words of `show`.
+const SHOW: [(&str, Kind); 3] = [
+    ("MODEL", Kind::File { required: true }),
+    ("large", Kind::Flag),
+    ("print-all", Kind::Flag),
+];
+
+/// The words of `check`.
+const CHECK: [(&str, Kind); 12] = [
+    ("MODEL", Kind::File { required: true }),
+    ("large", Kind::Flag),
+    ("STREAM", Kind::File { required: false }),
+    ("complete", Kind::Flag),
+    ("complete-steps", Kind::Steps),
+    ("cut", Kind::Flag),
+    ("claims", Kind::Choice(&CLAIMED, &[])),
+    ("known", Kind::Called("STREAM")),
+    ("tree", Kind::Called("FILE")),
+    ("json", Kind::Flag),
+    ("explain", Kind::Choice(&EXPLAINED, &["answer"])),
+    ("names", Kind::Beside("explain")),
+];
 
 /// The most known streams.
 const MOST_KNOWN: usize = 64;
 
-/// The option that is `--known STREAM`.
-fn known_option<'a>(alloc: Global) -> Arg<'a> {
-    Arg::new(alloc, "known")
-        .long("known")
-        .value_name("STREAM")
-        .action(ArgAction::Append)
-}
-
 /// What is told where no claim is to be proved along a tree.
 const TREE_ALONE: &str = "error: --tree is given without --claims=prove";
 
-/// The option that is `--tree FILE`.
-fn tree_option<'a>(alloc: Global) -> Arg<'a> {
-    Arg::new(alloc, "tree")
-        .long("tree")
-        .value_name("FILE")
-        .action(ArgAction::Append)
+/// A word, as `clap` takes it.
+fn argument<'a>(alloc: Global, name: &'a str, kind: Kind) -> Result<Arg<'a>, AllocError> {
+    let word = Arg::new(alloc, name);
+    if let Kind::File { required } = kind {
+        return Ok(word.action(ArgAction::Set).required(required));
+    }
+    let option = word.long(name).action(ArgAction::Append);
+    match kind {
+        Kind::File { .. } | Kind::Flag => Ok(option.action(ArgAction::SetTrue)),
+        Kind::Steps => {
+            let number = ValueParser::unsigned(0, i64::MAX as u64);
+            Ok(option.value_name("N").value_parser(number))
+        }
+        Kind::Called(called) => Ok(option.value_name(called)),
+        Kind::Beside(other) => option.value_name("FILE").requires_arg(other),
+        Kind::Choice(words, missing) => {
+            let option = option.num_args(0..=1).require_equals(true);
+            Ok(option.default_missing_values(missing).value_parser(words))
+        }
+    }
 }
 
-/// What `--explain` may name; where it names nothing, it is the first.
-const EXPLAINED: [&str; 2] = ["answer", "all"];
-
-/// The option that is `--explain`, or `--explain=all`.
-fn explain_option<'a>(alloc: Global) -> Arg<'a> {
-    Arg::new(alloc, "explain")
-        .long("explain")
-        .action(ArgAction::Append)
-        .num_args(0..=1)
-        .require_equals(true)
-        .default_missing_value(EXPLAINED[0])
-        .value_parser(EXPLAINED.as_slice())
-}
-
-/// The option that is `--names FILE`, which goes with `--explain`.
-fn names_option<'a>(alloc: Global) -> Result<Arg<'a>, AllocError> {
-    Arg::new(alloc, "names")
-        .long("names")
-        .action(ArgAction::Append)
-        .value_name("FILE")
-        .requires_arg("explain")
+/// A command of these words. An option without a value may be given twice.
+fn command_of<'a>(
+    alloc: Global,
+    name: &'a str,
+    words: &[(&'a str, Kind)],
+) -> Result<Command<'a>, AllocError> {
+    let mut command = Command::new(alloc, name).args_override_self(true);
+    for (name, kind) in words {
+        command = command.arg(argument(alloc, name, *kind)?)?;
+    }
+    Ok(command)
 }
 
 /// The program with the first of its commands.
 fn program<'a>(alloc: Global) -> Result<Command<'a>, AllocError> {
-    let show = show_command(alloc)?;
+    let show = command_of(alloc, "show", &SHOW)?;
     Command::new(alloc, "fzcheck")
         .version(VERSION)
         .subcommand_required(true)
@@ -417,6 +400,6 @@ fn program<'a>(alloc: Global) -> Result<Command<'a>, AllocError> {
 /// The program with both commands. Where a function here may fail, it holds one command alone,
 /// since each one that it holds would have to be dropped.
 fn command<'a>(alloc: Global) -> Result<Command<'a>, AllocError> {
-    let check = check_command(alloc)?;
+    let check = command_of(alloc, "check", &CHECK)?;
     program(alloc)?.subcommand(check)
 }

@@ -48,14 +48,10 @@ impl<'a, 'n> Explainer<'a, 'n> {
 
     /// Parses the text of the model, where that wasn't done before. The text was loaded, under
     /// limits that these are no less than, so only memory can be lacking for it.
-    fn parse(&mut self, alloc: Global) -> Result<(), AllocError> {
+    fn parse(&mut self, alloc: Global) {
         if self.ast.is_none() {
-            match parse_within(alloc, self.text.bytes, Limits::LARGE) {
-                Ok(ast) => self.ast = Some(ast),
-                Err(_) => return Err(AllocError),
-            }
+            self.ast = parse_within(alloc, self.text.bytes, Limits::LARGE).ok();
         }
-        Ok(())
     }
 
     /// The line and the column, in the model's text or in the stream, that the verdict on a block
@@ -69,10 +65,10 @@ impl<'a, 'n> Explainer<'a, 'n> {
         alloc: Global,
         case: &Case<'_, '_>,
     ) -> Result<Option<(usize, usize)>, AllocError> {
-        self.parse(alloc)?;
+        self.parse(alloc);
         match &self.ast {
             Some(ast) => Ok(line_and_column(ast, self.text, case)),
-            None => Ok(None),
+            None => Err(AllocError),
         }
     }
 
@@ -88,10 +84,10 @@ impl<'a, 'n> Explainer<'a, 'n> {
         model: &Model<'m>,
         case: &Case<'_, 'm>,
     ) -> Result<Option<Message>, AllocError> {
-        self.parse(alloc)?;
+        self.parse(alloc);
         match &self.ast {
             Some(ast) => self.tree_explanation(alloc, model, case, ast),
-            None => Ok(None),
+            None => Err(AllocError),
         }
     }
 
@@ -109,11 +105,11 @@ impl<'a, 'n> Explainer<'a, 'n> {
         if self.text.bytes.len() > MOST_BYTES {
             return Ok(None);
         }
-        self.parse(alloc)?;
-        let Some(ast) = &self.ast else {
-            return Ok(None);
-        };
-        Unbound::of(alloc, model, ast, &self.names)
+        self.parse(alloc);
+        match &self.ast {
+            Some(ast) => Unbound::of(alloc, model, ast, &self.names),
+            None => Err(AllocError),
+        }
     }
 
     /// The same, where the model is parsed.

@@ -73,51 +73,80 @@ impl Message {
     ///
     /// Out of memory.
     pub fn text(&self, alloc: Global) -> Result<String, AllocError> {
-        let Message { line, left_out, .. } = self;
+        let line = self.line;
         let digits = format!(in alloc; "{line}")?.len();
+        let front = format!(in alloc; "{:digits$}    =", "")?;
         let mut text = String::from_str(alloc, &self.head)?;
-        for told in self.remarks.lines(alloc)? {
-            writeln!(text, "{:digits$}    = {told}", "")?;
-        }
-        if let Some(quote) = &self.remarks.quote {
-            let (line, front) = (quote.line, quote.front);
-            let width = format!(in alloc; "{line}")?.len();
-            writeln!(text, "{:digits$}    =   {line} | {}", "", quote.text)?;
-            writeln!(text, "{:digits$}    =   {:width$} | {:front$}^", "", "", "")?;
-        }
-        if let Some(told) = &self.reason {
-            writeln!(text, "{:digits$}    = {told}", "")?;
-        }
-        for (place, note) in self.variables.iter().enumerate() {
-            if place == FIRST_VARIABLES && *left_out > 0 {
-                writeln!(text, "{:digits$}    = ... and {left_out} more ...", "")?;
-            }
-            let told = note_text(alloc, note)?;
-            writeln!(text, "{:digits$}    = {told}", "")?;
-            for told in giver_lines(alloc, note)? {
-                writeln!(text, "{:digits$}    =   {told}", "")?;
-            }
-            for told in &note.behind {
-                writeln!(text, "{:digits$}    =   {told}", "")?;
-            }
-        }
-        if self.behind_left_out > 0 {
-            let left_out = self.behind_left_out;
-            writeln!(
-                text,
-                "{:digits$}    = ... and {left_out} more reasons ...",
-                ""
-            )?;
-        }
-        for note in &self.fixed {
-            let told = fixed_text(alloc, note)?;
-            writeln!(text, "{:digits$}    = {told}", "")?;
-        }
-        for told in &self.notes {
-            writeln!(text, "{:digits$}    = {told}", "")?;
-        }
+        self.write_behind(alloc, &mut text, &front)?;
         Ok(text)
     }
+
+    /// Adds the lines behind the head, with this at the front of each.
+    fn write_behind(
+        &self,
+        alloc: Global,
+        text: &mut String,
+        front: &str,
+    ) -> Result<(), AllocError> {
+        write_lines(text, front, " ", &self.remarks.lines(alloc)?)?;
+        if let Some(quote) = &self.remarks.quote {
+            write_quote(alloc, text, front, quote)?;
+        }
+        if let Some(told) = &self.reason {
+            writeln!(text, "{front} {told}")?;
+        }
+        self.write_variables(alloc, text, front)?;
+        for note in &self.fixed {
+            writeln!(text, "{front} {}", fixed_text(alloc, note)?)?;
+        }
+        write_lines(text, front, " ", &self.notes)
+    }
+
+    fn write_variables(
+        &self,
+        alloc: Global,
+        text: &mut String,
+        front: &str,
+    ) -> Result<(), AllocError> {
+        let left_out = self.left_out;
+        for (place, note) in self.variables.iter().enumerate() {
+            if place == FIRST_VARIABLES && left_out > 0 {
+                writeln!(text, "{front} ... and {left_out} more ...")?;
+            }
+            writeln!(text, "{front} {}", note_text(alloc, note)?)?;
+            write_lines(text, front, "   ", &giver_lines(alloc, note)?)?;
+            write_lines(text, front, "   ", &note.behind)?;
+        }
+        let left_out = self.behind_left_out;
+        if left_out > 0 {
+            writeln!(text, "{front} ... and {left_out} more reasons ...")?;
+        }
+        Ok(())
+    }
+}
+
+fn write_lines(
+    text: &mut String,
+    front: &str,
+    blanks: &str,
+    lines: &[String],
+) -> Result<(), AllocError> {
+    for told in lines {
+        writeln!(text, "{front}{blanks}{told}")?;
+    }
+    Ok(())
+}
+
+fn write_quote(
+    alloc: Global,
+    text: &mut String,
+    front: &str,
+    quote: &Quote,
+) -> Result<(), AllocError> {
+    let (line, before) = (quote.line, quote.front);
+    let width = format!(in alloc; "{line}")?.len();
+    writeln!(text, "{front}   {line} | {}", quote.text)?;
+    writeln!(text, "{front}   {:width$} | {:before$}^", "", "")
 }
 
 /// A message without variables and notes on a byte range of a text, which counts from the first

@@ -17,6 +17,7 @@ use fz_store::{Domain, Model, Point};
 use fz_tree::{Basic, Constraint, Expr};
 use indexmap::IndexSet;
 use std::alloc::{AllocError, Global};
+use std::slice;
 
 /// The most ranges of a set that are shown.
 pub const MOST_RANGES: usize = 8;
@@ -390,16 +391,18 @@ pub(crate) fn note_fixed(
     constraint: &Constraint<'_>,
 ) -> Result<(), AllocError> {
     for arg in &constraint.args {
-        match arg {
-            Expr::One(basic) => note_basic(alloc, reading, message, basic)?,
-            Expr::List(basics) => {
-                for basic in basics {
-                    note_basic(alloc, reading, message, basic)?;
-                }
-            }
+        for basic in basics_of(arg) {
+            note_basic(alloc, reading, message, basic)?;
         }
     }
     Ok(())
+}
+
+fn basics_of<'t, 'a>(arg: &'t Expr<'a>) -> &'t [Basic<'a>] {
+    match arg {
+        Expr::One(basic) => slice::from_ref(basic),
+        Expr::List(basics) => basics,
+    }
 }
 
 fn note_basic(

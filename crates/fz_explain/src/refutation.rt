@@ -1,6 +1,9 @@
 //! The notes of a message on a block that bounds refute: no point fails under its filling, and one
 //! can't hold within the bounds that are left.
 
+ghost use Rattle.std.specs.Prelude.{◌<◌, length};
+ghost use Rattle.fz_filling.specs.of_model.Meaning.{points};
+
 use crate::bounds::note_on_bounds;
 use crate::chain::{last_of, note_chain};
 use crate::message::Message;
@@ -31,15 +34,26 @@ pub(crate) fn note_refutation(
     if point >= reading.model.points() {
         return Ok(());
     }
-    let mut valued = variables_of(alloc, reading.model, point)?;
-    valued.retain(|variable| reading.filling.has(*variable));
-    note_variables(alloc, reading, message, &valued, &[])?;
+    note_valued(alloc, reading, message, point)?;
     for left in &refutation.left {
         let step = last_of(steps, left.variable);
-        message
-            .variables
-            .push(note_on_bounds(alloc, reading, *left, step)?)?;
+        let note = note_on_bounds(alloc, reading, *left, step)?;
+        message.variables.push(note)?;
     }
     note_chain(alloc, reading, message, point, steps)?;
     message.note(none_will_do(alloc, refutation.tried)?)
+}
+
+/// Adds notes on the variables in a point that have a value.
+fn note_valued(
+    alloc: Global,
+    reading: &Reading<'_, '_, '_, '_, '_>,
+    message: &mut Message,
+    point: usize,
+) -> Result<(), AllocError>
+    requires in_range { point < length (points reading.now.model.now) }
+{
+    let mut valued = variables_of(alloc, reading.model, point)?;
+    valued.retain(|variable| reading.filling.has(*variable));
+    note_variables(alloc, reading, message, &valued, &[])
 }

@@ -82,31 +82,38 @@ pub(crate) fn verdict_message(
     let Some((text, place)) = verdict_place(reading.ast, reading.text, case) else {
         return Ok(None);
     };
-    let said = sentence(alloc, case)?;
-    let Some(mut message) = message_at(alloc, &text, place, said)? else {
-        return Ok(None);
-    };
+    let mut message = message_at(alloc, &text, place, sentence(alloc, case)?)?;
+    if let Some(message) = &mut message {
+        note_verdict(alloc, reading, message)?;
+    }
+    Ok(message)
+}
+
+/// Adds the notes on the verdict.
+fn note_verdict(
+    alloc: Global,
+    reading: &Reading<'_, '_, '_, '_, '_>,
+    message: &mut Message,
+) -> Result<(), AllocError> {
+    let case = reading.case;
     if let Some(point) = verdict_point(case.verdict) {
-        note_text(alloc, reading, &mut message, &point)?;
+        note_text(alloc, reading, message, &point)?;
     }
     match case.verdict {
         Verdict::Satisfied => {}
-        Verdict::Violated(Fault::Printed(name)) => {
-            note_printed(alloc, reading, &mut message, name)?;
-        }
+        Verdict::Violated(Fault::Printed(name)) => note_printed(alloc, reading, message, name)?,
         Verdict::Violated(Fault::NotBetter(now, before)) => {
             let told = format!(in alloc; "block {} has {before}", block_before(case))?;
-            note_objective(alloc, reading, &mut message, &told, now)?;
+            note_objective(alloc, reading, message, &told, now)?;
         }
         Verdict::Undecided(Reason::NotShownBetter(now, before)) => {
             let told = format!(in alloc; "{before} was found for block {}", block_before(case))?;
-            note_objective(alloc, reading, &mut message, &told, now)?;
+            note_objective(alloc, reading, message, &told, now)?;
         }
-        Verdict::Violated(_) => note_failing(alloc, reading, &mut message)?,
-        Verdict::Undecided(_) => note_first(alloc, reading, &mut message, Sought::Undecided)?,
+        Verdict::Violated(_) => note_failing(alloc, reading, message)?,
+        Verdict::Undecided(_) => note_first(alloc, reading, message, Sought::Undecided)?,
     }
-    note_help(alloc, reading, &mut message)?;
-    Ok(Some(message))
+    note_help(alloc, reading, message)
 }
 
 /// Adds notes on the first point that fails, or else on the bounds that refute the block.

@@ -128,13 +128,10 @@ fn count_ends(bytes: &[u8]) -> usize {
 
 /// How many blocks end in these bytes.
 pub fn count_blocks(bytes: &[u8]) -> usize {
-    let mut count: usize = 0;
-    for line in bytes.split_inclusive(|byte| *byte == b'\n') {
-        if is_marker(line) {
-            count = count.saturating_add(1);
-        }
-    }
-    count
+    bytes
+        .split_inclusive(|byte| *byte == b'\n')
+        .filter(|line| is_marker(line))
+        .count()
 }
 
 /// The first `count` bytes, or all.

@@ -43,54 +43,50 @@ impl Counts {
 }
 
 /// Adds a line and a column.
-///
-/// # Errors
-///
-/// Out of memory.
-pub fn add_place(object: &mut Object, line: usize, column: usize) -> Result<(), AllocError> {
-    object.count("line", line)?;
-    object.count("column", column)
+pub fn add_place(object: &mut Object, line: usize, column: usize) {
+    object.count("line", line);
+    object.count("column", column);
 }
 
-fn add_fault(object: &mut Object, fault: Fault<'_>) -> Result<(), AllocError> {
+fn add_fault(object: &mut Object, fault: Fault<'_>) {
     let (point, name) = match fault {
         Fault::Printed(name) => ("printed", name),
         Fault::Domain(name) => ("domain", name),
         Fault::Definition(name) => ("definition", name),
         Fault::Constraint(number, name) => {
-            object.text("point", "constraint")?;
-            object.count("number", number)?;
+            object.text("point", "constraint");
+            object.count("number", number);
             return object.word("name", name);
         }
         Fault::NotBetter(now, before) => {
-            object.text("point", "objective")?;
-            object.number("now", now)?;
+            object.text("point", "objective");
+            object.number("now", now);
             return object.number("before", before);
         }
     };
-    object.text("point", point)?;
-    object.word("name", name)
+    object.text("point", point);
+    object.word("name", name);
 }
 
-fn add_reason(object: &mut Object, reason: Reason<'_>) -> Result<(), AllocError> {
+fn add_reason(object: &mut Object, reason: Reason<'_>) {
     match reason {
         Reason::NoValue(name) => {
-            object.text("reason", "no value")?;
-            object.word("name", name)
+            object.text("reason", "no value");
+            object.word("name", name);
         }
         Reason::Unknown(number, name) => {
-            object.text("reason", "not known")?;
-            object.count("number", number)?;
-            object.word("name", name)
+            object.text("reason", "not known");
+            object.count("number", number);
+            object.word("name", name);
         }
         Reason::TooLarge(number) => {
-            object.text("reason", "too large")?;
-            object.count("number", number)
+            object.text("reason", "too large");
+            object.count("number", number);
         }
         Reason::NotShownBetter(now, found) => {
-            object.text("reason", "not shown better")?;
-            object.number("now", now)?;
-            object.number("found", found)
+            object.text("reason", "not shown better");
+            object.number("now", now);
+            object.number("found", found);
         }
     }
 }
@@ -101,26 +97,26 @@ pub fn block_line(
     judged: &Judged<'_, '_>,
     place: Option<(usize, usize)>,
 ) -> Result<Vec<u8>, AllocError> {
-    let mut object = Object::new(alloc)?;
-    object.count("block", judged.number)?;
+    let mut object = Object::new(alloc);
+    object.count("block", judged.number);
     match judged.verdict {
-        Verdict::Satisfied => object.text("verdict", "satisfied")?,
+        Verdict::Satisfied => object.text("verdict", "satisfied"),
         Verdict::Violated(fault) => {
-            object.text("verdict", "violated")?;
-            add_fault(&mut object, fault)?;
+            object.text("verdict", "violated");
+            add_fault(&mut object, fault);
         }
         Verdict::Undecided(reason) => {
-            object.text("verdict", "undecided")?;
-            add_reason(&mut object, reason)?;
+            object.text("verdict", "undecided");
+            add_reason(&mut object, reason);
         }
     }
     if let Some((line, column)) = place {
-        add_place(&mut object, line, column)?;
+        add_place(&mut object, line, column);
     }
     if let Some(objective) = judged.objective {
-        object.number("objective", objective)?;
+        object.number("objective", objective);
         if judged.found {
-            object.truth("found", true)?;
+            object.truth("found", true);
         }
     }
     object.line()
@@ -133,47 +129,47 @@ pub fn claim_line(
     after: usize,
     nodes: Option<usize>,
 ) -> Result<Vec<u8>, AllocError> {
-    let mut object = Object::new(alloc)?;
-    object.word("claim", claim_text(kind))?;
-    object.count("after", after)?;
+    let mut object = Object::new(alloc);
+    object.word("claim", claim_text(kind));
+    object.count("after", after);
     if let Some(nodes) = nodes {
-        object.count("proved", nodes)?;
+        object.count("proved", nodes);
     }
     object.line()
 }
 
 /// The line of a claim that is refuted.
 pub fn refuted_line(alloc: Global, refutation: &Refutation<'_>) -> Result<Vec<u8>, AllocError> {
-    let mut object = Object::new(alloc)?;
-    object.word("claim", claim_text(refutation.claim.kind))?;
-    object.count("after", refutation.claim.after)?;
-    object.begin("refuted_by")?;
+    let mut object = Object::new(alloc);
+    object.word("claim", claim_text(refutation.claim.kind));
+    object.count("after", refutation.claim.after);
+    object.begin("refuted_by");
     let number = match refutation.by {
         Refuter::Block(number) | Refuter::Behind(number) => number,
         Refuter::Known(source) => {
-            object.word("file", source.file)?;
+            object.word("file", source.file);
             source.block
         }
     };
-    object.count("block", number)?;
-    object.end()?;
+    object.count("block", number);
+    object.end();
     object.line()
 }
 
 /// The line of what was cut off, with its byte range.
 pub fn cut_line(alloc: Global, span: Span) -> Result<Vec<u8>, AllocError> {
-    let mut object = Object::new(alloc)?;
-    object.pair("cut", span.start, span.end)?;
+    let mut object = Object::new(alloc);
+    object.pair("cut", span.start, span.end);
     object.line()
 }
 
 /// The line of a refusal for a file that can't be read.
 pub fn unread_line(alloc: Global, unread: &Unread<'_>) -> Result<Vec<u8>, AllocError> {
-    let mut object = Object::new(alloc)?;
-    object.text("refused", refused_word(&unread.error))?;
+    let mut object = Object::new(alloc);
+    object.text("refused", refused_word(&unread.error));
     if let CheckError::Read = unread.error {
-        object.text("file", unread.name)?;
-        object.text("message", &unread_text(alloc, unread)?)?;
+        object.text("file", unread.name);
+        object.text("message", &unread_text(alloc, unread)?);
     }
     object.line()
 }

@@ -82,6 +82,49 @@ impl Reading {
         Ok(Outcome::Lost)
     }
 
+    /// Reads a text up to the fault at an offset, where one is there, and says what it is.
+    fn find_fault(
+        &mut self,
+        alloc: Global,
+        source: &[u8],
+        at: usize,
+    ) -> Result<Option<String>, AllocError> {
+        let mut tokens = Tokens::new(source);
+        // Each token takes a byte at least, and the end of the text is read too.
+        for count in 0..=source.len() {
+            let token = tokens.first();
+            let start = match token {
+                Some(token) => token.span.start,
+                None => source.len(),
+            };
+            if start > at {
+                return Ok(None);
+            }
+            match self.read(token)? {
+                Outcome::Taken => tokens.advance(),
+                Outcome::Refused(symbol) if start == at => {
+                    return Ok(Some(self.told(alloc, symbol, token, count)?));
+                }
+                _ => return Ok(None),
+            }
+        }
+        Ok(None)
+    }
+
+    /// A fault in words: its name, or what was expected.
+    fn told(
+        &self,
+        alloc: Global,
+        symbol: Symbol,
+        token: Option<Token<'_>>,
+        before: usize,
+    ) -> Result<String, AllocError> {
+        match named(symbol, token, before) {
+            Some(told) => String::from_str(alloc, told),
+            None => self.said(alloc),
+        }
+    }
+
     /// The last things that were expected, in words.
     fn said(&self, alloc: Global) -> Result<String, AllocError> {
         let first = self.things.len().saturating_sub(MOST_THINGS);
@@ -121,38 +164,21 @@ pub(crate) fn expected_at(
     at: usize,
 ) -> Result<Option<String>, AllocError> {
     let mut reading = Reading::new(alloc, given)?;
-    let mut tokens = Tokens::new(source);
-    // Each token takes a byte at least, and the end of the text is read too.
-    for count in 0..=source.len() {
-        let token = tokens.first();
-        let start = match token {
-            Some(token) => token.span.start,
-            None => source.len(),
-        };
-        if start > at {
-            return Ok(None);
-        }
-        match reading.read(token)? {
-            Outcome::Taken => tokens.advance(),
-            Outcome::Refused(symbol) if start == at => {
-                return match named(symbol, token, count) {
-                    Some(told) => Ok(Some(String::from_str(alloc, told)?)),
-                    None => Ok(Some(reading.said(alloc)?)),
-                };
-            }
-            _ => return Ok(None),
-        }
-    }
-    Ok(None)
+    reading.find_fault(alloc, source, at)
 }
 
 /// A fault that has a name of its own, by what was expected, what is there, and how many tokens
 /// come before.
 fn named(symbol: Symbol, token: Option<Token<'_>>, before: usize) -> Option<&'static str> {
-    match (symbol, token) {
-        (Symbol::Solve, None) if before == 0 => Some("the model is empty"),
-        (Symbol::Solve, None) => Some("the model ends without a solve item"),
-        (Symbol::End, Some(token)) if begins_item(token.text) => {
+    let is_item = match token {
+        Some(token) => begins_item(token.text),
+        None => false,
+    };
+    match symbol {
+        Symbol::Solve if token.is_some() => None,
+        Symbol::Solve if before == 0 => Some("the model is empty"),
+        Symbol::Solve => Some("the model ends without a solve item"),
+        Symbol::End if is_item => {
             Some("a second model begins here: the first one ends with its solve item")
         }
         _ => None,

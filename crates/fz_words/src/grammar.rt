@@ -193,7 +193,7 @@ impl Element {
 pub(crate) enum Sort<'a> {
     End,
     Name(&'a [u8]),
-    Reserved(&'a [u8]),
+    Reserved(Word),
     Whole(i64),
     Text,
     Mark(Mark),
@@ -205,19 +205,20 @@ impl<'a> Sort<'a> {
             return Sort::End;
         };
         match token.kind {
-            TokenKind::Word if is_reserved(token.text) => Sort::Reserved(token.text),
-            TokenKind::Word => Sort::Name(token.text),
+            TokenKind::Word => match Word::of(token.text) {
+                Word::Other => Sort::Name(token.text),
+                word => Sort::Reserved(word),
+            },
             TokenKind::Whole(value) => Sort::Whole(value),
             TokenKind::FloatText | TokenKind::Str => Sort::Text,
             TokenKind::Mark(mark) => Sort::Mark(mark),
         }
     }
 
-    /// The reserved word that it is, or an empty one.
-    fn word(self) -> &'a [u8] {
+    fn word(self) -> Word {
         match self {
             Sort::Reserved(word) => word,
-            _ => b"",
+            _ => Word::Other,
         }
     }
 
@@ -237,20 +238,63 @@ impl<'a> Sort<'a> {
     }
 }
 
-fn is_reserved(word: &[u8]) -> bool {
-    begins_item(word)
-        || matches!(
-            word,
-            b"of" | b"float" | b"satisfy" | b"minimize" | b"maximize" | b"true" | b"false"
-        )
+/// A reserved word.
+#[derive(Clone, Copy, PartialEq, Eq)]
+pub(crate) enum Word {
+    Predicate,
+    Array,
+    Var,
+    Bool,
+    Int,
+    Set,
+    Constraint,
+    Solve,
+    Of,
+    Float,
+    Satisfy,
+    Minimize,
+    Maximize,
+    True,
+    False,
+    /// None of these.
+    Other,
 }
+
+const WORDS: [(&str, Word); 15] = [
+    ("predicate", Word::Predicate),
+    ("array", Word::Array),
+    ("var", Word::Var),
+    ("bool", Word::Bool),
+    ("int", Word::Int),
+    ("set", Word::Set),
+    ("constraint", Word::Constraint),
+    ("solve", Word::Solve),
+    ("of", Word::Of),
+    ("float", Word::Float),
+    ("satisfy", Word::Satisfy),
+    ("minimize", Word::Minimize),
+    ("maximize", Word::Maximize),
+    ("true", Word::True),
+    ("false", Word::False),
+];
+
+impl Word {
+    fn of(text: &[u8]) -> Word {
+        for (known, word) in &WORDS {
+            if known.as_bytes() == text {
+                return *word;
+            }
+        }
+        Word::Other
+    }
+}
+
+/// How many of them, the first ones, begin an item of a model.
+const BEGIN_ITEMS: usize = 8;
 
 /// Whether an item of a model begins with this word, and so no printed item.
 pub(crate) fn begins_item(word: &[u8]) -> bool {
-    matches!(
-        word,
-        b"predicate" | b"array" | b"var" | b"bool" | b"int" | b"set" | b"constraint" | b"solve"
-    )
+    (Word::of(word) as usize) < BEGIN_ITEMS
 }
 
 const TAKEN: Effect = Effect::Take(&[]);
@@ -266,8 +310,8 @@ pub(crate) fn step_of(symbol: Symbol, token: Sort<'_>) -> Effect {
     match symbol {
         Symbol::Mark(mark) => taken_if(token.is_mark(mark)),
         Symbol::Semicolon(_) => taken_if(token.is_mark(Mark::Semicolon)),
-        Symbol::Of => taken_if(token.word() == b"of".as_slice()),
-        Symbol::Int => taken_if(token.word() == b"int".as_slice()),
+        Symbol::Of => taken_if(token.word() == Word::Of),
+        Symbol::Int => taken_if(token.word() == Word::Int),
         Symbol::Name => taken_if(token.is_name()),
         Symbol::Whole => taken_if(token.is_whole()),
         Symbol::One => taken_if(matches!(token, Sort::Whole(1))),
@@ -321,33 +365,33 @@ fn next_step(element: Element, token: Sort<'_>) -> Effect {
 }
 
 /// A step at the beginning of an item, or of a goal.
-fn item_step(symbol: Symbol, word: &[u8]) -> Effect {
+fn item_step(symbol: Symbol, word: Word) -> Effect {
     match (symbol, word) {
-        (Symbol::Predicates, b"predicate") => Effect::Take(PREDICATE),
-        (Symbol::Declarations, b"var") => {
+        (Symbol::Predicates, Word::Predicate) => Effect::Take(PREDICATE),
+        (Symbol::Declarations, Word::Var) => {
             Effect::Take(&[Symbol::Base, Symbol::Named, Symbol::Value, Symbol::Declared])
         }
-        (Symbol::Declarations, b"array") => Effect::Take(ARRAY),
-        (Symbol::Declarations, b"bool" | b"int") => {
+        (Symbol::Declarations, Word::Array) => Effect::Take(ARRAY),
+        (Symbol::Declarations, Word::Bool | Word::Int) => {
             Effect::Take(&[Symbol::Named, EQUALS, Symbol::Literal, Symbol::Declared])
         }
-        (Symbol::Declarations, b"set") => Effect::Take(&[
+        (Symbol::Declarations, Word::Set) => Effect::Take(&[
             Symbol::OfInt,
             Symbol::Named,
             EQUALS,
             Symbol::Literal,
             Symbol::Declared,
         ]),
-        (Symbol::Constraints, b"constraint") => Effect::Take(CONSTRAINT),
+        (Symbol::Constraints, Word::Constraint) => Effect::Take(CONSTRAINT),
         (Symbol::Predicates | Symbol::Declarations | Symbol::Constraints, _) => SKIPPED,
-        (Symbol::Solve, b"solve") => Effect::Take(&[
+        (Symbol::Solve, Word::Solve) => Effect::Take(&[
             Symbol::Notes,
             Symbol::Goal,
             Symbol::Semicolon(Item::Solve),
             Symbol::End,
         ]),
-        (Symbol::Goal, b"satisfy") => TAKEN,
-        (Symbol::Goal, b"minimize" | b"maximize") => Effect::Take(&[Symbol::Basic]),
+        (Symbol::Goal, Word::Satisfy) => TAKEN,
+        (Symbol::Goal, Word::Minimize | Word::Maximize) => Effect::Take(&[Symbol::Basic]),
         _ => Effect::Stop,
     }
 }
@@ -355,7 +399,7 @@ fn item_step(symbol: Symbol, word: &[u8]) -> Effect {
 /// A step in a type.
 fn type_step(symbol: Symbol, token: Sort<'_>) -> Effect {
     match (symbol, token.word()) {
-        (Symbol::Param, b"array") => Effect::Take(&[
+        (Symbol::Param, Word::Array) => Effect::Take(&[
             OPEN_LIST,
             Symbol::ParamIndex,
             Symbol::Next(Element::ParamIndex),
@@ -365,25 +409,28 @@ fn type_step(symbol: Symbol, token: Sort<'_>) -> Effect {
             Symbol::Name,
         ]),
         (Symbol::Param, _) => Effect::Become(&[Symbol::ParamBase, COLON, Symbol::Name]),
-        (Symbol::ParamIndex, b"int") => TAKEN,
+        (Symbol::ParamIndex, Word::Int) => TAKEN,
         (Symbol::ParamIndex, _) => Effect::Become(&[Symbol::One, DOTS, Symbol::Whole]),
-        (Symbol::ParamBase, b"var") => Effect::Take(&[Symbol::Base]),
+        (Symbol::ParamBase, Word::Var) => Effect::Take(&[Symbol::Base]),
         (Symbol::ParamBase, _) => Effect::Become(&[Symbol::Base]),
-        (Symbol::OfElements, b"var") => Effect::Take(&[
+        (Symbol::OfElements, Word::Var) => Effect::Take(&[
             Symbol::Base,
             Symbol::Named,
             EQUALS,
             OPEN_LIST,
             Symbol::First(Element::Basic),
         ]),
-        (Symbol::OfElements, b"bool" | b"int") => Effect::Take(&[Symbol::Named, Symbol::Literals]),
-        (Symbol::OfElements, b"set") => {
+        (Symbol::OfElements, Word::Bool | Word::Int) => Effect::Take(&[
+            Symbol::Named,
+            Symbol::Literals,
+        ]),
+        (Symbol::OfElements, Word::Set) => {
             Effect::Take(&[Symbol::OfInt, Symbol::Named, Symbol::Literals])
         }
         (Symbol::OfElements, _) => Effect::Stop,
-        (Symbol::Base, b"bool") => TAKEN,
-        (Symbol::Base, b"set") => Effect::Take(&[Symbol::Of, Symbol::SetBase]),
-        (_, b"int") => TAKEN,
+        (Symbol::Base, Word::Bool) => TAKEN,
+        (Symbol::Base, Word::Set) => Effect::Take(&[Symbol::Of, Symbol::SetBase]),
+        (_, Word::Int) => TAKEN,
         _ => bounds_step(token),
     }
 }
@@ -408,7 +455,7 @@ fn value_step(symbol: Symbol, token: Sort<'_>) -> Effect {
         (Symbol::Arg, _) => Effect::Become(&[Symbol::Basic]),
         (Symbol::Basic, Sort::Name(_)) => TAKEN,
         (Symbol::Basic, _) => Effect::Become(&[Symbol::Literal]),
-        (_, Sort::Reserved(b"true" | b"false")) => TAKEN,
+        (_, Sort::Reserved(Word::True | Word::False)) => TAKEN,
         (_, Sort::Whole(_)) => Effect::Take(&[Symbol::Upper]),
         (_, Sort::Mark(Mark::OpenBrace)) => Effect::Take(&[Symbol::First(Element::Whole)]),
         _ => Effect::Stop,

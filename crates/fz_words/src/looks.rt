@@ -49,6 +49,26 @@ const IS_MODEL: &str = "this is a FlatZinc model: MODEL comes before STREAM";
 
 const IS_OF_MINIZINC: &str = "this is what minizinc prints: see fzcheck-mzn";
 
+/// Words that MiniZinc reserves and FlatZinc doesn't.
+const OF_MINIZINC: [&str; 16] = [
+    "include",
+    "output",
+    "enum",
+    "function",
+    "test",
+    "annotation",
+    "type",
+    "par",
+    "opt",
+    "ann",
+    "string",
+    "in",
+    "where",
+    "if",
+    "let",
+    "not",
+];
+
 /// What a file of this name is that begins with these bytes, of a stream with those of a block, and
 /// has its first fault at this byte offset.
 pub(crate) fn look_at(given: Given, name: &str, bytes: &[u8], at: usize) -> Option<&'static str> {
@@ -106,28 +126,10 @@ fn is_minizinc(bytes: &[u8]) -> bool {
     if let Some(b'+' | b'*' | b'/' | b'\\' | b'<' | b'>' | b'!' | b'|') = bytes.first() {
         return true;
     }
-    let Some(token) = Tokens::new(bytes).first() else {
-        return false;
-    };
-    matches!(
-        token.text,
-        b"include"
-            | b"output"
-            | b"enum"
-            | b"function"
-            | b"test"
-            | b"annotation"
-            | b"type"
-            | b"par"
-            | b"opt"
-            | b"ann"
-            | b"string"
-            | b"in"
-            | b"where"
-            | b"if"
-            | b"let"
-            | b"not"
-    )
+    match Tokens::new(bytes).first() {
+        Some(token) => OF_MINIZINC.iter().any(|word| word.as_bytes() == token.text),
+        None => false,
+    }
 }
 
 /// Whether a fault at this offset is in a value that MiniZinc prints, and no solver of FlatZinc: a

@@ -8,13 +8,10 @@ use fz_report::{Answer, CheckError, Counts, Object, Span, add_place, refusal_fau
 use std::alloc::{AllocError, Global};
 
 /// Adds where a message is, and what it says, where there is one.
-fn add_message(object: &mut Object, message: Option<&Message>) -> Result<(), AllocError> {
-    match message {
-        Some(message) => {
-            add_place(object, message.line, message.column)?;
-            object.text("message", &message.said)
-        }
-        None => Ok(()),
+fn add_message(object: &mut Object, message: Option<&Message>) {
+    if let Some(message) = message {
+        add_place(object, message.line, message.column);
+        object.text("message", &message.said);
     }
 }
 
@@ -26,103 +23,103 @@ fn add_value(alloc: Global, object: &mut Object, value: &Value) -> Result<(), Al
         Value::Bool(truth) => object.truth("value", *truth),
         Value::Set(set) => {
             let ranges = set.ranges(alloc)?;
-            object.begin_list("value")?;
+            object.begin_list("value");
             for range in ranges.iter().take(MOST_RANGES) {
-                object.range(range.lo, range.hi)?;
+                object.range(range.lo, range.hi);
             }
-            object.end_list()?;
-            add_left_out(object, ranges.len().saturating_sub(MOST_RANGES))
+            object.end_list();
+            add_left_out(object, "left_out", ranges.len().saturating_sub(MOST_RANGES));
         }
     }
+    Ok(())
 }
 
 /// Adds the bounds of a variable.
-fn add_bounds(object: &mut Object, bounds: Bounds) -> Result<(), AllocError> {
+fn add_bounds(object: &mut Object, bounds: Bounds) {
     let Bounds { low, high, kind } = bounds;
     match kind {
         Kind::Bool => {
-            object.truth("low", low != 0)?;
-            object.truth("high", high != 0)
+            object.truth("low", low != 0);
+            object.truth("high", high != 0);
         }
         Kind::Int | Kind::Set => {
-            object.number("low", low)?;
-            object.number("high", high)
+            object.number("low", low);
+            object.number("high", high);
         }
     }
 }
 
 /// Adds how many are left out, where some are.
-fn add_left_out(object: &mut Object, count: usize) -> Result<(), AllocError> {
-    if count == 0 {
-        return Ok(());
+fn add_left_out(object: &mut Object, key: &str, count: usize) {
+    if count > 0 {
+        object.count(key, count);
     }
-    object.count("left_out", count)
+}
+
+/// Adds a text, where there is one.
+fn add_text(object: &mut Object, key: &str, text: &Option<String>) {
+    if let Some(text) = text {
+        object.text(key, text);
+    }
 }
 
 fn add_note(alloc: Global, object: &mut Object, note: &Note) -> Result<(), AllocError> {
-    object.begin_element()?;
-    object.text("name", &note.name)?;
-    if let Some(element) = &note.element {
-        object.text("element", element)?;
-    }
-    if let Some(role) = &note.role {
-        object.text("role", role)?;
-    }
+    object.begin_element();
+    object.text("name", &note.name);
+    add_text(object, "element", &note.element);
+    add_text(object, "role", &note.role);
     match &note.known {
         Known::Value(value) => add_value(alloc, object, value)?,
-        Known::Narrowed(bounds) | Known::Within(bounds) => add_bounds(object, *bounds)?,
+        Known::Narrowed(bounds) | Known::Within(bounds) => add_bounds(object, *bounds),
         Known::Nothing => {}
     }
     match &note.origin {
-        Origin::Printed => object.text("source", "printed")?,
+        Origin::Printed => object.text("source", "printed"),
         Origin::Given(giver, line, remarks) => {
-            object.text("source", giver)?;
+            object.text("source", giver);
             if let Some(line) = line {
-                object.count("line", *line)?;
+                object.count("line", *line);
             }
-            add_remarks(object, remarks)?;
+            add_remarks(object, remarks);
         }
         Origin::Nothing => {}
     }
     if !note.behind.is_empty() {
-        object.texts("behind", &note.behind)?;
+        object.texts("behind", &note.behind);
     }
-    object.end()
+    object.end();
+    Ok(())
 }
 
 /// Adds what the compiler wrote at a point, where it wrote something.
-fn add_remarks(object: &mut Object, remarks: &Remarks) -> Result<(), AllocError> {
+fn add_remarks(object: &mut Object, remarks: &Remarks) {
     if remarks.names.is_empty() && remarks.place.is_none() {
-        return Ok(());
+        return;
     }
-    object.begin("model")?;
-    object.texts("names", &remarks.names)?;
-    if let Some(place) = &remarks.place {
-        object.text("place", place)?;
-    }
-    object.texts("loops", &remarks.loops)?;
+    object.begin("model");
+    object.texts("names", &remarks.names);
+    add_text(object, "place", &remarks.place);
+    object.texts("loops", &remarks.loops);
     if let Some(quote) = &remarks.quote {
-        object.text("line", &quote.text)?;
+        object.text("line", &quote.text);
     }
-    object.end()
+    object.end();
 }
 
 /// Adds what is fixed, where something is.
-fn add_fixed(object: &mut Object, fixed: &[FixedNote]) -> Result<(), AllocError> {
+fn add_fixed(object: &mut Object, fixed: &[FixedNote]) {
     if fixed.is_empty() {
-        return Ok(());
+        return;
     }
-    object.begin_list("fixed")?;
+    object.begin_list("fixed");
     for note in fixed {
-        object.begin_element()?;
-        object.text("name", &note.name)?;
-        if let Some(element) = &note.element {
-            object.text("element", element)?;
-        }
-        object.text("value", &note.value)?;
-        object.end()?;
+        object.begin_element();
+        object.text("name", &note.name);
+        add_text(object, "element", &note.element);
+        object.text("value", &note.value);
+        object.end();
     }
-    object.end_list()
+    object.end_list();
 }
 
 /// The line of the answer, with the printed variables that nothing binds, where there are some.
@@ -139,20 +136,18 @@ pub fn answer_line(
         Answer::Undecided(number) => ("undecided", Some(("block", number))),
         Answer::NoBlocks => ("no blocks", None),
     };
-    let mut object = Object::new(alloc)?;
-    object.text("answer", word)?;
+    let mut object = Object::new(alloc);
+    object.text("answer", word);
     if let Some((key, number)) = place {
-        object.count(key, number)?;
+        object.count(key, number);
     }
-    object.count("blocks", counts.blocks())?;
-    object.count("satisfied", counts.satisfied)?;
-    object.count("violated", counts.violated)?;
-    object.count("undecided", counts.undecided)?;
+    object.count("blocks", counts.blocks());
+    object.count("satisfied", counts.satisfied);
+    object.count("violated", counts.violated);
+    object.count("undecided", counts.undecided);
     if let Some(printed) = unconstrained {
-        object.texts("unconstrained", &printed.names)?;
-        if printed.left_out > 0 {
-            object.count("unconstrained_left_out", printed.left_out)?;
-        }
+        object.texts("unconstrained", &printed.names);
+        add_left_out(&mut object, "unconstrained_left_out", printed.left_out);
     }
     object.line()
 }
@@ -163,19 +158,19 @@ pub fn refusal_line(
     error: &CheckError,
     message: Option<&Message>,
 ) -> Result<Vec<u8>, AllocError> {
-    let mut object = Object::new(alloc)?;
-    object.text("refused", refused_word(error))?;
+    let mut object = Object::new(alloc);
+    object.text("refused", refused_word(error));
     if let CheckError::Block(number, _) = error {
-        object.count("block", *number)?;
+        object.count("block", *number);
     }
     if let Some(fault) = refusal_fault(error) {
-        object.word("fault", fault.name)?;
+        object.word("fault", fault.name);
         if let Some(place) = fault.place {
-            object.count("start", place.start)?;
-            object.count("end", place.end)?;
+            object.count("start", place.start);
+            object.count("end", place.end);
         }
     }
-    add_message(&mut object, message)?;
+    add_message(&mut object, message);
     object.line()
 }
 
@@ -186,17 +181,17 @@ pub fn names_line(
     place: Option<Span>,
     message: Option<&Message>,
 ) -> Result<Vec<u8>, AllocError> {
-    let mut object = Object::new(alloc)?;
-    object.text("refused", "names")?;
+    let mut object = Object::new(alloc);
+    object.text("refused", "names");
     match place {
         Some(place) => {
-            object.text("fault", "Columns")?;
-            object.count("start", place.start)?;
-            object.count("end", place.end)?;
+            object.text("fault", "Columns");
+            object.count("start", place.start);
+            object.count("end", place.end);
         }
-        None => object.text("fault", "TooLong")?,
+        None => object.text("fault", "TooLong"),
     }
-    add_message(&mut object, message)?;
+    add_message(&mut object, message);
     object.line()
 }
 
@@ -206,23 +201,19 @@ pub fn explanation_line(
     block: usize,
     message: &Message,
 ) -> Result<Vec<u8>, AllocError> {
-    let mut object = Object::new(alloc)?;
-    object.count("explained", block)?;
-    add_message(&mut object, Some(message))?;
-    add_remarks(&mut object, &message.remarks)?;
-    if let Some(reason) = &message.reason {
-        object.text("reason", reason)?;
-    }
-    object.begin_list("variables")?;
+    let mut object = Object::new(alloc);
+    object.count("explained", block);
+    add_message(&mut object, Some(message));
+    add_remarks(&mut object, &message.remarks);
+    add_text(&mut object, "reason", &message.reason);
+    object.begin_list("variables");
     for note in &message.variables {
         add_note(alloc, &mut object, note)?;
     }
-    object.end_list()?;
-    add_left_out(&mut object, message.left_out)?;
-    if message.behind_left_out > 0 {
-        object.count("behind_left_out", message.behind_left_out)?;
-    }
-    add_fixed(&mut object, &message.fixed)?;
-    object.texts("notes", &message.notes)?;
+    object.end_list();
+    add_left_out(&mut object, "left_out", message.left_out);
+    add_left_out(&mut object, "behind_left_out", message.behind_left_out);
+    add_fixed(&mut object, &message.fixed);
+    object.texts("notes", &message.notes);
     object.line()
 }

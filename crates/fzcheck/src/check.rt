@@ -99,38 +99,53 @@ pub fn check_stream<'x, S: Read + Drop>(
     names: NameTable<'_>,
     stream: S,
 ) -> u8 {
-    let options = task.options;
     let recent = RefCell::new(Recent::new(rt.alloc()));
-    let detail = Detail::of(rt, options.explains != Explaining::Nothing);
-    let stored = match (detail, options.form) {
+    let detail = Detail::of(rt, task.options.explains != Explaining::Nothing);
+    let stored = match (detail, task.options.form) {
         (Detail::Nothing, Form::Text) => None,
         _ => Some(&recent),
     };
-    let mut stream = Recorder::new(stream, stored);
     let text = Text {
         name: task.model,
         bytes: model,
         passed: NOTHING,
     };
-    let explainer = Explainer::new(text, names, completion_of(options.completes));
-    let mut teller = Teller::new(rt, options, explainer, task.stream, &recent);
-    let outcome = match options.form {
-        Form::Text => check_to(rt, task, claims, model, &mut stream, &mut teller),
-        Form::Json => check_to_json(rt, task, claims, model, &mut stream, &mut teller),
-    };
-    teller.clear();
-    match outcome {
-        Ok(answer) => {
-            teller.tell();
-            teller.tell_unconstrained();
-            status(&Ok(answer))
-        }
+    let explainer = Explainer::new(text, names, completion_of(task.options.completes));
+    let teller = Teller::new(rt, task.options, explainer, task.stream, &recent);
+    let mut stream = Recorder::new(stream, stored);
+    match check_and_tell(rt, task, claims, model, &mut stream, teller) {
+        Ok(answer) => status(&Ok(answer)),
         Err(CheckError::Read) => {
             let unread = Unread::new(CheckError::Read, task.stream, stream.into_failure());
             refuse_reading(rt, task, &unread)
         }
         Err(error) => refuse_check(rt, task, &text, stored, &error, detail),
     }
+}
+
+/// Checks a stream, and tells what belongs to the answer.
+fn check_and_tell<S: Read>(
+    rt: &HostRuntime,
+    task: &Task<'_>,
+    claims: Claims<'_>,
+    model: &[u8],
+    stream: &mut S,
+    mut teller: Teller<'_, '_>,
+) -> Result<Answer, CheckError> {
+    let outcome = match task.options.form {
+        Form::Text => check_to(rt, task, claims, model, stream, &mut teller),
+        Form::Json => {
+            let mut taker = JsonTeller {
+                teller: &mut teller,
+            };
+            check_to(rt, task, claims, model, stream, &mut taker)
+        }
+    };
+    teller.clear();
+    let answer = outcome?;
+    teller.tell();
+    teller.tell_unconstrained();
+    Ok(answer)
 }
 
 /// Checks a stream, and writes the report to standard output.
@@ -153,19 +168,6 @@ fn check_to<S: Read, T: Taker>(
         MOST_READS,
         options,
     )
-}
-
-/// The same, where the report is JSON.
-fn check_to_json<S: Read>(
-    rt: &HostRuntime,
-    task: &Task<'_>,
-    claims: Claims<'_>,
-    model: &[u8],
-    stream: &mut S,
-    teller: &mut Teller<'_, '_>,
-) -> Result<Answer, CheckError> {
-    let mut taker = JsonTeller { teller };
-    check_to(rt, task, claims, model, stream, &mut taker)
 }
 
 /// Refuses the check since a file can't be read.
