@@ -10,9 +10,9 @@ use Rattle.fz_model.specs.States.{IsKnownSolution}
 use Rattle.fz_model.specs.Steps.{give, kind_at}
 use Rattle.fz_model.proofs.Steps.{value_at_given, value_at_other}
 use Rattle.fz_model.proofs.Under.{assigned}
-use Rattle.fz_bounds.specs.Bounds.{IsInside, LiesBetween, Ranges, narrowed, number_as}
+use Rattle.fz_bounds.specs.Bounds.{IsInside, LiesBetween, Ranges, forgotten, narrowed, number_as}
 use Rattle.fz_bounds.specs.Decided.{LiesIn}
-use Rattle.fz_bounds.specs.Opened.{AreMarks, IsAmid, IsInBoth, LeavesAround, forgotten}
+use Rattle.fz_bounds.specs.Opened.{AreMarks, IsAmid, IsInBoth, LeavesAround}
 use Rattle.fz_bounds.specs.declared.range.Range.{Range}
 use Rattle.fz_bounds.proofs.Giving.{given_there, given_twice}
 use Rattle.fz_bounds.proofs.Inside.{at_most_itself, lies_given, same_or_other}
@@ -32,7 +32,7 @@ others_stay (o ∷ K) zero (suc k) other = refl
 others_stay (o ∷ K) (suc n) zero other = refl
 others_stay (o ∷ K) (suc n) (suc k) other = others_stay K n k (λ e. other (ap suc e))
 
-given_away : (K : Partial) (n : ℕ) (v : Value) → without (give K n v) n ≡ without K n
+pub given_away : (K : Partial) (n : ℕ) (v : Value) → without (give K n v) n ≡ without K n
 given_away [] n v = refl
 given_away (o ∷ K) zero v = refl
 given_away (o ∷ K) (suc n) v = ap (λ L. o ∷ L) (given_away K n v)

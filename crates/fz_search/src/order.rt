@@ -3,6 +3,7 @@
 ghost use Rattle.std.specs.Prelude.{IfSome};
 ghost use Rattle.fz_search.specs.Found.{IsObjective};
 
+use crate::subsets::OpenSet;
 use crate::work::Work;
 use fz_index::Ends;
 use fz_store::{Goal, Model, Term};
@@ -131,6 +132,12 @@ impl<'m, 'a> Work<'m, 'a> {
             }
         }
         None
+    }
+
+    /// The first set without a value of whose domain few numbers are known.
+    pub(crate) fn open_set(&self) -> Option<&'m OpenSet> {
+        let mut sets = self.task.sets.iter();
+        sets.find(|set| !set.numbers.is_empty() && !self.proposal.has(set.variable))
     }
 
     /// The variable without a value that is split: the first, or the one with the fewest numbers.
