@@ -5,7 +5,7 @@ ghost use Rattle.std.specs.FinSet.{contains, from_list};
 ghost use Rattle.fz_bounds.specs.Bounds.{LiesIn};
 ghost use Rattle.fz_bounds.specs.of_model.Meaning.{admits};
 ghost use Rattle.fz_bounds.specs.of_model.of_base.declared.value.Value.{Value as Held};
-ghost use Rattle.fz_search.specs.Subsets.{IsAmong, first_of};
+ghost use Rattle.fz_search.specs.Subsets.{IsAmong, first_of, kept};
 
 use fz_store::{Domain, IntSet, Kind, Model, Value, Variable, same_kind};
 use std::alloc::{AllocError, Global};
@@ -62,30 +62,43 @@ pub(crate) struct Subsets<'m> {
     code: u64,
 }
 
+/// Those of the numbers whose bit the code doesn't have.
+fn kept_of(alloc: Global, numbers: &[i64], code: u64) -> Result<Vec<i64>, AllocError>
+    ensures { IfOk result (λ v. v.items ≡ kept numbers.now code) }
+{
+    let mut kept = Vec::new(alloc);
+    let mut bits = code;
+    for number in numbers {
+        if bits % 2 == 0 {
+            kept.push(*number)?;
+        }
+        bits /= 2;
+    }
+    Ok(kept)
+}
+
 impl<'m> Subsets<'m> {
     /// The one with the highest code.
     pub(crate) fn first(self, alloc: Global) -> Result<Value, AllocError>
         ensures { IfOk result (λ v. v ≡ first_of self) }
     {
-        let mut kept = Vec::new(alloc);
-        let mut bits = self.code;
-        for number in self.numbers {
-            if bits % 2 == 0 {
-                kept.push(*number)?;
-            }
-            bits /= 2;
-        }
+        let kept = kept_of(alloc, self.numbers, self.code)?;
         let set = IntSet::list(alloc, &kept).map_err(|_| AllocError)?;
         Ok(Value::Set(set))
     }
 
     /// All others.
     pub(crate) fn rest(self) -> Option<Subsets<'m>>
-        ensures { (o : Option Held) → IsAmong self o
-            → (o ≡ Some (first_of self)) ⊎ IsSomeAnd result (λ s. IsAmong s o) }
+        ensures { (o : Option Held) → IsAmong self.entry o
+            → (o ≡ Some (first_of self.entry)) ⊎ IsSomeAnd result (λ s. IsAmong s o) }
     {
-        let code = self.code.checked_sub(1)?;
-        Some(Subsets { code, ..self })
+        if self.code == 0 {
+            return None;
+        }
+        Some(Subsets {
+            code: self.code - 1,
+            ..self
+        })
     }
 }
 

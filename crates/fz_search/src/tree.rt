@@ -121,7 +121,7 @@ fn better_than(last: i64, is_cost: bool, low: i64, high: i64) -> (i64, i64)
 
 /// Gives the variable of a step the bounds that it had, or none.
 fn undo(bounds: &mut Bounds, step: Step<'_>)
-    ensures { bounds.new ≡ undone bounds.old step.variable step.was }
+    ensures { bounds.new ≡ undone bounds.old step.entry.variable step.entry.was }
 {
     match step.was {
         Some(was) => bounds.narrow(step.variable, was.kind, was.low, was.high),
@@ -137,7 +137,7 @@ fn enter<'m>(
     branch: Branch<'m>,
 ) -> Result<Option<Branch<'m>>, AllocError>
     ensures parted { IfOk result (λ rest. (A : Assignment)
-        → IsInBranch A bounds.old variable branch
+        → IsInBranch A bounds.old variable branch.entry
         → IsInside bounds.new A ⊎ IsInOpen A bounds.old variable rest) }
     ensures back { IfOk result (λ _. (was : Option Told)
         → undone bounds.new variable was ≡ undone bounds.old variable was) }

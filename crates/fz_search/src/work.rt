@@ -292,10 +292,7 @@ impl<'m, 'a> Work<'m, 'a> {
             return Ok(Move::Nothing);
         }
         if let Some(split) = self.choose() {
-            return Ok(Move::Split(split));
-        }
-        if let Some(set) = self.open_set() {
-            return Ok(Move::SplitSet(set));
+            return Ok(split);
         }
         match self.unmet()? {
             Some(point) => Ok(Move::Leave(point)),
