@@ -231,6 +231,22 @@ module _ (q : Asked) (all : Bool) where
       step (inl there) = part (parts A (subst (λ p. IsInOpen A D s.variable p) is_open there))
       step (inr h) = inr (behind (inr h))
 
+  -- a step that is taken back, of which no branch is open
+  pub left_so : (B D : Ranges) (xs ys : List Step) (o : Option ℕ) (s : Step) → is_some o ≡ true
+      → s.branch ≡ None → D ≡ undone B s.variable s.was → ys ≡ xs ++ s ∷ []
+      → Covers q all B (reverse ys) o → Covers q all D (reverse xs) o
+  left_so B D xs ys o s is_closed none before more covers is_all A sought =
+      step o is_closed (covers is_all A sought)
+    where
+      last : IsInOpen A (undone B s.variable s.was) s.variable s.branch
+          ⊎ IsLeft A (undone B s.variable s.was) (reverse xs) → IsLeft A D (reverse xs)
+      last (inl there) = absurd (subst (IsInOpen A (undone B s.variable s.was) s.variable) none there)
+      last (inr h) = subst (λ E. IsLeft A E (reverse xs)) (sym before) h
+
+      step : (o : Option ℕ) → is_some o ≡ true → IsOpen A B (reverse ys) o → IsOpen A D (reverse xs) o
+      step None e h = cc
+      step (Some k) e h = last (subst (IsLeft A B) (last_first xs ys s more) h)
+
   -- where nothing is open, there is none
   pub none_so : (B : Ranges) (xs : List Step) (o : Option ℕ) (k : ℕ) → all ≡ true → length xs ≡ 0
       → o ≡ Some k → Covers q all B (reverse xs) o → (A : Assignment) → IsSought q A → ⊥

@@ -11,7 +11,7 @@ pub returns-in-Part : goal.returns-in-Part
 returns-in-Part c =
     let B = c.args.bounds.now in
     let n = c.args.variable in
-    let is = put_so B c.narrow-in-Part.new.self n c.in-Part.ends _ _ c.narrow-in-Part.ensures.exact (omega (arith, ints)) (omega (arith, ints)) in
+    let is = put_so B c.narrow.new.self n c.in-Part.ends _ _ c.narrow.ensures.exact (omega (arith, ints)) (omega (arith, ints)) in
     record {
       parted = λ A there. inl (subst (λ D. IsInside D A) (sym is) (subst (IsInBranch A B n) c.in-Part.is there));
       back = λ was. ap (λ D. undone D n was) is ∙ back_again B n _ _ was;
@@ -27,10 +27,10 @@ returns-in-Some c =
       parted = λ A there.
           let (inside, among) = subst (IsInBranch A B n) c.in-Subsets.is there in
           elim (c.in-Some.ensures (value_at (whole A) n) among) [
-            | inl first ↦ inl (fixed_inside A B c.settle-in-Subsets.new.self n v settled (first ∙ ap Some (sym c.in_ok-value-in-Subsets.ensures)) inside)
+            | inl first ↦ inl (fixed_inside A B c.settle.new.self n v settled (first ∙ ap Some (sym c.in_ok-value-in-Subsets.ensures)) inside)
             | inr others ↦ inr (inside, others)
           ];
-      back = λ was. ap (λ D. undone D n was) settled ∙ back_again B n v v was;
+      back = λ was. ap (λ D. undone D n was) settled ∙ back_again B n _ _ was;
     }
 
 pub returns-in-None : goal.returns-in-None
@@ -43,8 +43,8 @@ returns-in-None c =
       parted = λ A there.
           let (inside, among) = subst (IsInBranch A B n) c.in-Subsets.is there in
           elim (c.in-None.ensures (value_at (whole A) n) among) [
-            | inl first ↦ inl (fixed_inside A B c.settle-in-Subsets.new.self n v settled (first ∙ ap Some (sym c.in_ok-value-in-Subsets.ensures)) inside)
+            | inl first ↦ inl (fixed_inside A B c.settle.new.self n v settled (first ∙ ap Some (sym c.in_ok-value-in-Subsets.ensures)) inside)
             | inr none ↦ absurd none
           ];
-      back = λ was. ap (λ D. undone D n was) settled ∙ back_again B n v v was;
+      back = λ was. ap (λ D. undone D n was) settled ∙ back_again B n _ _ was;
     }
