@@ -10,9 +10,9 @@ use Rattle.fz_model.specs.States.{IsKnownSolution}
 use Rattle.fz_model.specs.Steps.{give, kind_at}
 use Rattle.fz_model.proofs.Steps.{value_at_given, value_at_other}
 use Rattle.fz_model.proofs.Under.{assigned}
-use Rattle.fz_bounds.specs.Bounds.{IsInside, LiesBetween, Ranges, forgotten, narrowed, number_as}
+use Rattle.fz_bounds.specs.Bounds.{IsInside, LiesBetween, Ranges, narrowed, number_as}
 use Rattle.fz_bounds.specs.Decided.{LiesIn}
-use Rattle.fz_bounds.specs.Opened.{AreMarks, IsAmid, IsInBoth, LeavesAround}
+use Rattle.fz_bounds.specs.Opened.{AreMarks, IsAmid, IsInBoth, LeavesAround, forgotten}
 use Rattle.fz_bounds.specs.declared.range.Range.{Range}
 use Rattle.fz_bounds.proofs.Giving.{given_there, given_twice}
 use Rattle.fz_bounds.proofs.Inside.{at_most_itself, lies_given, same_or_other}

@@ -8,7 +8,6 @@ use Rattle.fz_model.specs.declared.Kind.{Kind}
 use Rattle.fz_model.specs.declared.Kind.TheVariants.{Int as IntKind, Bool as BoolKind, Set as SetKind}
 use Rattle.fz_model.specs.declared.Domain.{Domain}
 use Rattle.fz_model.specs.Meaning.{Assignment, Model, Partial, Point, inside, points, value_at, whole}
-use Rattle.fz_model.specs.Partial.{without}
 use Rattle.fz_model.specs.Steps.{give}
 use Rattle.fz_model.specs.Meaning.Point.{DomainPoint, DefinitionPoint, ArrayPoint, ConstraintPoint}
 use Rattle.fz_model.specs.States.{HoldsIfKnown}
@@ -43,10 +42,6 @@ NeverHolds B p = (A : Assignment) → IsInside B A → HoldsIfKnown (whole A) p 
 -- the same bounds, but for one variable, which has these
 abbrev pub narrowed : Ranges → ℕ → Value → Value → Ranges
 narrowed B n low high = record { lowest = give B.lowest n low; highest = give B.highest n high }
-
--- the same bounds, but for one variable, which has none
-abbrev pub forgotten : Ranges → ℕ → Ranges
-forgotten B n = record { lowest = without B.lowest n; highest = without B.highest n }
 
 -- the value that a number stands for in a variable of the kind: of a Boolean, one above 0 is true
 abbrev pub number_as : Kind → ℤ → Value

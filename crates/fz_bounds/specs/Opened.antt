@@ -6,6 +6,7 @@ use Rattle.fz_model.specs.declared.Term.{Term}
 use Rattle.fz_model.specs.Builtins.{Row}
 use Rattle.fz_model.specs.Meaning.{Assignment, Model, Partial, Point, Posted, points, value_at, whole}
 use Rattle.fz_model.specs.Meaning.Point.{ConstraintPoint}
+use Rattle.fz_model.specs.Partial.{without}
 use Rattle.fz_model.specs.States.{HoldsIfKnown, IsKnownSolution}
 use Rattle.fz_model.specs.Steps.{give}
 use Rattle.fz_model.specs.of_builtins.of_kernel.Given.{int_of, slots_at, value_of}
@@ -15,6 +16,10 @@ use Rattle.fz_bounds.specs.Decided.{LiesIn}
 use Rattle.fz_bounds.specs.Within.{IsBetween, given}
 use Rattle.fz_bounds.specs.declared.opened.OpenConstraint.{OpenConstraint}
 use Rattle.fz_bounds.specs.declared.range.Range.{Range}
+
+-- the bounds without those of a variable
+abbrev pub forgotten : Ranges → ℕ → Ranges
+forgotten B n = record { lowest = without B.lowest n; highest = without B.highest n }
 
 -- ---- in one constraint
 

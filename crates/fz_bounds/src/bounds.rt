@@ -5,8 +5,9 @@ ghost use Rattle.fz_model.specs.Meaning.{Assignment, value_at, whole};
 ghost use Rattle.fz_model.specs.States.{IsKnownSolution};
 ghost use Rattle.fz_model.specs.Shown.{point_view};
 ghost use Rattle.fz_model.specs.Openings.{HasEach};
-ghost use Rattle.fz_bounds.specs.Bounds.{AreFixed, IsBoth, IsInDomain, IsInside, forgotten, narrowed, number_as};
+ghost use Rattle.fz_bounds.specs.Bounds.{AreFixed, IsBoth, IsInDomain, IsInside, narrowed, number_as};
 ghost use Rattle.fz_bounds.specs.Ends.{AreEndsAt};
+ghost use Rattle.fz_bounds.specs.Opened.{forgotten};
 
 use crate::domains::ends_of;
 use crate::ends::{KindEnds, ends_between, number_as};

@@ -1,7 +1,8 @@
 -- A tree of bounds: the present ones, and the branches that are open (private functions only).
 use Rattle.std.specs.Prelude.{ℕ, Bool, List, [], ◌∷◌, Option, Some, None, IsSomeAnd, IsTrue, ◌⊎◌}
-use Rattle.fz_bounds.specs.Bounds.{IsInside, Ranges, forgotten}
+use Rattle.fz_bounds.specs.Bounds.{IsInside, Ranges}
 use Rattle.fz_bounds.specs.Ends.{put_in}
+use Rattle.fz_bounds.specs.Opened.{forgotten}
 use Rattle.fz_bounds.specs.declared.ends.KindEnds.{KindEnds}
 use Rattle.fz_bounds.specs.of_model.Meaning.{Assignment, value_at, whole}
 use Rattle.fz_search.specs.declared.tree.Branch.{Branch}

@@ -32,6 +32,41 @@ fn ended(tree: &Tree<'_, '_>, work: &mut Work<'_, '_>) -> Result<Found, AllocErr
     }
 }
 
+/// Makes a move in a tree that neither leaves a node out nor ends the search.
+fn make<'m, 'a>(
+    task: &Task<'m, 'a>,
+    tree: &mut Tree<'m, 'a>,
+    work: &mut Work<'m, 'a>,
+    next: Move<'m>,
+) -> Result<(), AllocError>
+    ensures same { tree.new ≡ tree.old }
+{
+    match next {
+        Move::Tighten(point, left) => {
+            let told = tree.tighten(task.alloc, point, left)?;
+            work.hear(tree, left.variable, matches!(told, Tightened::Narrowed(_)))
+        }
+        Move::Close(point) => {
+            tree.close(task.alloc, point)?;
+            Ok(())
+        }
+        Move::Improve => {
+            let improved = tree.improve()?;
+            work.hear_improved(tree, improved)
+        }
+        Move::Split(split) => {
+            tree.split(split)?;
+            work.branch_off(tree, split.variable)
+        }
+        Move::SplitSet(set) => {
+            let domain = task.known.domain_of(set.variable);
+            tree.split_set(task.alloc, domain, &set.numbers)?;
+            work.branch_off(tree, set.variable)
+        }
+        Move::Leave(_) | Move::Found | Move::Nothing => Ok(()),
+    }
+}
+
 /// Goes through a tree. It is borrowed, so that it is dropped on one way out alone.
 fn go_through<'m, 'a>(
     task: &Task<'m, 'a>,
@@ -50,37 +85,18 @@ fn go_through<'m, 'a>(
             continue;
         }
         match work.next()? {
-            Move::Tighten(point, left) => {
-                let told = tree.tighten(task.alloc, point, left)?;
-                work.hear(tree, left.variable, matches!(told, Tightened::Narrowed(_)))?;
-            }
-            Move::Close(point) => {
-                tree.close(task.alloc, point)?;
-            }
             Move::Leave(point) => if !tree.close(task.alloc, point)? {
                 if matches!(work.way, Way::Unsupposed) {
                     return Ok(Found::Nothing);
                 }
                 tree.give_up();
             },
-            Move::Improve => {
-                let improved = tree.improve()?;
-                work.hear_improved(tree, improved)?;
-            }
-            Move::Split(split) => {
-                tree.split(split)?;
-                work.branch_off(tree, split.variable)?;
-            }
-            Move::SplitSet(set) => {
-                let domain = task.known.domain_of(set.variable);
-                tree.split_set(task.alloc, domain, &set.numbers)?;
-                work.branch_off(tree, set.variable)?;
-            }
             Move::Found => {
                 let values = copied(task.alloc, task.model, work.proposal.values())?;
                 return Ok(Found::Values(values));
             }
             Move::Nothing => return Ok(Found::Nothing),
+            next => make(task, tree, work, next)?,
         }
     }
     Ok(Found::Nothing)

@@ -127,8 +127,10 @@ pub(crate) fn all_subsets<'m>(
     ensures { IfOk result (λ r. IfSome r (λ s. (o : Option Held)
         → LiesIn variable.now.kind variable.now.domain o → IsAmong s o)) }
 {
-    let is_set = same_kind(variable.kind, Kind::Set);
-    if !is_set || numbers.len() >= 64 || !lies_among(alloc, &variable.domain, numbers)? {
+    if !same_kind(variable.kind, Kind::Set) || numbers.len() >= 64 {
+        return Ok(None);
+    }
+    if !lies_among(alloc, &variable.domain, numbers)? {
         return Ok(None);
     }
     let code = (1u64 << numbers.len() as u64) - 1;
