@@ -1,6 +1,6 @@
 use Rattle.std.proofs.Common.{arith}
 use Rattle.std.proofs.lemmas.Int.{ints}
-use Rattle.fz_search.proofs.Subsets.{among_all}
+use Rattle.fz_search.proofs.Codes.{among_all}
 use Rattle.fz_search.proofs.subsets.all_subsets.Goals as goal
 
 pub returns : goal.returns

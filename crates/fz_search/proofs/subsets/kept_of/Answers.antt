@@ -1,6 +1,6 @@
 use Rattle.std.proofs.Common.{◌∙◌, ap, get_or, of_z, to_z, pos, w64, arith}
 use Rattle.std.proofs.lemmas.Int.{ints}
-use Rattle.fz_search.proofs.Subsets.{kept_here, kept_not}
+use Rattle.fz_search.proofs.Codes.{kept_here, kept_not}
 use Rattle.fz_search.proofs.subsets.kept_of.Goals as goal
 use Rattle.fz_search.proofs.subsets.kept_of.Goals.{then-bits-eq0+in_ok-push, else-bits-eq0}
 

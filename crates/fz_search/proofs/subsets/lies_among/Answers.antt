@@ -2,7 +2,7 @@ use Rattle.std.proofs.Common.{◌≡◌, ◌∙◌, IsTrue, ap, subst, sym, true
 use Rattle.std.specs.Cmp.{int_cmp_total}
 use Rattle.std.specs.FinSet.{contains, is_subset-contains}
 use Rattle.fz_bounds.specs.of_model.Meaning.{admits}
-use Rattle.fz_search.proofs.Subsets.{range_among}
+use Rattle.fz_search.proofs.Codes.{range_among}
 use Rattle.fz_search.proofs.subsets.lies_among.Goals as goal
 
 pub returns-in-Within : goal.returns-in-Within
