@@ -16,7 +16,7 @@ use Rattle.fz_bounds.specs.of_model.of_base.declared.value.Value.{Value}
 use Rattle.fz_bounds.specs.of_model.of_base.declared.value.Value.TheVariants.{Int, Bool as Truth, Set}
 use Rattle.fz_bounds.proofs.of_model.of_base.Numbers.{contains-numbers_between, same_numbers}
 use Rattle.fz_bounds.proofs.of_model.of_builtins.of_globals.NoGaps.{element_each}
-use Rattle.fz_search.specs.Subsets.{IsAmong, kept}
+use Rattle.fz_search.specs.Subsets.{IsAmong, kept, set_of}
 use Rattle.fz_search.specs.declared.subsets.Subsets.{Subsets}
 
 -- the bit of a number: 0 where it is in the set
@@ -73,7 +73,7 @@ either_in p q h = grind (arith, nat_tests)
 
 -- a set of some numbers is the subset with its code
 is_kept : (xs : List ℤ) (s : NumberSet)
-    → ((x : ℤ) → contains s x ≡ true → contains (from_list xs) x ≡ true)
+    → ((x : ℤ) → contains s x ≡ true → contains (set_of xs) x ≡ true)
     → s ≡ from_list (kept xs (code_of xs s))
 is_kept xs s among = same_numbers s (from_list (kept xs (code_of xs s))) (λ x.
     either_in (contains s x) (list_any (int_eq x) xs) (λ e. sym (contains-from_list int_cmp_total xs x) ∙ among x e)
@@ -82,7 +82,7 @@ is_kept xs s among = same_numbers s (from_list (kept xs (code_of xs s))) (λ x.
 -- so each value of a set variable is, where its domain has no other numbers
 pub among_all : (s : Subsets) (k : Kind) (d : Domain) → k ≡ SetKind
     → 2 ^ length s.numbers.now ≤ s.code + 1
-    → ((x : ℤ) → admits d x ≡ true → contains (from_list s.numbers.now) x ≡ true)
+    → ((x : ℤ) → admits d x ≡ true → contains (set_of s.numbers.now) x ≡ true)
     → (o : Option Value) → LiesIn k d o → IsAmong s o
 among_all s k d set most among None lies = absurd lies
 among_all s k d set most among (Some (Int n)) lies = let e = lies.0 in cc

@@ -1,11 +1,11 @@
 //! The subsets of a domain with few numbers.
 
 ghost use Rattle.std.specs.Prelude.{◌≡◌, ◌⊎◌, ℤ, Bool, true, false, IfOk, IfSome, IsSomeAnd, IsTrue, Option, Some};
-ghost use Rattle.std.specs.FinSet.{contains, from_list};
+ghost use Rattle.std.specs.FinSet.{contains};
 ghost use Rattle.fz_bounds.specs.Bounds.{LiesIn};
 ghost use Rattle.fz_bounds.specs.of_model.Meaning.{admits};
 ghost use Rattle.fz_bounds.specs.of_model.of_base.declared.value.Value.{Value as Held};
-ghost use Rattle.fz_search.specs.Subsets.{IsAmong, first_of, kept};
+ghost use Rattle.fz_search.specs.Subsets.{IsAmong, first_of, kept, set_of};
 
 use fz_store::{Domain, IntSet, Kind, Model, Value, Variable, same_kind};
 use std::alloc::{AllocError, Global};
@@ -80,7 +80,7 @@ fn kept_of(alloc: Global, numbers: &[i64], code: u64) -> Result<Vec<i64>, AllocE
 impl<'m> Subsets<'m> {
     /// The one with the highest code.
     pub(crate) fn first(self, alloc: Global) -> Result<Value, AllocError>
-        ensures { IfOk result (λ v. v ≡ first_of self) }
+        ensures { IfOk result (λ v. v ≡ first_of self.entry) }
     {
         let kept = kept_of(alloc, self.numbers, self.code)?;
         let set = IntSet::list(alloc, &kept).map_err(|_| AllocError)?;
@@ -105,7 +105,7 @@ impl<'m> Subsets<'m> {
 /// Whether no number of a domain is missing among these.
 fn lies_among(alloc: Global, domain: &Domain, numbers: &[i64]) -> Result<bool, AllocError>
     ensures { IfOk result (λ b. IsTrue b → (x : ℤ) → IsTrue (admits domain.now x)
-        → contains (from_list numbers.now) x ≡ true) }
+        → contains (set_of numbers.now) x ≡ true) }
 {
     let all = IntSet::list(alloc, numbers).map_err(|_| AllocError)?;
     match domain {
