@@ -1,9 +1,10 @@
 //! The subsets of a domain with few numbers.
 
-ghost use Rattle.std.specs.Prelude.{◌≡◌, ◌⊎◌, ℤ, Bool, true, false, IfOk, IfSome, IsSomeAnd, IsTrue, Option, Some};
+ghost use Rattle.std.specs.Prelude.{◌≡◌, ◌⊎◌, ◌^◌, ℤ, Bool, true, false, length, IfOk, IfSome, IsSomeAnd, IsTrue, Option, Some};
 ghost use Rattle.std.specs.FinSet.{contains};
 ghost use Rattle.fz_bounds.specs.Bounds.{LiesIn};
 ghost use Rattle.fz_bounds.specs.of_model.Meaning.{admits};
+ghost use Rattle.fz_bounds.specs.of_model.of_base.Sets.{numbers_between};
 ghost use Rattle.fz_bounds.specs.of_model.of_base.declared.value.Value.{Value as Held};
 ghost use Rattle.fz_search.specs.Subsets.{IsAmong, first_of, kept, set_of};
 
@@ -62,6 +63,20 @@ pub(crate) struct Subsets<'m> {
     code: u64,
 }
 
+/// The set of some numbers.
+fn listed(alloc: Global, numbers: &[i64]) -> Result<IntSet, AllocError>
+    ensures { IfOk result (λ s. s ≡ set_of numbers.now) }
+{
+    IntSet::list(alloc, numbers).map_err(|_| AllocError)
+}
+
+/// The set of the numbers from one to another.
+fn between(alloc: Global, low: &i64, high: &i64) -> Result<IntSet, AllocError>
+    ensures { IfOk result (λ s. s ≡ numbers_between low.now high.now) }
+{
+    IntSet::range(alloc, *low, *high).map_err(|_| AllocError)
+}
+
 /// Those of the numbers whose bit the code doesn't have.
 fn kept_of(alloc: Global, numbers: &[i64], code: u64) -> Result<Vec<i64>, AllocError>
     ensures { IfOk result (λ v. v.items ≡ kept numbers.now code) }
@@ -83,8 +98,7 @@ impl<'m> Subsets<'m> {
         ensures { IfOk result (λ v. v ≡ first_of self.entry) }
     {
         let kept = kept_of(alloc, self.numbers, self.code)?;
-        let set = IntSet::list(alloc, &kept).map_err(|_| AllocError)?;
-        Ok(Value::Set(set))
+        Ok(Value::Set(listed(alloc, &kept)?))
     }
 
     /// All others.
@@ -107,15 +121,19 @@ fn lies_among(alloc: Global, domain: &Domain, numbers: &[i64]) -> Result<bool, A
     ensures { IfOk result (λ b. IsTrue b → (x : ℤ) → IsTrue (admits domain.now x)
         → contains (set_of numbers.now) x ≡ true) }
 {
-    let all = IntSet::list(alloc, numbers).map_err(|_| AllocError)?;
+    let all = listed(alloc, numbers)?;
     match domain {
         Domain::All => Ok(false),
-        Domain::Within(low, high) => {
-            let own = IntSet::range(alloc, *low, *high).map_err(|_| AllocError)?;
-            Ok(own.is_subset(&all))
-        }
+        Domain::Within(low, high) => Ok(between(alloc, low, high)?.is_subset(&all)),
         Domain::Among(own) => Ok(own.is_subset(&all)),
     }
+}
+
+/// How many subsets some numbers have, where that has 64 bits.
+fn count_of(numbers: &[i64]) -> Option<u64>
+    ensures { IfSome result (λ n. n ≡ 2 ^ length numbers.now) }
+{
+    2_u64.checked_pow(u32::try_from(numbers.len()).ok()?)
 }
 
 /// All subsets of some numbers, where the variable is a set and its domain has no others.
@@ -127,12 +145,15 @@ pub(crate) fn all_subsets<'m>(
     ensures { IfOk result (λ r. IfSome r (λ s. (o : Option Held)
         → LiesIn variable.now.kind variable.now.domain o → IsAmong s o)) }
 {
-    if !same_kind(variable.kind, Kind::Set) || numbers.len() >= 64 {
+    if !same_kind(variable.kind, Kind::Set) {
         return Ok(None);
     }
     if !lies_among(alloc, &variable.domain, numbers)? {
         return Ok(None);
     }
-    let code = (1u64 << numbers.len() as u64) - 1;
+    let Some(count) = count_of(numbers) else {
+        return Ok(None);
+    };
+    let code = count.saturating_sub(1);
     Ok(Some(Subsets { numbers, code }))
 }

@@ -33,8 +33,8 @@ returns-in-Some c =
       back = λ was. ap (λ D. undone D n was) settled ∙ back_again B n _ _ was;
     }
 
-pub returns-in-None : goal.returns-in-None
-returns-in-None c =
+pub returns : goal.returns
+returns c =
     let B = c.args.bounds.now in
     let n = c.args.variable in
     let v = c.in_ok-value-in-Subsets.value in
