@@ -32,7 +32,7 @@ others_stay (o ∷ K) zero (suc k) other = refl
 others_stay (o ∷ K) (suc n) zero other = refl
 others_stay (o ∷ K) (suc n) (suc k) other = others_stay K n k (λ e. other (ap suc e))
 
-given_away : (K : Partial) (n : ℕ) (v : Value) → without (give K n v) n ≡ without K n
+pub given_away : (K : Partial) (n : ℕ) (v : Value) → without (give K n v) n ≡ without K n
 given_away [] n v = refl
 given_away (o ∷ K) zero v = refl
 given_away (o ∷ K) (suc n) v = ap (λ L. o ∷ L) (given_away K n v)

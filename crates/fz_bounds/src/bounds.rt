@@ -1,7 +1,7 @@
 //! The bounds of a model's variables.
 
-ghost use Rattle.std.specs.Prelude.{◌≡◌, IfOk, IfSome};
-ghost use Rattle.fz_model.specs.Meaning.{Assignment, whole};
+ghost use Rattle.std.specs.Prelude.{◌≡◌, IfOk, IfSome, IsTrue, None, OnErr, option_map};
+ghost use Rattle.fz_model.specs.Meaning.{Assignment, value_at, whole};
 ghost use Rattle.fz_model.specs.States.{IsKnownSolution};
 ghost use Rattle.fz_model.specs.Shown.{point_view};
 ghost use Rattle.fz_model.specs.Openings.{HasEach};
@@ -109,11 +109,25 @@ impl Bounds {
             → HasEach values.now (whole A) → IsInside self.new A) }
     {
         if let Some(value) = values.get(number) {
-            let low = value.copy(alloc)?;
-            let high = value.copy(alloc)?;
-            let only = value.copy(alloc)?;
-            self.write(number, low, high, Some(only));
+            self.settle(alloc, number, value)?;
         }
+        Ok(())
+    }
+
+    /// Gives a variable this value alone in the place of its bounds, and changes nothing else.
+    ///
+    /// # Errors
+    ///
+    /// Out of memory. The bounds are as they were.
+    pub fn settle(&mut self, alloc: Global, number: usize, value: &Value) -> Result<(), AllocError>
+        ensures settled { IfOk result
+            (λ _. self.new ≡ narrowed self.old number value.now value.now) }
+        ensures unchanged { OnErr result (self.new ≡ self.old) }
+    {
+        let low = value.copy(alloc)?;
+        let high = value.copy(alloc)?;
+        let only = value.copy(alloc)?;
+        self.write(number, low, high, Some(only));
         Ok(())
     }
 
@@ -142,13 +156,28 @@ impl Bounds {
         self.write(number, least, greatest, only);
     }
 
-    /// Takes the bounds of a variable away, and changes nothing else.
-    pub(crate) fn forget(&mut self, number: usize)
+    /// Takes the bounds of a variable away, and changes nothing else. It takes no memory.
+    pub fn forget(&mut self, number: usize)
         ensures forgotten { self.new ≡ forgotten self.old number }
     {
         self.fixed.take_away(number);
         self.lowest.take_away(number);
         self.highest.take_away(number);
+    }
+
+    /// Whether a variable has no bounds at all. It takes no memory.
+    pub fn is_unknown(&self, number: usize) -> bool
+        ensures none { IsTrue result → (value_at self.now.lowest number ≡ None)
+            × (value_at self.now.highest number ≡ None) }
+    {
+        !self.lowest.has(number) && !self.highest.has(number)
+    }
+
+    /// The least value of a variable, where it has one. It takes no memory.
+    pub fn least(&self, number: usize) -> Option<&Value>
+        ensures exact { option_map (λ v. v.now) result ≡ value_at self.now.lowest number }
+    {
+        self.lowest.get(number)
     }
 
     /// The bounds of a variable, where they are numbers or Booleans. It takes no memory.

@@ -1,2 +1,3 @@
 pub use Rattle.fz_bounds.proofs.of_model
 pub mod Nodes
+pub mod Codes

@@ -1,11 +1,13 @@
 -- What becomes of a tree of bounds.
-use Rattle.std.proofs.Common.{◌≡◌, ℕ, ℤ, pos, ◌+ℤ◌, ◌≤ℤ◌, ◌<ℤ◌, ◌<◌, Bool, true, false, is_some, option_and_then, List, [], ◌∷◌, ◌++◌, Option, Some, None, length, reverse, slice_get, refl, sym, ap, subst, subst₂, ◌∙◌, ◌⊎◌, inl, inr, arith}
+use Rattle.std.proofs.Common.{◌≡◌, ℕ, zero, suc, ℤ, pos, ◌+ℤ◌, ◌≤ℤ◌, ◌<ℤ◌, ◌<◌, Bool, true, false, is_some, option_and_then, List, [], ◌∷◌, ◌++◌, Option, Some, None, length, reverse, slice_get, refl, sym, ap, subst, subst₂, ◌∙◌, ◌⊎◌, inl, inr, arith}
 use Rattle.std.proofs.lemmas.Int.{ints}
 use Rattle.std.proofs.lemmas.List.{reverse-append}
 use Rattle.fz_bounds.specs.Bounds.{IsInside, NumberNeverHolds, Ranges, narrowed, number_as}
 use Rattle.fz_bounds.specs.Ends.{AreEndsAt, put_in}
 use Rattle.fz_bounds.specs.declared.ends.KindEnds.{KindEnds}
 use Rattle.fz_bounds.specs.of_model.Meaning.{Aim, Assignment, Partial, Point, as_int, objective_of, points, value_at, whole}
+use Rattle.fz_bounds.specs.of_model.Partial.{without}
+use Rattle.fz_bounds.specs.of_model.of_base.declared.value.Value.{Value}
 use Rattle.fz_bounds.specs.of_model.Meaning.Aim.{Minimize, Maximize}
 use Rattle.fz_bounds.specs.of_model.of_base.declared.value.Value.TheVariants.{Int}
 use Rattle.fz_bounds.specs.of_model.of_builtins.of_meaning.declared.term.Term.TheVariants.{Var}
@@ -13,11 +15,13 @@ use Rattle.fz_bounds.specs.of_model.declared.Kind.TheVariants.{Int as IntKind}
 use Rattle.fz_bounds.specs.of_model.States.{HoldsIfKnown}
 use Rattle.fz_bounds.proofs.of_model.Lists.{at_place, there_is}
 use Rattle.fz_bounds.proofs.of_model.of_base.Covers.{apart}
+use Rattle.fz_bounds.proofs.Enclosed.{given_away}
 use Rattle.fz_bounds.proofs.Giving.{given_twice}
-use Rattle.fz_bounds.proofs.Numbers.{restored, still_inside, value_between}
+use Rattle.fz_bounds.proofs.Numbers.{still_inside, value_between}
 use Rattle.fz_search.specs.Claims.{beats}
 use Rattle.fz_search.specs.Found.{Asked, IsObjective, IsSought}
-use Rattle.fz_search.specs.Tree.{Covers, IsInOpen, IsLeft, IsOpen}
+use Rattle.fz_search.specs.Tree.{Covers, IsInBranch, IsInOpen, IsLeft, IsOpen, undone}
+use Rattle.fz_search.specs.declared.tree.Branch.{Branch}
 use Rattle.fz_search.specs.declared.tree.Step.{Step}
 
 -- the last step of some is the first of them backwards
@@ -40,22 +44,78 @@ module _ (q : Asked) (k : ℕ) (in_range : k < length (points q.model)) where
       let (p, at) = there_is (points q.model) k in_range in
       never p at A inside (at_place (HoldsIfKnown (whole A)) (points q.model) k p sought.0.each_holds at)
 
+-- ---- bounds that are put back
+
+-- what a variable has then doesn't depend on what it has now
+pub back_again : (B : Ranges) (n : ℕ) (v w : Value) (was : Option KindEnds)
+    → undone (narrowed B n v w) n was ≡ undone B n was
+back_again B n v w None i = record {
+  lowest = given_away B.lowest n v i;
+  highest = given_away B.highest n w i;
+}
+back_again B n v w (Some e) i = record {
+  lowest = given_twice B.lowest n v (number_as e.kind e.low) i;
+  highest = given_twice B.highest n w (number_as e.kind e.high) i;
+}
+
+still_without : (K : Partial) (n : ℕ) → without (without K n) n ≡ without K n
+still_without [] n = refl
+still_without (o ∷ K) zero = refl
+still_without (o ∷ K) (suc n) = ap (λ L. o ∷ L) (still_without K n)
+
+back_twice : (B : Ranges) (n : ℕ) (was : Option KindEnds)
+    → undone (undone B n was) n was ≡ undone B n was
+back_twice B n None i = record {
+  lowest = still_without B.lowest n i;
+  highest = still_without B.highest n i;
+}
+back_twice B n (Some e) i =
+    back_again B n (number_as e.kind e.low) (number_as e.kind e.high) (Some e) i
+
+none_taken : (K : Partial) (n : ℕ) → value_at K n ≡ None → without K n ≡ K
+none_taken [] n e = refl
+none_taken (o ∷ K) zero e = ap (λ p. p ∷ K) (sym e)
+none_taken (o ∷ K) (suc n) e = ap (λ L. o ∷ L) (none_taken K n e)
+
+-- a variable that had no bounds
+pub none_back : (B : Ranges) (n : ℕ) → (value_at B.lowest n ≡ None) × (value_at B.highest n ≡ None)
+    → undone B n None ≡ B
+none_back B n none i = record {
+  lowest = none_taken B.lowest n none.0 i;
+  highest = none_taken B.highest n none.1 i;
+}
+
 module _ (q : Asked) (all : Bool) where
-  -- a step that keeps what is asked for
-  pub narrowed_so : (B C : Ranges) (xs ys : List Step) (o : Option ℕ) (s : Step)
-      → ((A : Assignment) → IsSought q A → IsInside B A → IsInside C A)
-      → put_in C s.variable s.was ≡ B → ys ≡ xs ++ s ∷ []
-      → Covers q all B (reverse xs) o → Covers q all C (reverse ys) o
-  narrowed_so B C xs ys o s keep undone more covers is_all A sought =
+  -- a step to bounds that keep what is asked for, but for what becomes an open branch
+  pub stepped_so : (B C : Ranges) (xs ys : List Step) (o : Option ℕ) (s : Step)
+      → ((A : Assignment) → IsSought q A → IsInside B A
+      → IsInside C A ⊎ IsInOpen A B s.variable s.branch)
+      → undone C s.variable s.was ≡ B → ys ≡ xs ++ s ∷ [] → Covers q all B (reverse xs) o
+      → Covers q all C (reverse ys) o
+  stepped_so B C xs ys o s parts back more covers is_all A sought =
       subst (λ zs. IsOpen A C zs o) (sym (last_first xs ys s more)) (step o (covers is_all A sought))
     where
-      left : IsLeft A B (reverse xs) → IsLeft A C (s ∷ reverse xs)
-      left h = inr (subst (λ D. IsLeft A D (reverse xs)) (sym undone) h)
+      left : IsInOpen A B s.variable s.branch ⊎ IsLeft A B (reverse xs)
+          → IsLeft A C (s ∷ reverse xs)
+      left = subst (λ D. IsInOpen A D s.variable s.branch ⊎ IsLeft A D (reverse xs)) (sym back)
+
+      part : IsInside C A ⊎ IsInOpen A B s.variable s.branch
+          → IsInside C A ⊎ IsLeft A C (s ∷ reverse xs)
+      part (inl inside) = inl inside
+      part (inr there) = inr (left (inl there))
 
       step : (o : Option ℕ) → IsOpen A B (reverse xs) o → IsOpen A C (s ∷ reverse xs) o
-      step None (inl inside) = inl (keep A sought inside)
-      step None (inr h) = inr (left h)
-      step (Some n) h = left h
+      step None (inl inside) = part (parts A sought inside)
+      step None (inr h) = inr (left (inr h))
+      step (Some k) h = left (inr h)
+
+  -- where it keeps all
+  pub narrowed_so : (B C : Ranges) (xs ys : List Step) (o : Option ℕ) (s : Step)
+      → ((A : Assignment) → IsSought q A → IsInside B A → IsInside C A)
+      → undone C s.variable s.was ≡ B → ys ≡ xs ++ s ∷ [] → Covers q all B (reverse xs) o
+      → Covers q all C (reverse ys) o
+  narrowed_so B C xs ys o s keep =
+      stepped_so B C xs ys o s (λ A sought inside. inl (keep A sought inside))
 
   -- where nothing of it is inside the bounds, the node is closed
   pub closed_so : (B C : Ranges) (xs : List Step) (o : Option ℕ) (k : ℕ)
@@ -91,13 +151,6 @@ pub put_so : (B C : Ranges) (n : ℕ) (e : KindEnds) (l h : ℤ)
     → C ≡ put_in B n e
 put_so B C n e l h c low high =
     c ∙ (λ i. narrowed B n (number_as e.kind (low i)) (number_as e.kind (high i)))
-
--- and that are put in twice
-put_twice : (B : Ranges) (n : ℕ) (e f : KindEnds) → put_in (put_in B n e) n f ≡ put_in B n f
-put_twice B n e f i = record {
-  lowest = given_twice B.lowest n (number_as e.kind e.low) (number_as f.kind f.low) i;
-  highest = given_twice B.highest n (number_as e.kind e.high) (number_as f.kind f.high) i;
-}
 
 module _ (aim : Aim) (last : Option ℤ) (l : ℤ) (n : ℕ) (x : ℤ) (K : Partial) (is : last ≡ Some l)
     (at : value_at K n ≡ Some (Int x)) where
@@ -142,56 +195,57 @@ module _ (q : Asked) (l : ℤ) (n : ℕ) (c : Bool) (is : q.last ≡ Some l)
       omega (arith, ints)
 
 module _ (q : Asked) (all : Bool) where
-  -- a node that is split
-  pub split_so : (B C : Ranges) (xs ys : List Step) (o : Option ℕ) (n : ℕ) (was here other : KindEnds)
-      → AreEndsAt B n was → ((A : Assignment) → IsInside B A → IsInside (put_in B n here) A
-      ⊎ IsInside (put_in B n other) A) → C ≡ put_in B n here
-      → ys ≡ xs ++ record { variable = n; was = was; branch = Some other } ∷ []
-      → Covers q all B (reverse xs) o → Covers q all C (reverse ys) o
-  split_so B C xs ys o n was here other ends halves is more covers is_all A sought =
-      subst (λ zs. IsOpen A C zs o) (sym (last_first xs ys s more)) (step o (covers is_all A sought))
-    where
-      s : Step
-      s = record { variable = n; was = was; branch = Some other }
-
-      undone : put_in C n was ≡ B
-      undone = restored B n was ends C (put_in C n was) (number_as here.kind here.low) (number_as here.kind here.high) was.kind was.low was.high is refl refl refl refl
-
-      left : IsInside (put_in B n other) A ⊎ IsLeft A B (reverse xs) → IsLeft A C (s ∷ reverse xs)
-      left = subst (λ D. IsInside (put_in D n other) A ⊎ IsLeft A D (reverse xs)) (sym undone)
-
-      half : IsInside (put_in B n here) A ⊎ IsInside (put_in B n other) A
-          → IsInside C A ⊎ IsLeft A C (s ∷ reverse xs)
-      half (inl inside) = inl (subst (λ D. IsInside D A) (sym is) inside)
-      half (inr inside) = inr (left (inl inside))
-
-      step : (o : Option ℕ) → IsOpen A B (reverse xs) o → IsOpen A C (s ∷ reverse xs) o
-      step None (inl inside) = half (halves A inside)
-      step None (inr h) = inr (left (inr h))
-      step (Some k) h = left (inr h)
-
-  -- an open branch that is taken
-  pub taken_so : (B C : Ranges) (xs ys zs : List Step) (o : Option ℕ) (s : Step) (other : KindEnds)
-      → is_some o ≡ true → s.branch ≡ Some other → ys ≡ xs ++ s ∷ []
-      → zs ≡ xs ++ record { variable = s.variable; was = s.was; branch = None } ∷ []
-      → C ≡ put_in (put_in B s.variable s.was) s.variable other → Covers q all B (reverse ys) o
-      → Covers q all C (reverse zs) None
-  taken_so B C xs ys zs o s other is_closed is_open more then is covers is_all A sought =
-      subst (λ ss. IsOpen A C ss None) (sym (last_first xs zs _ then)) (step (subst (IsLeft A B) (last_first xs ys s more) (left o is_closed (covers is_all A sought))))
+  -- an open branch that is taken, from the bounds before the step
+  pub taken_so : (B C D : Ranges) (xs ys zs : List Step) (o : Option ℕ) (s : Step) (b : Branch)
+      (rest : Option Branch) → is_some o ≡ true → s.branch ≡ Some b
+      → D ≡ undone B s.variable s.was
+      → ((A : Assignment) → IsInBranch A D s.variable b
+      → IsInside C A ⊎ IsInOpen A D s.variable rest)
+      → undone C s.variable s.was ≡ undone D s.variable s.was → ys ≡ xs ++ s ∷ []
+      → zs ≡ xs ++ record { variable = s.variable; was = s.was; branch = rest } ∷ []
+      → Covers q all B (reverse ys) o → Covers q all C (reverse zs) None
+  taken_so B C D xs ys zs o s b rest is_closed is_open before parts back more then covers is_all A sought =
+      subst (λ ss. IsOpen A C ss None) (sym (last_first xs zs _ then)) (step (subst (λ E. IsInOpen A E s.variable s.branch ⊎ IsLeft A E (reverse xs)) (sym before) (subst (IsLeft A B) (last_first xs ys s more) (left o is_closed (covers is_all A sought)))))
     where
       left : (o : Option ℕ) → is_some o ≡ true → IsOpen A B (reverse ys) o → IsLeft A B (reverse ys)
       left None e h = cc
       left (Some k) e h = h
 
-      undone : put_in C s.variable s.was ≡ put_in B s.variable s.was
-      undone = ap (λ D. put_in D s.variable s.was) is ∙ put_twice (put_in B s.variable s.was) s.variable other s.was ∙ put_twice B s.variable s.was s.was
+      again : undone C s.variable s.was ≡ D
+      again = back ∙ ap (λ E. undone E s.variable s.was) before ∙ back_twice B s.variable s.was ∙ sym before
 
-      step : IsInOpen A (put_in B s.variable s.was) s.variable s.branch
-          ⊎ IsLeft A (put_in B s.variable s.was) (reverse xs)
-          → IsInside C A ⊎ (⊥ ⊎ IsLeft A (put_in C s.variable s.was) (reverse xs))
-      step (inl there) =
-          inl (subst (λ D. IsInside D A) (sym is) (subst (IsInOpen A (put_in B s.variable s.was) s.variable) is_open there))
-      step (inr h) = inr (inr (subst (λ D. IsLeft A D (reverse xs)) (sym undone) h))
+      behind : IsInOpen A D s.variable rest ⊎ IsLeft A D (reverse xs)
+          → IsInOpen A (undone C s.variable s.was) s.variable rest
+          ⊎ IsLeft A (undone C s.variable s.was) (reverse xs)
+      behind = subst (λ E. IsInOpen A E s.variable rest ⊎ IsLeft A E (reverse xs)) (sym again)
+
+      part : IsInside C A ⊎ IsInOpen A D s.variable rest → IsInside C A
+          ⊎ (IsInOpen A (undone C s.variable s.was) s.variable rest
+          ⊎ IsLeft A (undone C s.variable s.was) (reverse xs))
+      part (inl inside) = inl inside
+      part (inr there) = inr (behind (inl there))
+
+      step : IsInOpen A D s.variable s.branch ⊎ IsLeft A D (reverse xs) → IsInside C A
+          ⊎ (IsInOpen A (undone C s.variable s.was) s.variable rest
+          ⊎ IsLeft A (undone C s.variable s.was) (reverse xs))
+      step (inl there) = part (parts A (subst (λ p. IsInOpen A D s.variable p) is_open there))
+      step (inr h) = inr (behind (inr h))
+
+  -- a step that is taken back, of which no branch is open
+  pub left_so : (B D : Ranges) (xs ys : List Step) (o : Option ℕ) (s : Step) → is_some o ≡ true
+      → s.branch ≡ None → D ≡ undone B s.variable s.was → ys ≡ xs ++ s ∷ []
+      → Covers q all B (reverse ys) o → Covers q all D (reverse xs) o
+  left_so B D xs ys o s is_closed none before more covers is_all A sought =
+      step o is_closed (covers is_all A sought)
+    where
+      last : IsInOpen A (undone B s.variable s.was) s.variable s.branch
+          ⊎ IsLeft A (undone B s.variable s.was) (reverse xs) → IsLeft A D (reverse xs)
+      last (inl there) = absurd (subst (IsInOpen A (undone B s.variable s.was) s.variable) none there)
+      last (inr h) = subst (λ E. IsLeft A E (reverse xs)) (sym before) h
+
+      step : (o : Option ℕ) → is_some o ≡ true → IsOpen A B (reverse ys) o → IsOpen A D (reverse xs) o
+      step None e h = cc
+      step (Some k) e h = last (subst (IsLeft A B) (last_first xs ys s more) h)
 
   -- where nothing is open, there is none
   pub none_so : (B : Ranges) (xs : List Step) (o : Option ℕ) (k : ℕ) → all ≡ true → length xs ≡ 0

@@ -1,6 +1,7 @@
 //! What a search is asked, and what it comes to.
 
 use crate::guide::Edge;
+use crate::subsets::OpenSet;
 use fz_index::{Refutation, Search};
 use fz_store::{Model, Partial};
 use std::alloc::Global;
@@ -13,7 +14,7 @@ pub(crate) struct Task<'m, 'a> {
     pub(crate) model: &'m Model<'a>,
     pub(crate) filling: &'m Partial,
     /// the set variables among them
-    pub(crate) sets: &'m [usize],
+    pub(crate) sets: &'m [OpenSet],
     /// whether an integer among them has no bounds
     pub(crate) lacks_bounds: bool,
     /// the objective of the block before, where a better one is looked for first

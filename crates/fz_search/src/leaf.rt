@@ -1,9 +1,8 @@
-//! Nodes where each variable with bounds has a value: sets get one there, and all points are
-//! evaluated.
+//! Nodes where each variable that can be split has a value: the sets that can't get one there, and
+//! all points are evaluated.
 
-use crate::subsets::{subset, subsets_of};
 use crate::work::Work;
-use fz_store::State;
+use fz_store::{IntSet, State, Value};
 use std::alloc::AllocError;
 
 /// So many steps a node counts that may have to be given up.
@@ -13,7 +12,7 @@ impl<'m, 'a> Work<'m, 'a> {
     /// The first point that doesn't hold under the values that are found, if one doesn't.
     pub(crate) fn unmet(&mut self) -> Result<Option<usize>, AllocError> {
         for _ in self.task.sets {
-            if !self.force()? && !self.guess()? {
+            if !self.force()? && !self.empty()? {
                 break;
             }
         }
@@ -29,7 +28,9 @@ impl<'m, 'a> Work<'m, 'a> {
         if unmet.is_some() {
             self.spend(LEAF);
             for set in self.task.sets {
-                self.proposal.take_away(*set);
+                if self.ends_of(set.variable).width() > 0 {
+                    self.proposal.take_away(set.variable);
+                }
             }
         }
         Ok(unmet)
@@ -38,10 +39,10 @@ impl<'m, 'a> Work<'m, 'a> {
     /// Gives a set what a point forces, and tells whether one does.
     fn force(&mut self) -> Result<bool, AllocError> {
         for set in self.task.sets {
-            if self.proposal.has(*set) {
+            if self.proposal.has(set.variable) {
                 continue;
             }
-            for place in self.task.known.places_of(*set) {
+            for place in self.task.known.places_of(set.variable) {
                 self.spend(self.task.known.cost_of(place.point));
                 let forced = self.proposal.forced(self.task.alloc, place.point)?;
                 if let Some((variable, value)) = forced {
@@ -52,34 +53,13 @@ impl<'m, 'a> Work<'m, 'a> {
         Ok(false)
     }
 
-    /// Gives the first set without a value one with which no point fails, and tells whether there
-    /// is one.
-    fn guess(&mut self) -> Result<bool, AllocError> {
+    /// Gives the first set without a value the empty one, and tells whether there is one.
+    fn empty(&mut self) -> Result<bool, AllocError> {
         let mut sets = self.task.sets.iter();
-        let Some(set) = sets.find(|set| !self.proposal.has(**set)) else {
+        let Some(set) = sets.find(|set| !self.proposal.has(set.variable)) else {
             return Ok(false);
         };
-        let members = self.few_members(*set)?;
-        for number in 0..subsets_of(&members) {
-            let value = subset(self.task.alloc, &members, number)?;
-            self.proposal.give(*set, value);
-            if self.suits(*set)? {
-                return Ok(true);
-            }
-            self.proposal.take_away(*set);
-        }
-        Ok(false)
-    }
-
-    /// Whether no point of a variable fails.
-    fn suits(&mut self, variable: usize) -> Result<bool, AllocError> {
-        for place in self.task.known.places_of(variable) {
-            self.spend(self.task.known.cost_of(place.point));
-            let state = self.proposal.state(self.task.alloc, place.point)?;
-            if matches!(state, State::Fails) {
-                return Ok(false);
-            }
-        }
-        Ok(true)
+        let none = IntSet::list(self.task.alloc, &[]).map_err(|_| AllocError)?;
+        Ok(self.proposal.give(set.variable, Value::Set(none)))
     }
 }

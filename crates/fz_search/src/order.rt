@@ -3,7 +3,8 @@
 ghost use Rattle.std.specs.Prelude.{IfSome};
 ghost use Rattle.fz_search.specs.Found.{IsObjective};
 
-use crate::work::Work;
+use crate::subsets::OpenSet;
+use crate::work::{Move, Work};
 use fz_index::Ends;
 use fz_store::{Goal, Model, Term};
 
@@ -77,11 +78,30 @@ impl<'m, 'a> Work<'m, 'a> {
         }
     }
 
-    /// The next split, where a variable has bounds and no value. Where the variables are split in
-    /// their order, an objective comes first, and of its bounds the worse half, which leaves later
-    /// blocks the most room. Of another variable the least number is split off, or where that is
-    /// far below 0, all numbers below 0; or those that others have with which it is all different.
-    pub(crate) fn choose(&mut self) -> Option<Split> {
+    /// The next split, where a variable that can be split has no value. A set comes before the
+    /// numbers, since nothing is known of it but by its value. Of a number the least is split off,
+    /// or where that is far below 0, all numbers below 0; or those that others have with which it
+    /// is all different.
+    pub(crate) fn choose(&mut self) -> Option<Move<'m>> {
+        if let Some(split) = self.wanted() {
+            return Some(Move::Split(split));
+        }
+        if let Some(set) = self.open_set() {
+            return Some(Move::SplitSet(set));
+        }
+        let variable = self.open_variable()?;
+        let ends = self.ends_of(variable);
+        let begin = self.begin_of(variable, ends);
+        Some(Move::Split(Split {
+            variable,
+            at: ends.low.max(begin.saturating_sub(1)),
+            upper_first: ends.low < begin,
+        }))
+    }
+
+    /// The split that comes before all others. Where the variables are split in their order, it may
+    /// be that of an objective, of whose bounds the worse half leaves later blocks the most room.
+    fn wanted(&mut self) -> Option<Split> {
         if let Some(split) = self.improvement.take() {
             let ends = self.ends_of(split.variable);
             if ends.low <= split.at && split.at < ends.high {
@@ -91,23 +111,14 @@ impl<'m, 'a> Work<'m, 'a> {
         if let Some(split) = self.guided() {
             return Some(split);
         }
-        if let Some((variable, is_cost)) = objective_of(self.task.model)
-            && matches!(self.way, Way::InOrder)
-            && !self.proposal.has(variable)
-        {
-            return Some(Split {
-                variable,
-                at: middle(self.ends_of(variable)),
-                upper_first: is_cost,
-            });
+        let (variable, is_cost) = objective_of(self.task.model)?;
+        if !matches!(self.way, Way::InOrder) || self.proposal.has(variable) {
+            return None;
         }
-        let variable = self.open_variable()?;
-        let ends = self.ends_of(variable);
-        let begin = self.begin_of(variable, ends);
         Some(Split {
             variable,
-            at: ends.low.max(begin.saturating_sub(1)),
-            upper_first: ends.low < begin,
+            at: middle(self.ends_of(variable)),
+            upper_first: is_cost,
         })
     }
 
@@ -131,6 +142,12 @@ impl<'m, 'a> Work<'m, 'a> {
             }
         }
         None
+    }
+
+    /// The first set without a value of whose domain few numbers are known.
+    fn open_set(&self) -> Option<&'m OpenSet> {
+        let mut sets = self.task.sets.iter();
+        sets.find(|set| !set.numbers.is_empty() && !self.proposal.has(set.variable))
     }
 
     /// The variable without a value that is split: the first, or the one with the fewest numbers.

@@ -8,6 +8,7 @@ use crate::found::{Found, Task};
 use crate::guide::{Branch, edges_of};
 use crate::order::{Way, objective_of};
 use crate::proposal::copied;
+use crate::subsets::{OpenSet, open_set};
 use crate::tree::Tree;
 use crate::work::{Move, Work};
 use fz_bounds::Tightened;
@@ -31,50 +32,71 @@ fn ended(tree: &Tree<'_, '_>, work: &mut Work<'_, '_>) -> Result<Found, AllocErr
     }
 }
 
+/// Makes a move in a tree that neither leaves a node out nor ends the search.
+fn make<'m, 'a>(
+    task: &Task<'m, 'a>,
+    tree: &mut Tree<'m, 'a>,
+    work: &mut Work<'m, 'a>,
+    next: Move<'m>,
+) -> Result<(), AllocError>
+    ensures same { tree.new ≡ tree.old }
+{
+    match next {
+        Move::Tighten(point, left) => {
+            let told = tree.tighten(task.alloc, point, left)?;
+            work.hear(tree, left.variable, matches!(told, Tightened::Narrowed(_)))
+        }
+        Move::Close(point) => {
+            tree.close(task.alloc, point)?;
+            Ok(())
+        }
+        Move::Improve => {
+            let improved = tree.improve()?;
+            work.hear_improved(tree, improved)
+        }
+        Move::Split(split) => {
+            tree.split(split)?;
+            work.branch_off(tree, split.variable)
+        }
+        Move::SplitSet(set) => {
+            let domain = task.known.domain_of(set.variable);
+            tree.split_set(task.alloc, domain, &set.numbers)?;
+            work.branch_off(tree, set.variable)
+        }
+        Move::Leave(_) | Move::Found | Move::Nothing => Ok(()),
+    }
+}
+
 /// Goes through a tree. It is borrowed, so that it is dropped on one way out alone.
-fn go_through(
-    task: &Task<'_, '_>,
-    tree: &mut Tree<'_, '_>,
-    work: &mut Work<'_, '_>,
+fn go_through<'m, 'a>(
+    task: &Task<'m, 'a>,
+    tree: &mut Tree<'m, 'a>,
+    work: &mut Work<'m, 'a>,
 ) -> Result<Found, AllocError>
     requires asked { tree.old.model ≡ task.now.model.now }
     ensures found { IfOk result (IsFoundFor tree.old) }
 {
     for _ in 0..usize::MAX {
         if tree.is_closed() {
-            match tree.step_back()? {
+            match tree.step_back(task.alloc)? {
                 Some(step) => work.put_back(tree, step)?,
                 None => return ended(tree, work),
             }
             continue;
         }
         match work.next()? {
-            Move::Tighten(point, left) => {
-                let told = tree.tighten(task.alloc, point, left)?;
-                work.hear(tree, left.variable, matches!(told, Tightened::Narrowed(_)))?;
-            }
-            Move::Close(point) => {
-                tree.close(task.alloc, point)?;
-            }
             Move::Leave(point) => if !tree.close(task.alloc, point)? {
                 if matches!(work.way, Way::Unsupposed) {
                     return Ok(Found::Nothing);
                 }
                 tree.give_up();
             },
-            Move::Improve => {
-                let improved = tree.improve()?;
-                work.hear_improved(tree, improved)?;
-            }
-            Move::Split(split) => {
-                tree.split(split)?;
-                work.branch_off(tree, split.variable)?;
-            }
             Move::Found => {
                 let values = copied(task.alloc, task.model, work.proposal.values())?;
                 return Ok(Found::Values(values));
             }
             Move::Nothing => return Ok(Found::Nothing),
+            next => make(task, tree, work, next)?,
         }
     }
     Ok(Found::Nothing)
@@ -101,13 +123,14 @@ fn open_of(
     alloc: Global,
     model: &Model<'_>,
     filling: &Partial,
-) -> Result<(Vec<usize>, bool), AllocError> {
+) -> Result<(Vec<OpenSet>, bool), AllocError> {
     let mut sets = Vec::new(alloc);
     let mut lacks_bounds = false;
     for (number, variable) in model.variables().iter().enumerate() {
         match (variable.kind, &variable.domain) {
-            (Kind::Set, _) if !filling.has(number) => sets.push(number)?,
-            (Kind::Int, Domain::All) if !filling.has(number) => lacks_bounds = true,
+            _ if filling.has(number) => {}
+            (Kind::Set, domain) => sets.push(open_set(alloc, number, domain)?)?,
+            (Kind::Int, Domain::All) => lacks_bounds = true,
             _ => {}
         }
     }

@@ -1,28 +1,38 @@
 //! A tree of bounds: those of the present node, and the branches that are open. That it loses no
 //! known-solution is proved, so where nothing of it is open there is none.
 
-ghost use Rattle.std.specs.Prelude.{◌≡◌, ℕ, ℤ, true, false, ◌≤ℤ◌, ◌<ℤ◌, ◌⊎◌, IfOk, IfSome};
+ghost use Rattle.std.specs.Prelude.{◌≡◌, ℕ, ℤ, true, false, ◌≤ℤ◌, ◌<ℤ◌, ◌⊎◌, IfOk, IfSome, Option};
 ghost use Rattle.fz_bounds.specs.of_model.Meaning.{Assignment};
 ghost use Rattle.fz_bounds.specs.Bounds.{IsInside, Ranges};
 ghost use Rattle.fz_bounds.specs.Ends.{AreEndsAt, put_in};
+ghost use Rattle.fz_bounds.specs.declared.ends.KindEnds.{KindEnds as Told};
 ghost use Rattle.fz_search.specs.Found.{IsRefutedAt, asked_of};
+ghost use Rattle.fz_search.specs.Tree.{IsInBranch, IsInOpen, undone};
 
 use crate::enclosing::enclose_all;
 use crate::found::Task;
 use crate::order::{Split, objective_of};
+use crate::subsets::{Subsets, all_subsets};
 use fz_bounds::{Bounds, KindEnds, Tightened, cannot_hold};
 use fz_index::Left;
-use fz_store::{Kind, Model, Partial};
+use fz_store::{Kind, Model, Partial, PointParts, Value};
 use std::alloc::{AllocError, Global};
+
+/// What a variable didn't get of its bounds, where they were split and that is open.
+#[derive(Clone, Copy)]
+pub(crate) enum Branch<'m> {
+    Part(KindEnds),
+    /// of a set without bounds these values
+    Subsets(Subsets<'m>),
+}
 
 /// A step to the present node, in which a variable got other bounds.
 #[derive(Clone, Copy)]
-pub(crate) struct Step {
+pub(crate) struct Step<'m> {
     pub(crate) variable: usize,
-    /// the bounds that it had
-    pub(crate) was: KindEnds,
-    /// the part of them that it didn't get, where they were split and that is open
-    pub(crate) branch: Option<KindEnds>,
+    /// the bounds that it had, where it had some
+    pub(crate) was: Option<KindEnds>,
+    pub(crate) branch: Option<Branch<'m>>,
 }
 
 /// Bounds inside which a model's known-solutions with the values of a filling lie: those of the
@@ -34,7 +44,7 @@ pub(crate) struct Tree<'m, 'a> {
     /// the objective that is to be beaten
     last: Option<i64>,
     bounds: Bounds,
-    steps: Vec<Step>,
+    steps: Vec<Step<'m>>,
     /// the point that holds nowhere inside the bounds, where one is found
     closed: Option<usize>,
     /// whether nothing was given up
@@ -109,6 +119,45 @@ fn better_than(last: i64, is_cost: bool, low: i64, high: i64) -> (i64, i64)
     }
 }
 
+/// Gives the variable of a step the bounds that it had, or none.
+fn undo(bounds: &mut Bounds, step: Step<'_>)
+    ensures { bounds.new ≡ undone bounds.old step.entry.variable step.entry.was }
+{
+    match step.was {
+        Some(was) => bounds.narrow(step.variable, was.kind, was.low, was.high),
+        None => bounds.forget(step.variable),
+    }
+}
+
+/// Goes from some bounds into the first part of a branch, and tells what is left of it.
+fn enter<'m>(
+    alloc: Global,
+    bounds: &mut Bounds,
+    variable: usize,
+    branch: Branch<'m>,
+) -> Result<Option<Branch<'m>>, AllocError>
+    ensures parted { IfOk result (λ rest. (A : Assignment)
+        → IsInBranch A bounds.old variable branch.entry
+        → IsInside bounds.new A ⊎ IsInOpen A bounds.old variable rest) }
+    ensures back { IfOk result (λ _. (was : Option Told)
+        → undone bounds.new variable was ≡ undone bounds.old variable was) }
+{
+    match branch {
+        Branch::Part(ends) => {
+            bounds.narrow(variable, ends.kind, ends.low, ends.high);
+            Ok(None)
+        }
+        Branch::Subsets(subsets) => {
+            let value = subsets.first(alloc)?;
+            bounds.settle(alloc, variable, &value)?;
+            match subsets.rest() {
+                Some(rest) => Ok(Some(Branch::Subsets(rest))),
+                None => Ok(None),
+            }
+        }
+    }
+}
+
 impl<'m, 'a> Tree<'m, 'a> {
     /// A tree of one node, with the bounds that the filling, the domains and the points of the
     /// model give, and where that is asked for those that integers without bounds are supposed to
@@ -133,6 +182,16 @@ impl<'m, 'a> Tree<'m, 'a> {
     /// The bounds of a variable in the present node, where they are known.
     pub(crate) fn ends(&self, variable: usize) -> Option<KindEnds> {
         self.bounds.ends(variable)
+    }
+
+    /// The least value of a variable in the present node, where it is known.
+    pub(crate) fn least(&self, variable: usize) -> Option<&Value> {
+        self.bounds.least(variable)
+    }
+
+    /// Whether the last step has an open branch.
+    pub(crate) fn is_split(&self) -> bool {
+        self.steps.last().is_some_and(|step| step.branch.is_some())
     }
 
     /// Whether the present node is closed or given up.
@@ -164,7 +223,7 @@ impl<'m, 'a> Tree<'m, 'a> {
                 self.all = false;
                 self.steps.push(Step {
                     variable: left.variable,
-                    was,
+                    was: Some(was),
                     branch: None,
                 })?;
                 self.all = all;
@@ -217,7 +276,7 @@ impl<'m, 'a> Tree<'m, 'a> {
         self.all = false;
         self.steps.push(Step {
             variable,
-            was,
+            was: Some(was),
             branch: None,
         })?;
         self.bounds.narrow(variable, Kind::Int, low, high);
@@ -241,11 +300,46 @@ impl<'m, 'a> Tree<'m, 'a> {
         self.all = false;
         self.steps.push(Step {
             variable: split.variable,
-            was,
-            branch: Some(other),
+            was: Some(was),
+            branch: Some(Branch::Part(other)),
         })?;
         self.bounds
             .narrow(split.variable, here.kind, here.low, here.high);
+        self.all = all;
+        Ok(())
+    }
+
+    /// Splits a set without bounds, where the point is its domain, and that has no other numbers
+    /// than these. The present node gives it the first subset of them, and the others become an
+    /// open branch.
+    pub(crate) fn split_set(
+        &mut self,
+        alloc: Global,
+        point: usize,
+        numbers: &'m [i64],
+    ) -> Result<(), AllocError>
+        ensures same { self.new ≡ self.old }
+    {
+        if point >= self.model.points() {
+            return Ok(());
+        }
+        let PointParts::Domain(declared, variable) = self.model.point_parts(point) else {
+            return Ok(());
+        };
+        if !self.bounds.is_unknown(variable) {
+            return Ok(());
+        }
+        let Some(subsets) = all_subsets(alloc, declared, numbers)? else {
+            return Ok(());
+        };
+        let all = self.all;
+        self.all = false;
+        let branch = enter(alloc, &mut self.bounds, variable, Branch::Subsets(subsets))?;
+        self.steps.push(Step {
+            variable,
+            was: None,
+            branch,
+        })?;
         self.all = all;
         Ok(())
     }
@@ -260,7 +354,7 @@ impl<'m, 'a> Tree<'m, 'a> {
 
     /// Takes the last step back, which it tells, from a node that is closed or given up. Where that
     /// comes to an open branch, this becomes the present node.
-    pub(crate) fn step_back(&mut self) -> Result<Option<Step>, AllocError>
+    pub(crate) fn step_back(&mut self, alloc: Global) -> Result<Option<Step<'m>>, AllocError>
         ensures same { self.new ≡ self.old }
     {
         if self.closed.is_none() {
@@ -269,19 +363,17 @@ impl<'m, 'a> Tree<'m, 'a> {
         let Some(step) = self.steps.pop() else {
             return Ok(None);
         };
-        self.bounds
-            .narrow(step.variable, step.was.kind, step.was.low, step.was.high);
-        let Some(other) = step.branch else {
+        undo(&mut self.bounds, step);
+        let Some(branch) = step.branch else {
             return Ok(Some(step));
         };
         let all = self.all;
         self.all = false;
+        let rest = enter(alloc, &mut self.bounds, step.variable, branch)?;
         self.steps.push(Step {
-            branch: None,
+            branch: rest,
             ..step
         })?;
-        self.bounds
-            .narrow(step.variable, other.kind, other.low, other.high);
         self.closed = None;
         self.all = all;
         Ok(Some(step))

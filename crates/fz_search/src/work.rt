@@ -7,10 +7,11 @@ use crate::found::Task;
 use crate::order::{Split, Way, improvement};
 use crate::proposal::Proposal;
 use crate::standing::{ALL, NOTHING, Standing, standing_of};
+use crate::subsets::OpenSet;
 use crate::tree::{Step, Tree};
 use fz_bounds::{KindEnds, number_as};
 use fz_index::{End, Ends, Left, Narrower, Narrowing, Refutation, Relation, Row, Visit};
-use fz_store::{Domain, Kind, PointParts};
+use fz_store::{Domain, PointParts, Value};
 use std::alloc::AllocError;
 use std::collections::VecDeque;
 
@@ -42,7 +43,7 @@ pub(crate) enum Trial {
 
 /// What is done next with the tree.
 #[derive(Clone, Copy)]
-pub(crate) enum Move {
+pub(crate) enum Move<'m> {
     /// what a point leaves to a variable is taken
     Tighten(usize, Left),
     /// the node is closed, where this point holds nowhere
@@ -50,6 +51,7 @@ pub(crate) enum Move {
     /// the same, and else the node is given up
     Leave(usize),
     Split(Split),
+    SplitSet(&'m OpenSet),
     /// the objective is made better
     Improve,
     /// values are found
@@ -61,6 +63,15 @@ pub(crate) enum Move {
 fn bare(ends: KindEnds) -> Ends {
     let KindEnds { low, high, .. } = ends;
     Ends { low, high }
+}
+
+/// The value of a variable with these bounds, where they leave one.
+fn value_of(ends: KindEnds) -> Option<Value> {
+    if ends.low == ends.high {
+        Some(number_as(ends.kind, ends.low))
+    } else {
+        None
+    }
 }
 
 /// A search under way.
@@ -228,7 +239,7 @@ impl<'m, 'a> Work<'m, 'a> {
     }
 
     /// What is done next.
-    pub(crate) fn next(&mut self) -> Result<Move, AllocError> {
+    pub(crate) fn next(&mut self) -> Result<Move<'m>, AllocError> {
         for _ in 0..self.steps {
             self.spend(1);
             if self.steps == 0 {
@@ -252,7 +263,7 @@ impl<'m, 'a> Work<'m, 'a> {
     }
 
     /// The move that a trial asks for, where it may change something.
-    fn move_of(&mut self, trial: Trial) -> Option<Move> {
+    fn move_of(&mut self, trial: Trial) -> Option<Move<'m>> {
         self.last = trial;
         let left = match trial {
             Trial::Fails => {
@@ -276,12 +287,12 @@ impl<'m, 'a> Work<'m, 'a> {
     }
 
     /// What is done where no point is to be visited.
-    fn branch(&mut self) -> Result<Move, AllocError> {
+    fn branch(&mut self) -> Result<Move<'m>, AllocError> {
         if matches!(self.way, Way::Unsplit) {
             return Ok(Move::Nothing);
         }
         if let Some(split) = self.choose() {
-            return Ok(Move::Split(split));
+            return Ok(split);
         }
         match self.unmet()? {
             Some(point) => Ok(Move::Leave(point)),
@@ -363,7 +374,7 @@ impl<'m, 'a> Work<'m, 'a> {
         self.nodes
     }
 
-    /// Takes note that a variable's bounds were split, and the other part is open.
+    /// Takes note that a variable's bounds were split, or a set without them, and the rest is open.
     pub(crate) fn branch_off(
         &mut self,
         tree: &Tree<'_, '_>,
@@ -376,7 +387,11 @@ impl<'m, 'a> Work<'m, 'a> {
 
     /// Takes note that the last step was taken back. Where no branch is open, nothing is left to be
     /// searched, and what is known of the last node stays.
-    pub(crate) fn put_back(&mut self, tree: &Tree<'_, '_>, step: Step) -> Result<(), AllocError> {
+    pub(crate) fn put_back(
+        &mut self,
+        tree: &Tree<'_, '_>,
+        step: Step<'_>,
+    ) -> Result<(), AllocError> {
         if self.branches == 0 {
             return Ok(());
         }
@@ -385,14 +400,20 @@ impl<'m, 'a> Work<'m, 'a> {
             self.take_first();
         }
         self.first = 0;
-        self.taken.pop();
         let tried = self.ends_of(step.variable);
-        self.change(step.variable, step.was.kind, bare(step.was));
+        let was = step.was.map_or(ALL, bare);
+        self.change(step.variable, was, None);
+        if step.was.is_some() {
+            self.taken.pop();
+        }
         if step.branch.is_none() {
             return Ok(());
         }
         self.branches = self.branches.saturating_sub(1);
         self.nodes = self.nodes.saturating_add(1);
+        if tree.is_split() {
+            return self.branch_off(tree, step.variable);
+        }
         self.narrowed(tree, step.variable, Narrower::Trial(tried))
     }
 
@@ -403,12 +424,16 @@ impl<'m, 'a> Work<'m, 'a> {
         variable: usize,
         by: Narrower,
     ) -> Result<(), AllocError> {
-        let Some(now) = tree.ends(variable) else {
-            return Ok(());
+        let (now, value) = match (tree.ends(variable), tree.least(variable)) {
+            (Some(ends), _) => {
+                let left = Left::of(variable, bare(ends));
+                self.taken.push(Narrowing { left, by })?;
+                (bare(ends), value_of(ends))
+            }
+            (None, Some(set)) => (Ends::at(0), Some(set.copy(self.task.alloc)?)),
+            (None, None) => return Ok(()),
         };
-        let left = Left::of(variable, bare(now));
-        self.taken.push(Narrowing { left, by })?;
-        self.change(variable, now.kind, bare(now));
+        self.change(variable, now, value);
         let places = self.task.known.places_of(variable);
         self.spend(places.len());
         for place in places {
@@ -420,16 +445,15 @@ impl<'m, 'a> Work<'m, 'a> {
         Ok(())
     }
 
-    /// Takes note that a variable has these bounds.
-    fn change(&mut self, variable: usize, kind: Kind, now: Ends) {
+    /// Takes note that a variable has these bounds, and this value or none.
+    fn change(&mut self, variable: usize, now: Ends, value: Option<Value>) {
         let before = self.ends_of(variable);
         if let Some(ends) = self.ends.get_mut(variable) {
             *ends = now;
         }
-        if now.low == now.high {
-            self.proposal.give(variable, number_as(kind, now.low));
-        } else if before.low == before.high {
-            self.proposal.take_away(variable);
+        self.proposal.take_away(variable);
+        if let Some(value) = value {
+            self.proposal.give(variable, value);
         }
         for place in self.task.known.places_of(variable) {
             if let Some(standing) = self.standings.get_mut(place.point) {
