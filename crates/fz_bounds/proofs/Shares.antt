@@ -1,5 +1,5 @@
 -- An integer variable without bounds in a constraint: what it is told by, and what it adds to a sum.
-use Rattle.std.proofs.Common.{◌≡◌, ℕ, zero, suc, ◌<◌, ℤ, pos, negsuc, ◌+ℤ◌, ◌-ℤ◌, ◌*ℤ◌, List, [], ◌∷◌, length, Option, Some, None, slice_get, refl, sym, ap, subst, subst₂, ◌∙◌, ◌⊎◌, inl, inr, int_le, Bool, true, false, ◌&&◌, FitsSigned, of_z, to_z, w64, arith}
+use Rattle.std.proofs.Common.{◌≡◌, ℕ, zero, suc, ◌<◌, ℤ, pos, negsuc, ◌+ℤ◌, ◌-ℤ◌, ◌*ℤ◌, List, [], ◌∷◌, length, Option, Some, None, slice_get, refl, sym, ap, subst, subst₂, ◌∙◌, ◌⊎◌, inl, inr, int_le, Bool, true, false, cond, ◌&&◌, FitsSigned, of_z, to_z, w64, arith}
 use Rattle.std.specs.List.{list_all}
 use Rattle.std.specs.Option.{option_map_or}
 use Rattle.std.proofs.lemmas.Int.{ints, to_z-of_z}
@@ -324,14 +324,24 @@ module _ (s t r q a : ℤ) (adds : s ≡ t +ℤ (q *ℤ a)) where
   with_negative : q ≡ negsuc 0 → s ≡ (t -ℤ a)
   with_negative e = let less : (q *ℤ a) ≡ (pos 0 -ℤ a) = ap (λ z. z *ℤ a) e ∙ grind (arith, ints) in omega (arith, ints)
 
-  pub at_most_rest : q ≡ pos 1 → int_le s r ≡ true → int_le a (r -ℤ t) ≡ true
-  at_most_rest e h = let is = with_one e in grind (arith, ints)
+  -- by how much the sum differs from a number
+  pub apart_as_it : q ≡ pos 1 → s ≡ r +ℤ (a -ℤ (r -ℤ t))
+  apart_as_it e = let is = with_one e in omega (arith, ints)
 
-  pub at_least_rest : q ≡ negsuc 0 → int_le s r ≡ true → int_le (t -ℤ r) a ≡ true
-  at_least_rest e h = let is = with_negative e in grind (arith, ints)
+  pub apart_against_it : q ≡ negsuc 0 → s ≡ r +ℤ ((t -ℤ r) -ℤ a)
+  apart_against_it e = let is = with_negative e in omega (arith, ints)
 
-  pub is_rest : q ≡ pos 1 → (s =ℤ r) ≡ true → (r -ℤ t) ≡ a
-  is_rest e h = let is = with_one e in grind (arith, ints)
+module _ (s r a d : ℤ) where
+  pub is_at_most : (b : Bool) → s ≡ r +ℤ cond b (a -ℤ d) (d -ℤ a) → int_le s r ≡ true → b ≡ true
+      → int_le a d ≡ true
+  is_at_most true is h e = grind (arith, ints)
+  is_at_most false is h e = cc
 
-  pub is_negative_rest : q ≡ negsuc 0 → (s =ℤ r) ≡ true → (t -ℤ r) ≡ a
-  is_negative_rest e h = let is = with_negative e in grind (arith, ints)
+  pub is_at_least : (b : Bool) → s ≡ r +ℤ cond b (a -ℤ d) (d -ℤ a) → int_le s r ≡ true
+      → b ≡ false → int_le d a ≡ true
+  is_at_least true is h e = cc
+  is_at_least false is h e = grind (arith, ints)
+
+  pub is_same : (b : Bool) → s ≡ r +ℤ cond b (a -ℤ d) (d -ℤ a) → (s =ℤ r) ≡ true → d ≡ a
+  is_same true is h = grind (arith, ints)
+  is_same false is h = grind (arith, ints)

@@ -1,15 +1,18 @@
 -- An integer variable without bounds in a constraint (private functions only).
-use Rattle.std.specs.Prelude.{◌≡◌, ℕ, ℤ, pos, ◌<◌, ◌≤ℤ◌, true, length, Option, Some, slice_get}
+use Rattle.std.specs.Prelude.{◌≡◌, ℕ, ℤ, pos, ◌<◌, ◌+ℤ◌, ◌-ℤ◌, ◌≤ℤ◌, Bool, true, cond, List, [], ◌∷◌, length, Option, Some, slice_get}
 use Rattle.fz_model.specs.of_base.declared.value.Value.{Value}
 use Rattle.fz_model.specs.of_base.declared.value.Value.TheVariants.{Int}
 use Rattle.fz_model.specs.declared.Term.{Term}
+use Rattle.fz_model.specs.declared.Kind.TheVariants.{Int as IntKind}
 use Rattle.fz_model.specs.Builtins.{Row}
+use Rattle.fz_model.specs.Builtins.Shape.{ScalarOf, ArrayOf}
 use Rattle.fz_model.specs.Meaning.{Assignment, Model, Partial, Point, Posted, points, value_at, whole}
 use Rattle.fz_model.specs.Meaning.Point.{ConstraintPoint}
 use Rattle.fz_model.specs.Partial.{without}
+use Rattle.fz_model.specs.Relations.{products, total}
 use Rattle.fz_model.specs.States.{HoldsIfKnown, IsKnownSolution}
 use Rattle.fz_model.specs.Steps.{give}
-use Rattle.fz_model.specs.of_builtins.of_kernel.Given.{int_of, slots_at, value_of}
+use Rattle.fz_model.specs.of_builtins.of_kernel.Given.{int_at, int_of, ints_at, slots_at, value_of}
 use Rattle.fz_model.specs.of_builtins.Outcomes.{test_from}
 use Rattle.fz_bounds.specs.Bounds.{LiesBetween, Ranges}
 use Rattle.fz_bounds.specs.Decided.{LiesIn}
@@ -66,6 +69,18 @@ abbrev pub Leaves : OpenConstraint → Row → Range → Type 0
 Leaves o r range = (K : Partial) (a : ℤ) → value_at K o.variable ≡ Some (Int a)
     → IsBetween o.at (zeroed o K) r.shapes → test_from 0 K (given o.at) r.shapes r.holds ≡ true
     → LiesIn range a
+
+-- the sum of the products of the first two arguments
+abbrev pub sum_of : OpenConstraint → Partial → ℤ
+sum_of o K = total (products (ints_at K (given o.at) 0) (ints_at K (given o.at) 1))
+
+-- at such arguments the sum differs from the third argument by as much as the variable's value from
+-- some number of the range, in the same direction where the variable's factor is 1
+abbrev pub IsSolved : OpenConstraint → Range → Bool → Type 0
+IsSolved o range is_one = (K : Partial) (a : ℤ) → value_at K o.variable ≡ Some (Int a)
+    → IsBetween o.at (zeroed o K) (ArrayOf IntKind ∷ ArrayOf IntKind ∷ ScalarOf IntKind ∷ [])
+    → (d : ℤ) × LiesIn range d
+    × (sum_of o K ≡ int_at K (given o.at) 2 +ℤ cond is_one (a -ℤ d) (d -ℤ a))
 
 -- ---- in a model
 

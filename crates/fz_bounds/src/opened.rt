@@ -10,7 +10,7 @@ ghost use Rattle.fz_model.specs.of_base.declared.value.Value.TheVariants.{Int};
 ghost use Rattle.fz_model.specs.of_builtins.of_kernel.Given.{ints_at, slot_at, slots_at};
 ghost use Rattle.fz_model.specs.of_builtins.of_meaning.Known.{known_row};
 ghost use Rattle.fz_store.specs.declared.Builtin.TheVariants.{IntLe, IntLinEq, IntLinLe, IntTimes};
-ghost use Rattle.fz_bounds.specs.Opened.{AreFactors, IsFactor, IsOther, IsProbed, Leaves, probed, zeroed};
+ghost use Rattle.fz_bounds.specs.Opened.{AreFactors, IsFactor, IsOther, IsProbed, IsSolved, Leaves, probed, zeroed};
 ghost use Rattle.fz_bounds.specs.Within.{NumbersLie, given};
 
 use crate::bounded::BoundedConstraint;
@@ -114,27 +114,40 @@ impl<'s, 'a> OpenConstraint<'s, 'a> {
         Range::unknown()
     }
 
-    /// What a sum leaves that is at most a number, where the variable's factor is 1 or -1.
+    /// What the variable is where a sum is a number, if its factor is 1 or -1, and whether that is 1.
+    fn solved(&self) -> Option<(Range, bool)>
+        requires probed { IsProbed self.now }
+        ensures { IfSome result (λ r. IsSolved self.now r.0 r.1) }
+    {
+        if self.is_at(2) {
+            return None;
+        }
+        if !self.has_factors() {
+            return None;
+        }
+        let (rest, sum) = (self.at.sum_of_products(), self.at.number(2));
+        let share = self.share()?;
+        if share == 1 {
+            Some((sum.minus(rest), true))
+        } else if share == -1 {
+            Some((rest.minus(sum), false))
+        } else {
+            None
+        }
+    }
+
+    /// What a sum leaves that is at most a number.
     fn left_by_sum(&self) -> Range
         requires probed { IsProbed self.now }
         ensures { Leaves self.now (row_at IntLinLe) result }
     {
-        if self.is_at(2) {
-            return Range::unknown();
-        }
-        if !self.has_factors() {
-            return Range::unknown();
-        }
-        let (rest, sum) = (self.at.sum_of_products(), self.at.number(2));
-        let Some(share) = self.share() else {
+        let Some((range, is_one)) = self.solved() else {
             return Range::unknown();
         };
-        if share == 1 {
-            sum.minus(rest).and_below()
-        } else if share == -1 {
-            rest.minus(sum).and_above()
+        if is_one {
+            range.and_below()
         } else {
-            Range::unknown()
+            range.and_above()
         }
     }
 
@@ -143,22 +156,9 @@ impl<'s, 'a> OpenConstraint<'s, 'a> {
         requires probed { IsProbed self.now }
         ensures { Leaves self.now (row_at IntLinEq) result }
     {
-        if self.is_at(2) {
-            return Range::unknown();
-        }
-        if !self.has_factors() {
-            return Range::unknown();
-        }
-        let (rest, sum) = (self.at.sum_of_products(), self.at.number(2));
-        let Some(share) = self.share() else {
-            return Range::unknown();
-        };
-        if share == 1 {
-            sum.minus(rest)
-        } else if share == -1 {
-            rest.minus(sum)
-        } else {
-            Range::unknown()
+        match self.solved() {
+            Some((range, _)) => range,
+            None => Range::unknown(),
         }
     }
 
