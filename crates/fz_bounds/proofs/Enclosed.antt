@@ -1,5 +1,6 @@
 -- A variable that gets bounds, or loses them.
-use Rattle.std.proofs.Common.{◌≡◌, ℕ, zero, suc, ◌<◌, ℤ, pos, ◌≤ℤ◌, [], ◌∷◌, length, Option, Some, None, refl, sym, ap, subst, subst₂, ◌∙◌, inl, inr}
+use Rattle.std.proofs.Common.{◌≡◌, ℕ, zero, suc, ◌<◌, ℤ, pos, negsuc, ◌≤ℤ◌, ◌<ℤ◌, [], ◌∷◌, length, Some, refl, sym, ap, subst, subst₂, ◌∙◌, arith}
+use Rattle.std.proofs.lemmas.Int.{ints}
 use Rattle.fz_model.specs.of_base.declared.value.Value.{Value}
 use Rattle.fz_model.specs.of_base.declared.value.Value.TheVariants.{Int, Bool as Truth, Set}
 use Rattle.fz_model.specs.declared.Kind.TheVariants.{Int as IntKind}
@@ -8,29 +9,18 @@ use Rattle.fz_model.specs.Relations.{kind_of}
 use Rattle.fz_model.specs.Partial.{without}
 use Rattle.fz_model.specs.States.{IsKnownSolution}
 use Rattle.fz_model.specs.Steps.{give, kind_at}
-use Rattle.fz_model.proofs.Steps.{value_at_given, value_at_other}
+use Rattle.fz_model.specs.of_builtins.of_kernel.Given.{int_in}
+use Rattle.fz_model.proofs.Steps.{value_at_other}
 use Rattle.fz_model.proofs.Under.{assigned}
-use Rattle.fz_bounds.specs.Bounds.{IsInside, LiesBetween, Ranges, narrowed, number_as}
-use Rattle.fz_bounds.specs.Decided.{LiesIn}
-use Rattle.fz_bounds.specs.Opened.{AreMarks, IsAmid, IsInBoth, LeavesAround, forgotten}
-use Rattle.fz_bounds.specs.declared.range.Range.{Range}
+use Rattle.fz_bounds.specs.Bounds.{IsAround, IsInside, LiesAround, Ranges, narrowed, number_as}
+use Rattle.fz_bounds.specs.Ends.{AreEndsAt}
+use Rattle.fz_bounds.specs.Opened.{AreMarks, forgotten}
+use Rattle.fz_bounds.specs.declared.ends.KindEnds.{KindEnds}
+use Rattle.fz_bounds.proofs.Around.{around_itself, narrowed_around}
 use Rattle.fz_bounds.proofs.Giving.{given_there, given_twice}
-use Rattle.fz_bounds.proofs.Inside.{at_most_itself, lies_given, same_or_other}
-use Rattle.fz_bounds.proofs.Numbers.{still_inside}
+use Rattle.fz_bounds.proofs.Numbers.{still_inside, value_between}
 
--- ---- no bounds
-
-gone : (K : Partial) (n : ℕ) → value_at (without K n) n ≡ None
-gone [] n = refl
-gone (o ∷ K) zero = refl
-gone (o ∷ K) (suc n) = gone K n
-
-others_stay : (K : Partial) (n k : ℕ) → (k ≡ n → ⊥) → value_at (without K n) k ≡ value_at K k
-others_stay [] n k other = refl
-others_stay (o ∷ K) zero zero other = absurd (other refl)
-others_stay (o ∷ K) zero (suc k) other = refl
-others_stay (o ∷ K) (suc n) zero other = refl
-others_stay (o ∷ K) (suc n) (suc k) other = others_stay K n k (λ e. other (ap suc e))
+-- ---- marks
 
 given_away : (K : Partial) (n : ℕ) (v : Value) → without (give K n v) n ≡ without K n
 given_away [] n v = refl
@@ -55,45 +45,52 @@ marked B C n low high is_zero is_one c alike room = record {
   one = ap (λ R. R.highest) c ∙ (λ i. give (sym alike i) n (Int (is_one i)));
 }
 
--- a variable that has none again
-pub forgotten_inside : (B C D : Ranges) (A : Assignment) (n : ℕ) (v w : Value)
-    → C ≡ narrowed B n v w → D ≡ forgotten C n → IsInside B A → IsInside D A
-forgotten_inside B C D A n v w c d inside =
-    subst (λ R. IsInside R A) (sym (d ∙ ap (λ R. forgotten R n) c)) there
-  where
-    there : IsInside (forgotten (narrowed B n v w) n) A
-    there k = elim (same_or_other k n) [
-      | inl e ↦ subst (λ j. LiesBetween (value_at (without (give B.lowest n v) n) j) (value_at (without (give B.highest n w) n) j) (value_at (whole A) j)) (sym e) (subst₂ (λ o p. LiesBetween o p (value_at (whole A) n)) (sym (gone (give B.lowest n v) n)) (sym (gone (give B.highest n w) n)) (tt, tt))
-      | inr other ↦ subst₂ (λ o p. LiesBetween o p (value_at (whole A) k)) (sym (others_stay (give B.lowest n v) n k other ∙ value_at_other B.lowest n k v other)) (sym (others_stay (give B.highest n w) n k other ∙ value_at_other B.highest n k w other)) (inside k)
-    ]
+-- ---- a variable that gets numbers
 
--- ---- a number as both bounds
+-- 0 as both
+pub around_zero : (B C : Ranges) (A : Assignment) (n : ℕ) (w : Value)
+    → C ≡ narrowed B n (Int (pos 0)) (Int (pos 0))
+    → (n < length B.lowest) × (n < length B.highest) → value_at (whole A) n ≡ Some w
+    → IsAround B (whole A) → IsAround C (give (whole A) n (Int (pos 0)))
+around_zero B C A n w c room at around k =
+    let K = give (whole A) n (Int (pos 0)) in
+    narrowed_around B C K n (pos 0) (pos 0) c room
+    (subst (λ o. LiesAround (pos 0) (pos 0) (int_in o)) (sym (given_there (whole A) n (Int (pos 0)) w at)) (around_itself (pos 0)))
+    k (λ other. subst (λ o. LiesAround (int_in (value_at B.lowest k)) (int_in (value_at B.highest k)) (int_in o)) (sym (value_at_other (whole A) n k (Int (pos 0)) other)) (around k))
 
-pub amid_one : (B C : Ranges) (A : Assignment) (n : ℕ) (v w : Value) → C ≡ narrowed B n v v
-    → value_at (whole A) n ≡ Some w → IsInside B A → IsAmid C (give (whole A) n v)
-amid_one B C A n v w c at inside = subst (λ R. IsAmid R (give (whole A) n v)) (sym c) there
-  where
-    here : LiesBetween (Some v) (Some v) (value_at (give (whole A) n v) n)
-    here = subst (LiesBetween (Some v) (Some v)) (sym (given_there (whole A) n v w at)) (at_most_itself v, at_most_itself v)
-
-    there : IsAmid (narrowed B n v v) (give (whole A) n v)
-    there k = elim (same_or_other k n) [
-      | inl e ↦ subst (λ j. LiesBetween (value_at (give B.lowest n v) j) (value_at (give B.highest n v) j) (value_at (give (whole A) n v) j)) (sym e) (lies_given (value_at (give B.lowest n v) n) (value_at (give B.highest n v) n) (value_at (give (whole A) n v) n) v v (value_at_given B.lowest n v) (value_at_given B.highest n v) here)
-      | inr other ↦ subst₂ (λ o p. LiesBetween o p (value_at (give (whole A) n v) k)) (sym (value_at_other B.lowest n k v other)) (sym (value_at_other B.highest n k v other)) (subst (LiesBetween (value_at B.lowest k) (value_at B.highest k)) (sym (value_at_other (whole A) n k v other)) (inside k))
-    ]
-
--- other bounds after that
+-- others after that
 pub enclosed : (B C D : Ranges) (A : Assignment) (n : ℕ) (v w : Value) (a low high : ℤ)
-    → C ≡ narrowed B n v w → D ≡ narrowed C n (number_as IntKind low) (number_as IntKind high)
-    → value_at (whole A) n ≡ Some (Int a) → low ≤ℤ a → a ≤ℤ high → IsInside B A → IsInside D A
-enclosed B C D A n v w a low high c d at above below inside =
-    let is : D ≡ narrowed B n (number_as IntKind low) (number_as IntKind high) =
-    d ∙ ap (λ R. narrowed R n (number_as IntKind low) (number_as IntKind high)) c
+    → C ≡ narrowed B n v w → D ≡ narrowed C n (Int low) (Int high)
+    → (n < length B.lowest) × (n < length B.highest) → value_at (whole A) n ≡ Some (Int a)
+    → LiesAround low high a → IsAround B (whole A) → IsAround D (whole A)
+enclosed B C D A n v w a low high c d room at lies around k =
+    let is : D ≡ narrowed B n (Int low) (Int high) =
+    d ∙ ap (λ R. narrowed R n (Int low) (Int high)) c
     ∙ (λ i. record {
-      lowest = given_twice B.lowest n v (number_as IntKind low) i;
-      highest = given_twice B.highest n w (number_as IntKind high) i;
+      lowest = given_twice B.lowest n v (Int low) i;
+      highest = given_twice B.highest n w (Int high) i;
     }) in
-    still_inside B D A n IntKind a low high is at above below inside
+    narrowed_around B D (whole A) n low high is room (subst (λ o. LiesAround low high (int_in o)) (sym at) lies) k (λ other. around k)
+
+-- bounds that both lie around the value
+pub closed : (B C D : Ranges) (A : Assignment) (n : ℕ) (a low high l h : ℤ)
+    → value_at (whole A) n ≡ Some (Int a) → low ≡ int_in (value_at B.lowest n)
+    → high ≡ int_in (value_at B.highest n)
+    → (negsuc 9223372036854775807 <ℤ low) × (high <ℤ pos 9223372036854775807)
+    → IsAround B (whole A) → D ≡ narrowed C n (number_as IntKind l) (number_as IntKind h)
+    → l ≡ low → high ≤ℤ h → IsInside C A → IsInside D A
+closed B C D A n a low high l h at low_is high_is ends around d is above inside =
+    let lies : LiesAround low high a = subst (LiesAround low high) (ap int_in at) (subst₂ (λ x y. LiesAround x y (int_in (value_at (whole A) n))) (sym low_is) (sym high_is) (around n)) in
+    let least = lies.0 ends.0 in
+    let most = lies.1 ends.1 in
+    still_inside C D A n IntKind a l h d at (omega (arith, ints)) (omega (arith, ints)) inside
+
+-- the bounds of an integer lie around its value
+pub ends_lie : (B : Ranges) (n : ℕ) (e : KindEnds) → AreEndsAt B n e → e.kind ≡ IntKind
+    → (A : Assignment) → IsInside B A → LiesAround e.low e.high (int_in (value_at (whole A) n))
+ends_lie B n e at is A inside =
+    let (a, there, low, high) = value_between B n e at A inside in
+    subst (LiesAround e.low e.high) (sym (ap int_in there ∙ ap (λ k. int_in (Some (number_as k a))) is)) (λ _. low, λ _. high)
 
 -- ---- an integer has a value
 

@@ -18,5 +18,6 @@ pub mod At
 pub mod Forms
 pub mod Never
 pub mod Shares
+pub mod Around
 pub mod Enclosed
 pub use Rattle.fz_model.proofs as of_model

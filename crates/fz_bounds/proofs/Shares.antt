@@ -1,5 +1,5 @@
 -- An integer variable without bounds in a constraint: what it is told by, and what it adds to a sum.
-use Rattle.std.proofs.Common.{◌≡◌, ℕ, zero, suc, ◌<◌, ℤ, pos, negsuc, ◌+ℤ◌, ◌-ℤ◌, ◌*ℤ◌, List, [], ◌∷◌, length, Option, Some, None, slice_get, refl, sym, ap, subst, subst₂, ◌∙◌, ◌⊎◌, inl, inr, int_le, Bool, true, false, cond, ◌&&◌, FitsSigned, of_z, to_z, w64, arith}
+use Rattle.std.proofs.Common.{◌≡◌, ℕ, zero, suc, ◌<◌, ℤ, pos, negsuc, ◌<ℤ◌, ◌+ℤ◌, ◌-ℤ◌, ◌*ℤ◌, List, [], ◌∷◌, length, Option, Some, None, slice_get, refl, sym, ap, subst, subst₂, ◌∙◌, ◌⊎◌, inl, inr, int_le, Bool, true, false, cond, ◌&&◌, FitsSigned, of_z, to_z, w64, arith}
 use Rattle.std.specs.List.{list_all}
 use Rattle.std.specs.Option.{option_map_or}
 use Rattle.std.proofs.lemmas.Int.{ints, to_z-of_z}
@@ -24,7 +24,7 @@ use Rattle.fz_model.specs.of_builtins.of_meaning.Known.{form_at, known_row}
 use Rattle.fz_store.specs.declared.Builtin.{Builtin}
 use Rattle.fz_store.specs.declared.Form.TheVariants.{Base}
 use Rattle.fz_store.specs.declared.Known.{Known}
-use Rattle.fz_bounds.specs.Bounds.{Ranges}
+use Rattle.fz_bounds.specs.Bounds.{LiesAround, Ranges}
 use Rattle.fz_bounds.specs.Between.{AreAtMost}
 use Rattle.fz_bounds.specs.Opened.{AreMarks, IsFactor, IsOther, IsProbed, Leaves, probed}
 use Rattle.fz_bounds.specs.Within.{given}
@@ -182,17 +182,39 @@ module _ (n : ℕ) (B : Ranges) (L H : Partial) where
   given_alike (s ∷ cs) f K v =
       λ j. ap int_in ((f 0 s refl).other K v) j ∷ given_alike cs (λ i. f (suc i)) K v j
 
-  one_number : (l x h c : ℤ) → l ≡ c → h ≡ c → int_le l x ≡ true → int_le x h ≡ true → x ≡ c
-  one_number l x h c d e f g = grind (arith, ints)
+  -- a factor is this number under each assignment around the bounds
+  module _ (K : Partial)
+      (around : (s : Option Term) → LiesAround (int_of L s) (int_of H s) (int_of K s)) where
+    one_number : (s : Option Term) → IsFactor n B L H s → int_of K s ≡ int_of B.lowest s
+    one_number s it =
+        only (int_of L s) (int_of K s) (int_of H s) (int_of B.lowest s) it.least it.most it.above it.below (around s)
+      where
+        only : (l x h c : ℤ) → l ≡ c → h ≡ c → negsuc 9223372036854775807 <ℤ c
+            → c <ℤ pos 9223372036854775807 → LiesAround l h x → x ≡ c
+        only l x h c d e f g lies =
+            let low = lies.0 (subst (λ z. negsuc 9223372036854775807 <ℤ z) (sym d) f) in
+            let high = lies.1 (subst (λ z. z <ℤ pos 9223372036854775807) (sym e) g) in
+            omega (arith, ints)
 
-  between_alike : (cs : List (Option Term)) → Factors cs → (K : Partial)
-      → AreAtMost IntKind (ints_of L cs) (ints_of K cs)
-      → AreAtMost IntKind (ints_of K cs) (ints_of H cs) → ints_of K cs ≡ ints_of B.lowest cs
-  between_alike [] f K low high = refl
-  between_alike (s ∷ cs) f K low high =
-      let it = f 0 s refl in
-      let same = one_number (int_of L s) (int_of K s) (int_of H s) (int_of B.lowest s) it.least it.most low.0 high.0 in
-      λ j. same j ∷ between_alike cs (λ i. f (suc i)) K low.1 high.1 j
+    around_alike : (cs : List (Option Term)) → Factors cs → ints_of K cs ≡ ints_of B.lowest cs
+    around_alike [] f = refl
+    around_alike (s ∷ cs) f =
+        λ j. one_number s (f 0 s refl) j ∷ around_alike cs (λ i. f (suc i)) j
+
+    at_itself : (x y : ℤ) → x ≡ y → int_le x y ≡ true
+    at_itself x y e = grind (arith, ints)
+
+    pub factors_above : (cs : List (Option Term)) → Factors cs
+        → AreAtMost IntKind (ints_of L cs) (ints_of K cs)
+    factors_above [] f = tt
+    factors_above (s ∷ cs) f =
+        (at_itself (int_of L s) (int_of K s) ((f 0 s refl).least ∙ sym (one_number s (f 0 s refl))), factors_above cs (λ i. f (suc i)))
+
+    pub factors_below : (cs : List (Option Term)) → Factors cs
+        → AreAtMost IntKind (ints_of K cs) (ints_of H cs)
+    factors_below [] f = tt
+    factors_below (s ∷ cs) f =
+        (at_itself (int_of K s) (int_of H s) (one_number s (f 0 s refl) ∙ sym (f 0 s refl).most), factors_below cs (λ i. f (suc i)))
 
   -- what the variable adds to a sum
   module _ (marks : AreMarks B n) (cs ss : List (Option Term)) (factors : Factors cs) where
@@ -218,51 +240,18 @@ module _ (n : ℕ) (B : Ranges) (L H : Partial) where
 
     pub shares : (r : ℤ) → r ≡ (sum B.highest -ℤ sum B.lowest) → (K : Partial) (a : ℤ)
         → value_at K n ≡ Some (Int a)
-        → AreAtMost IntKind (ints_of L cs) (ints_of (give K n (Int (pos 0))) cs)
-        → AreAtMost IntKind (ints_of (give K n (Int (pos 0))) cs) (ints_of H cs)
+        → ((s : Option Term) → LiesAround (int_of L s) (int_of H s) (int_of (give K n (Int (pos 0))) s))
         → sum K ≡ sum (give K n (Int (pos 0))) +ℤ (r *ℤ a)
-    shares r is K a at low high =
+    shares r is K a at around =
         let (q, adds) = shared n (ints_of B.lowest cs) ss in
         let zero = give K n (Int (pos 0)) in
-        let marked : ints_of zero cs ≡ ints_of B.lowest cs = between_alike cs factors zero low high in
+        let marked : ints_of zero cs ≡ ints_of B.lowest cs = around_alike zero around cs factors in
         let here : ints_of K cs ≡ ints_of B.lowest cs = sym (given_alike cs factors K (Int (pos 0))) ∙ marked in
         let back : give K n (Int a) ≡ K = sym (given_twice K n (Int (pos 0)) (Int a)) ∙ given_back K n (Int (pos 0)) (Int a) at in
         ap (λ xs. total (products xs (ints_of K ss))) here
         ∙ ap with_marks (sym back)
         ∙ adds K a (λ v. given_there K n v (Int a) at)
         ∙ (λ j. total (products (sym marked j) (ints_of zero ss)) +ℤ (sym (share_is q r adds is) j *ℤ a))
-
--- ---- scalars that are read
-
-module _ (K : Partial) (n : ℕ) (a b : ℤ) (at : value_at K n ≡ Some (Int a)) where
-  abbrev other_number : Partial
-  other_number = give K n (Int b)
-
-  slot_still : (k : Kind) (s : Option Term) → is_read other_number k s ≡ is_read K k s
-  slot_still k s =
-      let kind_is : Option Value → Bool = λ o. option_map_or (λ v. same_kind (kind_of v) k) o false in
-      elim (is_it n s) [
-        | inl it ↦ ap (is_read other_number k) it ∙ ap kind_is (given_there K n (Int b) (Int a) at) ∙ sym (ap kind_is at) ∙ sym (ap (is_read K k) it)
-        | inr other ↦ ap kind_is (other K (Int b))
-      ]
-
-  slots_still : (k : Kind) (ss : List (Option Term))
-      → list_all (is_read other_number k) ss ≡ list_all (is_read K k) ss
-  slots_still k [] = refl
-  slots_still k (s ∷ ss) = λ j. slot_still k s j && slots_still k ss j
-
-  argument_still : (s : Shape) (x : Argument)
-      → argument_is_read other_number s x ≡ argument_is_read K s x
-  argument_still (ScalarOf k) x = slot_still k (slot_in x)
-  argument_still (ArrayOf k) x = slots_still k (slots_in x)
-
-  -- with another number for the variable all is read that was
-  pub still_read : (ss : List Shape) (xs : List Argument)
-      → are_read other_number ss xs ≡ are_read K ss xs
-  still_read [] [] = refl
-  still_read [] (x ∷ xs) = refl
-  still_read (s ∷ ss) [] = refl
-  still_read (s ∷ ss) (x ∷ xs) = λ j. argument_still s x j && still_read ss xs j
 
 -- ---- in a constraint
 
@@ -292,9 +281,9 @@ module _ (o : OpenConstraint) (p : IsProbed o) where
       → slice_get (ints_at (probed o).highest (given o.probe) 0) i ≡ Some g
       → slice_get (ints_at o.at.lowest.now (given o.at) 0) i ≡ Some l
       → slice_get (ints_at o.at.highest.now (given o.at) 0) i ≡ Some h
-      → g ≡ f → l ≡ f → h ≡ f → (s : Option Term) → slice_get (slots_at (given o.at) 0) i ≡ Some s
+      → g ≡ f → l ≡ f → h ≡ f → negsuc 9223372036854775807 <ℤ f → f <ℤ pos 9223372036854775807 → (s : Option Term) → slice_get (slots_at (given o.at) 0) i ≡ Some s
       → IsFactor o.variable (probed o) o.at.lowest.now o.at.highest.now s
-  factor_is i f g l h at_f at_g at_l at_h is_g is_l is_h s here =
+  factor_is i f g l h at_f at_g at_l at_h is_g is_l is_h above below s here =
       let slots = slots_at (given o.at) 0 in
       let first = read_there (probed o).lowest slots i s f here (subst (λ xs. slice_get (ints_at (probed o).lowest xs 0) i ≡ Some f) p.same at_f) in
       let second = read_there (probed o).highest slots i s g here (subst (λ xs. slice_get (ints_at (probed o).highest xs 0) i ≡ Some g) p.same at_g) in
@@ -303,6 +292,8 @@ module _ (o : OpenConstraint) (p : IsProbed o) where
         marked = second ∙ is_g ∙ sym first;
         least = read_there o.at.lowest.now slots i s l here at_l ∙ is_l ∙ sym first;
         most = read_there o.at.highest.now slots i s h here at_h ∙ is_h ∙ sym first;
+        above = subst (λ z. negsuc 9223372036854775807 <ℤ z) (sym first) above;
+        below = subst (λ z. z <ℤ pos 9223372036854775807) (sym first) below;
       }
 
 pub sum_read : (e f : Elements) (K : Partial) (cs ss : List (Option Term)) → slots_of e ≡ cs

@@ -1,6 +1,6 @@
 -- Bounds of a model's variables, the assignments that lie inside them, and what a point says there
 -- (this project's profile).
-use Rattle.std.specs.Prelude.{◌≡◌, ℕ, ℤ, pos, Bool, false, not, ◌||◌, int_le, int_lt, length, Option, Some, IfSome, IsSomeAnd, IsTrue, slice_get, ⊤}
+use Rattle.std.specs.Prelude.{◌≡◌, ℕ, ℤ, pos, negsuc, ◌≤ℤ◌, ◌<ℤ◌, Bool, false, not, ◌||◌, int_le, int_lt, length, Option, Some, IfSome, IsSomeAnd, IsTrue, slice_get, ⊤}
 use Rattle.fz_model.specs.of_base.declared.value.Value.{Value}
 use Rattle.fz_model.specs.of_base.declared.value.Value.TheVariants.{Int, Bool as Truth, Set}
 use Rattle.fz_model.specs.Relations.{◌=ˢ◌, kind_of}
@@ -8,6 +8,7 @@ use Rattle.fz_model.specs.declared.Kind.{Kind}
 use Rattle.fz_model.specs.declared.Kind.TheVariants.{Int as IntKind, Bool as BoolKind, Set as SetKind}
 use Rattle.fz_model.specs.declared.Domain.{Domain}
 use Rattle.fz_model.specs.Meaning.{Assignment, Model, Partial, Point, inside, points, value_at, whole}
+use Rattle.fz_model.specs.Partial.{number_in}
 use Rattle.fz_model.specs.Steps.{give}
 use Rattle.fz_model.specs.Meaning.Point.{DomainPoint, DefinitionPoint, ArrayPoint, ConstraintPoint}
 use Rattle.fz_model.specs.States.{HoldsIfKnown}
@@ -34,6 +35,18 @@ LiesBetween low high o = IfSome low (λ v. IsSomeAnd o (λ w. IsTrue (is_at_most
 abbrev pub IsInside : Ranges → Assignment → Type 0
 IsInside B A = (n : ℕ)
     → LiesBetween (value_at B.lowest n) (value_at B.highest n) (value_at (whole A) n)
+
+-- the number is at least the one and at most the other; but the least and the greatest number of 64
+-- bits bound nothing
+abbrev pub LiesAround : ℤ → ℤ → ℤ → Type 0
+LiesAround l h a = (negsuc 9223372036854775807 <ℤ l → l ≤ℤ a)
+    × (h <ℤ pos 9223372036854775807 → a ≤ℤ h)
+
+-- the same of the number that each variable has, with 0 for all that have none
+abbrev pub IsAround : Ranges → Partial → Type 0
+IsAround B K = (n : ℕ)
+    → LiesAround (number_in (value_at B.lowest n)) (number_in (value_at B.highest n))
+    (number_in (value_at K n))
 
 -- the point holds under no assignment inside the bounds
 abbrev pub NeverHolds : Ranges → Point → Type 0

@@ -1,11 +1,12 @@
 -- Arguments of a constraint that lie within bounds (private functions only).
-use Rattle.std.specs.Prelude.{◌≡◌, ℕ, List, true}
+use Rattle.std.specs.Prelude.{◌≡◌, ℕ, ℤ, List, true, Some, slice_get}
 use Rattle.fz_model.specs.declared.Kind.TheVariants.{Int as IntKind, Bool as BoolKind, Set as SetKind}
 use Rattle.fz_model.specs.Builtins.{Row, Shape}
 use Rattle.fz_model.specs.Meaning.{Argument, Partial}
 use Rattle.fz_model.specs.Parts.{constraint_view}
 use Rattle.fz_model.specs.of_builtins.of_kernel.Given.{are_read, bool_at, bools_at, int_at, ints_at, set_at}
 use Rattle.fz_model.specs.of_builtins.Outcomes.{test_from}
+use Rattle.fz_bounds.specs.Bounds.{LiesAround, Ranges}
 use Rattle.fz_bounds.specs.Between.{AreAtMost, AreBetween, at_most}
 use Rattle.fz_bounds.specs.Decided.{Decides}
 use Rattle.fz_bounds.specs.declared.bounded.BoundedConstraint.{BoundedConstraint}
@@ -14,6 +15,10 @@ use Rattle.fz_bounds.specs.declared.outlook.Outlook.{Outlook}
 -- the arguments
 abbrev pub given : BoundedConstraint → List Argument
 given s = (constraint_view s.parts).arguments
+
+-- the bounds
+abbrev pub limits : BoundedConstraint → Ranges
+limits s = record { lowest = s.lowest.now; highest = s.highest.now }
 
 -- the argument at an index lies between its least and its greatest value
 pub record NumberLies (s : BoundedConstraint) (i : ℕ) (K : Partial) : Type 0 where
@@ -37,6 +42,13 @@ pub record NumbersLie (s : BoundedConstraint) (i : ℕ) (K : Partial) : Type 0 w
 pub record TruthsLie (s : BoundedConstraint) (i : ℕ) (K : Partial) : Type 0 where
   pub low : AreAtMost BoolKind (bools_at s.lowest.now (given s) i) (bools_at K (given s) i)
   pub high : AreAtMost BoolKind (bools_at K (given s) i) (bools_at s.highest.now (given s) i)
+
+-- each element does, but where an end bounds nothing
+abbrev pub NumbersLieAround : BoundedConstraint → ℕ → Partial → Type 0
+NumbersLieAround s i K = (p : ℕ) (l h n : ℤ)
+    → slice_get (ints_at s.lowest.now (given s) i) p ≡ Some l
+    → slice_get (ints_at s.highest.now (given s) i) p ≡ Some h
+    → slice_get (ints_at K (given s) i) p ≡ Some n → LiesAround l h n
 
 -- all arguments, read as these kinds ask
 abbrev pub IsBetween : BoundedConstraint → Partial → List Shape → Type 0

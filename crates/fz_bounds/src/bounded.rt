@@ -1,15 +1,16 @@
 //! The arguments of a constraint within bounds.
 
-ghost use Rattle.std.specs.Prelude.{◌≡◌, ◌*ℤ◌, not};
+ghost use Rattle.std.specs.Prelude.{◌≡◌, ◌*ℤ◌, IsTrue, not};
 ghost use Rattle.std.specs.List.{list_all, list_any};
 ghost use Rattle.fz_model.specs.Meaning.{Partial as Values};
 ghost use Rattle.fz_model.specs.of_builtins.of_kernel.Given.{bool_at, bools_at, int_at};
 ghost use Rattle.fz_model.specs.of_builtins.of_kernel.Views.{arguments_of, assigned};
+ghost use Rattle.fz_bounds.specs.Bounds.{IsAround};
 ghost use Rattle.fz_bounds.specs.Decided.{Decides, LiesIn};
-ghost use Rattle.fz_bounds.specs.Within.{NumberLies, TruthLies, TruthsLie, given};
+ghost use Rattle.fz_bounds.specs.Within.{NumberLies, TruthLies, TruthsLie, given, limits};
 
 use crate::outlook::Outlook;
-use crate::range::Range;
+use crate::range::{Range, are_ends};
 use fz_kernel::ArgumentView;
 use fz_kernel::arrays::{all_true, any_false, any_true};
 use fz_store::{ConstraintParts, Partial};
@@ -45,6 +46,22 @@ impl<'s, 'a> BoundedConstraint<'s, 'a> {
             → LiesIn result (int_at K (given self.now) index) }
     {
         Range::between(self.low().int(index), self.high().int(index))
+    }
+
+    /// The same, within ends that may bound nothing.
+    pub(crate) fn range(&self, index: usize) -> Range
+        ensures { (K : Values) → IsAround (limits self.now) K
+            → LiesIn result (int_at K (given self.now) index) }
+    {
+        Range::around(self.low().int(index), self.high().int(index))
+    }
+
+    /// Whether both ends bound it.
+    pub(crate) fn has_ends(&self, index: usize) -> bool
+        ensures { IsTrue result → (K : Values) → IsAround (limits self.now) K
+            → NumberLies self.now index K }
+    {
+        are_ends(self.low().int(index), self.high().int(index))
     }
 
     /// The product of two arguments.

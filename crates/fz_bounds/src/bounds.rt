@@ -1,7 +1,7 @@
 //! The bounds of a model's variables.
 
-ghost use Rattle.std.specs.Prelude.{◌≡◌, IfOk, IfSome};
-ghost use Rattle.fz_model.specs.Meaning.{Assignment, whole};
+ghost use Rattle.std.specs.Prelude.{◌≡◌, IfOk, IfSome, length};
+ghost use Rattle.fz_model.specs.Meaning.{Assignment, variables_of, whole};
 ghost use Rattle.fz_model.specs.States.{IsKnownSolution};
 ghost use Rattle.fz_model.specs.Shown.{point_view};
 ghost use Rattle.fz_model.specs.Openings.{HasEach};
@@ -79,6 +79,7 @@ impl Bounds {
     pub fn unknown(alloc: Global, model: &Model<'_>) -> Result<Bounds, AllocError>
         ensures inside { IfOk result (λ b. (A : Assignment) → IsInside b A) }
         ensures alike { IfOk result (λ b. b.lowest ≡ b.highest) }
+        ensures sized { IfOk result (λ b. length b.lowest ≡ length (variables_of model.now)) }
     {
         let lowest = Partial::new(alloc, model)?;
         let highest = Partial::new(alloc, model)?;

@@ -5,7 +5,7 @@ ghost use Rattle.fz_model.specs.Meaning.{Partial as Values};
 ghost use Rattle.fz_model.specs.Relations.{◌=ℤ◌, ◌=ᴮ◌, count_of, is_among, is_element, products, total, where_true};
 ghost use Rattle.fz_model.specs.of_builtins.of_kernel.Given.{bool_at, bools_at, int_at, ints_at, slots_at};
 ghost use Rattle.fz_bounds.specs.Decided.{Decides, LiesIn};
-ghost use Rattle.fz_bounds.specs.Within.{NumberLies, NumbersLie, TruthLies, TruthsLie, given};
+ghost use Rattle.fz_bounds.specs.Within.{NumberLies, NumbersLie, NumbersLieAround, TruthLies, TruthsLie, given};
 
 use crate::bounded::BoundedConstraint;
 use crate::outlook::Outlook;
@@ -64,6 +64,15 @@ impl<'s, 'a> BoundedConstraint<'s, 'a> {
         Range::between(self.least(index, place), self.greatest(index, place))
     }
 
+    /// The same, within ends that may bound nothing.
+    fn range_at(&self, index: usize, place: usize) -> Range
+        requires in_range { place < length (slots_at (given self.now) index) }
+        ensures { (K : Values) → NumbersLieAround self.now index K → (n : ℤ)
+            → slice_get (ints_at K (given self.now) index) place ≡ Some n → LiesIn result n }
+    {
+        Range::around(self.least(index, place), self.greatest(index, place))
+    }
+
     /// The element of an array of Booleans.
     pub(crate) fn truth_at(&self, index: usize, place: usize) -> Outlook
         requires in_range { place < length (slots_at (given self.now) index) }
@@ -86,7 +95,8 @@ impl<'s, 'a> BoundedConstraint<'s, 'a> {
 
     /// The sum of the products of the elements of the first two arguments.
     pub(crate) fn sum_of_products(&self) -> Range
-        ensures { (K : Values) → NumbersLie self.now 0 K → NumbersLie self.now 1 K → LiesIn result
+        ensures { (K : Values) → NumbersLie self.now 0 K → NumbersLieAround self.now 1 K
+            → LiesIn result
             (total (products (ints_at K (given self.now) 0) (ints_at K (given self.now) 1))) }
     {
         let mut sum = Range::of(0);
@@ -94,7 +104,7 @@ impl<'s, 'a> BoundedConstraint<'s, 'a> {
             let Some(coefficient) = self.only_at(0, place) else {
                 return Range::unknown();
             };
-            sum = sum.plus(self.number_at(1, place).times(coefficient));
+            sum = sum.plus(self.range_at(1, place).times(coefficient));
         }
         sum
     }

@@ -10,11 +10,12 @@ ghost use Rattle.fz_model.specs.of_base.declared.value.Value.TheVariants.{Int};
 ghost use Rattle.fz_model.specs.of_builtins.of_kernel.Given.{ints_at, slot_at, slots_at};
 ghost use Rattle.fz_model.specs.of_builtins.of_meaning.Known.{known_row};
 ghost use Rattle.fz_store.specs.declared.Builtin.TheVariants.{IntLe, IntLinEq, IntLinLe, IntTimes};
+ghost use Rattle.fz_bounds.specs.Bounds.{IsAround};
 ghost use Rattle.fz_bounds.specs.Opened.{AreFactors, IsFactor, IsOther, IsProbed, IsSolved, Leaves, probed, zeroed};
-ghost use Rattle.fz_bounds.specs.Within.{NumbersLie, given};
+ghost use Rattle.fz_bounds.specs.Within.{given, limits};
 
 use crate::bounded::BoundedConstraint;
-use crate::range::Range;
+use crate::range::{Range, are_ends};
 use fz_kernel::arrays::sum_of_products;
 use fz_store::{Builtin, Form, Known};
 
@@ -76,7 +77,7 @@ impl<'s, 'a> OpenConstraint<'s, 'a> {
         if self.at.greatest(0, place) != factor {
             return false;
         }
-        true
+        are_ends(factor, factor)
     }
 
     /// What the variable adds to a sum where it is 1.
@@ -85,7 +86,7 @@ impl<'s, 'a> OpenConstraint<'s, 'a> {
         requires factors { AreFactors self.now }
         ensures { IfSome result (λ q. (K : Values) (a : ℤ)
             → value_at K self.now.variable ≡ Some (Int a)
-            → NumbersLie self.now.at 0 (zeroed self.now K)
+            → IsAround (limits self.now.at) (zeroed self.now K)
             → total (products (ints_at K (given self.now.at) 0) (ints_at K (given self.now.at) 1))
             ≡ total (products (ints_at (zeroed self.now K) (given self.now.at) 0)
             (ints_at (zeroed self.now K) (given self.now.at) 1)) +ℤ (q *ℤ a)) }
@@ -106,15 +107,15 @@ impl<'s, 'a> OpenConstraint<'s, 'a> {
             if self.is_at(1) {
                 return Range::unknown();
             }
-            return self.at.number(1).and_below();
+            return self.at.range(1).and_below();
         }
         if self.is_at(1) {
-            return self.at.number(0).and_above();
+            return self.at.range(0).and_above();
         }
         Range::unknown()
     }
 
-    /// What the variable is where a sum is a number, if its factor is 1 or -1, and whether that is 1.
+    /// What the variable is where a sum is a number, if its factor is 1 or -1, and whether it is 1.
     fn solved(&self) -> Option<(Range, bool)>
         requires probed { IsProbed self.now }
         ensures { IfSome result (λ r. IsSolved self.now r.0 r.1) }
@@ -125,7 +126,7 @@ impl<'s, 'a> OpenConstraint<'s, 'a> {
         if !self.has_factors() {
             return None;
         }
-        let (rest, sum) = (self.at.sum_of_products(), self.at.number(2));
+        let (rest, sum) = (self.at.sum_of_products(), self.at.range(2));
         let share = self.share()?;
         if share == 1 {
             Some((sum.minus(rest), true))
@@ -171,6 +172,12 @@ impl<'s, 'a> OpenConstraint<'s, 'a> {
             return Range::unknown();
         }
         if self.is_at(1) {
+            return Range::unknown();
+        }
+        if !self.at.has_ends(0) {
+            return Range::unknown();
+        }
+        if !self.at.has_ends(1) {
             return Range::unknown();
         }
         if self.is_at(2) {

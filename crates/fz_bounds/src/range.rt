@@ -1,8 +1,9 @@
 //! Ranges of numbers, and what they say of tests of numbers.
 
-ghost use Rattle.std.specs.Prelude.{◌≡◌, ℤ, Bool, cond, pos, ◌+◌, ◌+ℤ◌, ◌-ℤ◌, ◌*ℤ◌, int_le, int_lt, IfSome, IsSomeAnd, IsTrue, true, unsigned_abs};
+ghost use Rattle.std.specs.Prelude.{◌≡◌, ℤ, Bool, cond, pos, negsuc, ◌<ℤ◌, ◌+◌, ◌+ℤ◌, ◌-ℤ◌, ◌*ℤ◌, int_le, int_lt, IfSome, IsSomeAnd, IsTrue, true, unsigned_abs};
 ghost use Rattle.std.specs.Int.{int_max, int_min};
 ghost use Rattle.fz_model.specs.Relations.{◌=ℤ◌};
+ghost use Rattle.fz_bounds.specs.Bounds.{LiesAround};
 ghost use Rattle.fz_bounds.specs.Decided.{Decides, LiesIn};
 
 use crate::outlook::Outlook;
@@ -69,6 +70,36 @@ fn lesser(one: Option<i128>, other: Option<i128>) -> Option<i128>
     Some(one?.min(other?))
 }
 
+/// A lower end, where it bounds anything.
+fn low_end(low: i64) -> Option<i128>
+    ensures { IfSome result (λ r. (r ≡ low) × (negsuc 9223372036854775807 <ℤ low)) }
+{
+    if low > i64::MIN {
+        Some(i128::from(low))
+    } else {
+        None
+    }
+}
+
+/// An upper one.
+fn high_end(high: i64) -> Option<i128>
+    ensures { IfSome result (λ r. (r ≡ high) × (high <ℤ pos 9223372036854775807)) }
+{
+    if high < i64::MAX {
+        Some(i128::from(high))
+    } else {
+        None
+    }
+}
+
+/// Whether the ends bound anything.
+pub(crate) fn are_ends(low: i64, high: i64) -> bool
+    ensures { IsTrue result → (negsuc 9223372036854775807 <ℤ low)
+        × (high <ℤ pos 9223372036854775807) }
+{
+    low > i64::MIN && high < i64::MAX
+}
+
 impl Range {
     /// Of any number.
     pub(crate) fn unknown() -> Range
@@ -101,6 +132,16 @@ impl Range {
         Range {
             low: Some(i128::from(low)),
             high: Some(i128::from(high)),
+        }
+    }
+
+    /// The same, but the least and the greatest number of 64 bits bound nothing.
+    pub(crate) fn around(low: i64, high: i64) -> Range
+        ensures { (n : ℤ) → LiesAround low high n → LiesIn result n }
+    {
+        Range {
+            low: low_end(low),
+            high: high_end(high),
         }
     }
 

@@ -6,6 +6,7 @@ use Rattle.fz_model.specs.Builtins.{row_at}
 use Rattle.fz_model.specs.Relations.{as_number, count_in, count_of, counts_are, counts_lie, is_among, is_closed, lies_between, loads_are, products, total, where_true, ◌=ᴮ◌, ◌=ℤ◌}
 use Rattle.fz_model.specs.of_builtins.of_kernel.Given.{bool_at, bools_at, int_at, ints_at, set_at}
 use Rattle.fz_bounds.specs.Within.{given}
+use Rattle.fz_bounds.proofs.Around.{lie_around}
 use Rattle.fz_bounds.proofs.At.{at_row}
 use Rattle.fz_bounds.proofs.builtins.foretold.Goals as goal
 
@@ -175,19 +176,19 @@ pub returns-in-IntLinEq : goal.returns-in-IntLinEq
 unfolding row_at
 returns-in-IntLinEq c = at_row c.args.at.now c.args.builtin builtin.IntLinEq c.equal-in-IntLinEq.result c.in-IntLinEq.is (λ K h.
     let xs = given c.args.at.now in
-    c.equal-in-IntLinEq.ensures (total (products (ints_at K xs 0) (ints_at K xs 1))) (int_at K xs 2) (c.sum_of_products.ensures K (record { low = h.low.0; high = h.high.0 }) (record { low = h.low.1.0; high = h.high.1.0 })) (c.number-in-IntLinEq.ensures K (record { low = h.low.1.1.0; high = h.high.1.1.0 })))
+    c.equal-in-IntLinEq.ensures (total (products (ints_at K xs 0) (ints_at K xs 1))) (int_at K xs 2) (c.sum_of_products.ensures K (record { low = h.low.0; high = h.high.0 }) (lie_around c.args.at.now 1 K (record { low = h.low.1.0; high = h.high.1.0 }))) (c.number-in-IntLinEq.ensures K (record { low = h.low.1.1.0; high = h.high.1.1.0 })))
 
 pub returns-in-IntLinNe : goal.returns-in-IntLinNe
 unfolding row_at
 returns-in-IntLinNe c = at_row c.args.at.now c.args.builtin builtin.IntLinNe c.negated-in-IntLinNe.result c.in-IntLinNe.is (λ K h.
     let xs = given c.args.at.now in
-    c.negated-in-IntLinNe.ensures ((total (products (ints_at K xs 0) (ints_at K xs 1))) =ℤ (int_at K xs 2)) (c.equal-in-IntLinNe.ensures (total (products (ints_at K xs 0) (ints_at K xs 1))) (int_at K xs 2) (c.sum_of_products-in-IntLinNe.ensures K (record { low = h.low.0; high = h.high.0 }) (record { low = h.low.1.0; high = h.high.1.0 })) (c.number-in-IntLinNe.ensures K (record { low = h.low.1.1.0; high = h.high.1.1.0 }))))
+    c.negated-in-IntLinNe.ensures ((total (products (ints_at K xs 0) (ints_at K xs 1))) =ℤ (int_at K xs 2)) (c.equal-in-IntLinNe.ensures (total (products (ints_at K xs 0) (ints_at K xs 1))) (int_at K xs 2) (c.sum_of_products-in-IntLinNe.ensures K (record { low = h.low.0; high = h.high.0 }) (lie_around c.args.at.now 1 K (record { low = h.low.1.0; high = h.high.1.0 }))) (c.number-in-IntLinNe.ensures K (record { low = h.low.1.1.0; high = h.high.1.1.0 }))))
 
 pub returns-in-IntLinLe : goal.returns-in-IntLinLe
 unfolding row_at
 returns-in-IntLinLe c = at_row c.args.at.now c.args.builtin builtin.IntLinLe c.at_most-in-IntLinLe.result c.in-IntLinLe.is (λ K h.
     let xs = given c.args.at.now in
-    c.at_most-in-IntLinLe.ensures (total (products (ints_at K xs 0) (ints_at K xs 1))) (int_at K xs 2) (c.sum_of_products-in-IntLinLe.ensures K (record { low = h.low.0; high = h.high.0 }) (record { low = h.low.1.0; high = h.high.1.0 })) (c.number-in-IntLinLe.ensures K (record { low = h.low.1.1.0; high = h.high.1.1.0 })))
+    c.at_most-in-IntLinLe.ensures (total (products (ints_at K xs 0) (ints_at K xs 1))) (int_at K xs 2) (c.sum_of_products-in-IntLinLe.ensures K (record { low = h.low.0; high = h.high.0 }) (lie_around c.args.at.now 1 K (record { low = h.low.1.0; high = h.high.1.0 }))) (c.number-in-IntLinLe.ensures K (record { low = h.low.1.1.0; high = h.high.1.1.0 })))
 
 pub returns-in-BoolLinEq : goal.returns-in-BoolLinEq
 unfolding row_at

@@ -1,5 +1,5 @@
 use Rattle.fz_search.proofs.enclosing.enclose.Goals as goal
 
-pub returns-clause-inside : goal.returns-clause-inside
-returns-clause-inside c = λ A sought inside.
-    c.enclose.ensures.inside A sought.0 (λ a there. c.asked_numbers-numbers.ensures A a sought there) inside
+pub returns-clause-around : goal.returns-clause-around
+returns-clause-around c = λ A sought around.
+    c.enclose.ensures.around A sought.0 (λ a there. c.asked_numbers-numbers.ensures A a sought there) around

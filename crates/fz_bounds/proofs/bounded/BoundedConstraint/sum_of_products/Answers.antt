@@ -26,7 +26,7 @@ loop-place-preserved c = λ K f g.
     let same : k ≡ a = to_z-of_z w64 c.in-Some.coefficient fits ∙ sym (c.in-Some.ensures K f a at_a) in
     one_more (total (products (ints_at K xs 0) (ints_at K xs 1))) (total (products (drop i (ints_at K xs 0)) (drop i (ints_at K xs 1)))) (total (products (drop (i + 1) (ints_at K xs 0)) (drop (i + 1) (ints_at K xs 1)))) (a *ℤ b) c.loop-place.sum c.times.result c.plus-sum.result
     (c.loop-place.invariant K f g) (next_product (ints_at K xs 0) (ints_at K xs 1) i a b at_a at_b)
-    (subst (λ z. LiesIn c.times.result (z *ℤ b)) same (c.times.ensures b (c.number_at.ensures K g b at_b))) c.plus-sum.ensures
+    (subst (λ z. LiesIn c.times.result (z *ℤ b)) same (c.times.ensures b (c.range_at.ensures K g b at_b))) c.plus-sum.ensures
 
 pub returns : goal.returns
 returns c = λ K f g.

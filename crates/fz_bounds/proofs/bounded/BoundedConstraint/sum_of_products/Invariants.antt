@@ -2,11 +2,11 @@ use Rattle.std.proofs.Common.{drop}
 use Rattle.fz_model.specs.Meaning.{Partial}
 use Rattle.fz_model.specs.Relations.{products, total}
 use Rattle.fz_model.specs.of_builtins.of_kernel.Given.{ints_at}
-use Rattle.fz_bounds.specs.Within.{NumbersLie, given}
+use Rattle.fz_bounds.specs.Within.{NumbersLie, NumbersLieAround, given}
 use Rattle.fz_bounds.proofs.Added.{IsSoFar}
 use Rattle.fz_bounds.proofs.bounded.BoundedConstraint.sum_of_products.Given as goal
 
 abbrev pub invariant-loop-place : goal.invariant-loop-place
-invariant-loop-place l = (K : Partial) → NumbersLie l.self 0 K → NumbersLie l.self 1 K
+invariant-loop-place l = (K : Partial) → NumbersLie l.self 0 K → NumbersLieAround l.self 1 K
     → IsSoFar (total (products (ints_at K (given l.self) 0) (ints_at K (given l.self) 1)))
     (total (products (drop l.place (ints_at K (given l.self) 0)) (drop l.place (ints_at K (given l.self) 1)))) l.sum

@@ -8,7 +8,7 @@ use Rattle.fz_model.proofs.Lists.{at_place}
 use Rattle.fz_bounds.proofs.bounds.Bounds.left_by.Goals as goal
 
 pub returns-in-Constraint : goal.returns-in-Constraint
-returns-in-Constraint c = λ A a there amid solution.
+returns-in-Constraint c = λ A a there around solution.
     let parts = c.in-Constraint.parts in
-    c.left_by_row.ensures parts.number A a there amid
+    c.left_by_row.ensures parts.number A a there around
     (at_place (HoldsIfKnown (whole A)) (points c.args.model.now) c.args.point (ConstraintPoint parts.number (constraint_view parts)) solution.each_holds (c.point_parts.ensures.parts ∙ ap (λ z. Some (point_view z)) c.in-Constraint.is))

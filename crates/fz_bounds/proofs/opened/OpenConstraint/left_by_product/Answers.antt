@@ -1,4 +1,4 @@
-use Rattle.std.proofs.Common.{◌≡◌, ℤ, ◌*ℤ◌, ◌∙◌, ap, pos, subst, sym, true, arith}
+use Rattle.std.proofs.Common.{◌≡◌, ℤ, ◌*ℤ◌, ◌∙◌, ap, pos, refl, subst, sym, true, arith}
 use Rattle.std.proofs.lemmas.Int.{ints}
 use Rattle.fz_model.specs.Relations.{◌=ℤ◌}
 use Rattle.fz_model.specs.Builtins.{row_at}
@@ -21,4 +21,4 @@ returns-then-is_at-3 c = λ K a at h holds.
     let one : int_at (zeroed o K) xs 0 ≡ int_at K xs 0 = ap int_in (c.is_at.ensures.other c.if-is_at.false K (Int (pos 0))) in
     let two : int_at (zeroed o K) xs 1 ≡ int_at K xs 1 = ap int_in (c.is_at-2.ensures.other c.if-is_at-2.false K (Int (pos 0))) in
     subst (LiesIn c.product.result) ((λ i. one i *ℤ two i) ∙ sym (same_product (int_at K xs 2) _ holds) ∙ here)
-    (c.product.ensures (zeroed o K) (record { low = h.low.0; high = h.high.0 }) (record { low = h.low.1.0; high = h.high.1.0 }))
+    (c.product.ensures (zeroed o K) (c.if-not-has_ends.ensures refl (zeroed o K) h) (c.if-not-has_ends-2.ensures refl (zeroed o K) h))

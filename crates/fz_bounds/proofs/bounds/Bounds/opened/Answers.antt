@@ -1,0 +1,37 @@
+use Rattle.std.proofs.Common.{◌≡◌, ◌<◌, ◌≤◌, ◌∙◌, None, ap, length, subst, subst₂, sym, inl, inr, arith, refl}
+use Rattle.fz_model.specs.Meaning.{value_at, variables_of, whole}
+use Rattle.fz_model.specs.of_builtins.of_kernel.Given.{int_in}
+use Rattle.fz_model.proofs.Partials.{fits_length}
+use Rattle.fz_bounds.specs.Bounds.{LiesAround}
+use Rattle.fz_bounds.proofs.Around.{beyond_all, narrowed_around, still_long, within_or_beyond}
+use Rattle.fz_bounds.proofs.bounds.Bounds.opened.Goals as goal
+
+pub loop-number-init : goal.loop-number-init
+loop-number-init c = record {
+  low_sized = c.in_ok-around.ensures.sized;
+  high_sized = sym (ap length c.in_ok-around.ensures.alike) ∙ c.in_ok-around.ensures.sized;
+  around = λ A f k less. absurd (omega arith);
+}
+
+pub loop-number-preserved : goal.loop-number-preserved
+loop-number-preserved c =
+    let B = c.loop-number.around in
+    let n = c.loop-number.number in
+    let invariant = c.loop-number.invariant in
+    let low_long = ap (λ R. length R.lowest) c.narrow.ensures.exact ∙ still_long B.lowest n _ in
+    let high_long = ap (λ R. length R.highest) c.narrow.ensures.exact ∙ still_long B.highest n _ in
+    record {
+      low_sized = low_long ∙ invariant.low_sized;
+      high_sized = high_long ∙ invariant.high_sized;
+      around = λ A inside k less. narrowed_around B c.narrow.new.around (whole A) n _ _ c.narrow.ensures.exact (omega arith, omega arith) ? k (λ other. invariant.around A inside k (grind (arith, other)));
+    }
+
+pub returns : goal.returns
+returns c = λ A solution inside k.
+    let B = c.loop-number.around in
+    let invariant = c.loop-number.invariant in
+    let all = fits_length (variables_of c.args.model.now) (whole A) solution.assignment in
+    elim (within_or_beyond k (length (variables_of c.args.model.now))) [
+      | inl less ↦ invariant.around A inside k (omega (arith, ?))
+      | inr more ↦ beyond_all B (whole A) k (omega arith) (omega arith) (omega arith)
+    ]
