@@ -157,7 +157,7 @@ impl Bounds {
         if !self.has_room(variable) {
             return false;
         }
-        if !marks.has_room(variable) {
+        if variable >= marks.lowest().values().len() {
             return false;
         }
         let was_low = self.lowest().number(variable);
@@ -172,7 +172,7 @@ impl Bounds {
         let low = end_or(left.low, i64::MIN);
         let high = end_or(left.high, i64::MAX);
         self.narrow(variable, Kind::Int, low, high);
-        low != was_low || high != was_high
+        (low != was_low) | (high != was_high)
     }
 
     /// Gives an integer without bounds those that `enclose` found, where both bound it.
