@@ -14,4 +14,4 @@ returns-then-same_kind c = λ A inside.
     let low_fits : FitsSigned w64 e.low = search rules in
     let high_fits : FitsSigned w64 e.high = search rules in
     subst₂ (λ x y. LiesAround x y (int_in (value_at (whole A) c.args.number))) (sym (to_z-of_z w64 e.low low_fits)) (sym (to_z-of_z w64 e.high high_fits))
-    (ends_lie c.args.self.now c.args.number e c.in-Some.ensures (same_kind_is e.kind IntKind ?) A inside)
+    (ends_lie c.args.self.now c.args.number e c.in-Some.ensures.exact (same_kind_is e.kind IntKind (search rules)) A inside)
