@@ -65,10 +65,23 @@ pub(crate) fn enclose_all(task: &Task<'_, '_>, bounds: &mut Bounds) -> Result<()
         → IsInside bounds.old A → IsInside bounds.new A) }
 {
     let mut marks = Bounds::unknown(task.alloc, task.model)?;
+    enclose_each(task, bounds, &mut marks)
+}
+
+/// The same, with marks that are borrowed, so that they are dropped in one place.
+fn enclose_each(
+    task: &Task<'_, '_>,
+    bounds: &mut Bounds,
+    marks: &mut Bounds,
+) -> Result<(), AllocError>
+    requires unmarked { marks.old.lowest ≡ marks.old.highest }
+    ensures { IfOk result (λ _. (A : Assignment) → IsSought (asked_of task.now) A
+        → IsInside bounds.old A → IsInside bounds.new A) }
+{
     'rounds: for _ in 0..ROUNDS {
         let mut finds = false;
         'variables: for variable in 0..task.model.variables().len() {
-            finds |= enclose(task, bounds, variable, &mut marks)?;
+            finds |= enclose(task, bounds, variable, marks)?;
         }
         if !finds {
             break;

@@ -3,6 +3,7 @@
 ghost use Rattle.std.specs.Prelude.{IfSome};
 ghost use Rattle.fz_search.specs.Found.{IsObjective};
 
+use crate::found::Task;
 use crate::subsets::OpenSet;
 use crate::work::{Move, Work};
 use fz_index::Ends;
@@ -22,6 +23,13 @@ pub(crate) enum Way {
     Unsupposed,
     /// nothing is supposed, and the search ends before the first split
     Unsplit,
+}
+
+impl Way {
+    /// Whether the integers without bounds are supposed to have some.
+    pub(crate) fn supposes(self, task: &Task<'_, '_>) -> bool {
+        task.lacks_bounds && !matches!(self, Way::Unsupposed)
+    }
 }
 
 /// A split of a variable's bounds behind a number.

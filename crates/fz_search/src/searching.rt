@@ -11,7 +11,7 @@ use crate::proposal::copied;
 use crate::subsets::{OpenSet, open_set};
 use crate::tree::Tree;
 use crate::work::{Move, Work};
-use fz_bounds::Tightened;
+use fz_bounds::{KindEnds, Tightened};
 use fz_index::{Search, known_of};
 use fz_store::{Domain, Kind, Model, Partial};
 use std::alloc::{AllocError, Global};
@@ -102,20 +102,47 @@ fn go_through<'m, 'a>(
     Ok(Found::Nothing)
 }
 
-/// Searches once, in one way. It tells how many nodes it took, too.
-fn go(task: &Task<'_, '_>, way: Way, steps: usize) -> Result<(Found, usize), AllocError>
-    ensures found { IfOk result (λ r. IsFoundFor (asked_of task.now) r.0) }
+/// Goes through a tree from its root on, with so many steps more.
+fn go_from<'m, 'a>(
+    task: &Task<'m, 'a>,
+    way: Way,
+    steps: usize,
+    tree: &mut Tree<'m, 'a>,
+) -> Result<Found, AllocError>
+    requires asked { tree.old.model ≡ task.now.model.now }
+    ensures found { IfOk result (IsFoundFor tree.old) }
 {
-    let supposes = task.lacks_bounds && !matches!(way, Way::Unsupposed);
     let steps = task
         .known
         .size()
         .saturating_mul(STEPS_EACH)
         .saturating_add(steps);
-    let mut tree = Tree::new(task, supposes)?;
-    let mut work = Work::new(task, way, steps, &tree)?;
-    let found = go_through(task, &mut tree, &mut work)?;
-    Ok((found, work.nodes()))
+    let mut work = Work::new(task, way, steps, tree)?;
+    go_through(task, tree, &mut work)
+}
+
+/// Searches once, in one way.
+fn go(task: &Task<'_, '_>, way: Way, steps: usize) -> Result<Found, AllocError>
+    ensures found { IfOk result (IsFoundFor (asked_of task.now)) }
+{
+    let mut tree = Tree::new(task, way.supposes(task))?;
+    go_from(task, way, steps, &mut tree)
+}
+
+/// Searches in one way after another, until one comes to something.
+fn go_all_ways(task: &Task<'_, '_>, steps: usize) -> Result<Found, AllocError>
+    ensures found { IfOk result (IsFoundFor (asked_of task.now)) }
+{
+    for way in [Way::InOrder, Way::Smallest] {
+        let found = go(task, way, steps)?;
+        if !matches!(found, Found::Nothing) {
+            return Ok(found);
+        }
+    }
+    if task.lacks_bounds {
+        return go(task, Way::Unsupposed, steps);
+    }
+    Ok(Found::Nothing)
 }
 
 /// The set variables without a value, and whether an integer without one has no bounds.
@@ -170,26 +197,19 @@ pub fn search(
         edges: &[],
         last: None,
     };
-    for way in [Way::InOrder, Way::Smallest] {
-        let (found, _) = go(&task, way, steps)?;
-        if !matches!(found, Found::Nothing) {
-            return Ok(found);
-        }
-    }
-    if lacks_bounds {
-        let (found, _) = go(&task, Way::Unsupposed, steps)?;
-        return Ok(found);
-    }
-    Ok(Found::Nothing)
+    go_all_ways(&task, steps)
 }
 
 /// How many nodes of a tree show that there is none that is asked for, where some do.
 fn refuting(task: &Task<'_, '_>, steps: usize) -> Result<Option<usize>, AllocError>
     ensures { IfOk result (λ o. IfSome o (λ _. HasNone (asked_of task.now))) }
 {
-    let (found, nodes) = go(task, Way::Unsupposed, steps)?;
-    match found {
-        Found::Refuted(_) => Ok(Some(nodes)),
+    match go(task, Way::Unsupposed, steps)? {
+        // Each node of the tree is a leaf or is split in two.
+        Found::Refuted(refutation) => {
+            let nodes = refutation.tried.saturating_mul(2).saturating_sub(1);
+            Ok(Some(nodes))
+        }
         Found::Values(_) | Found::Nothing => Ok(None),
     }
 }
@@ -228,16 +248,42 @@ pub fn prove(
 
 /// The best number that bounds leave to the objective, before any variable is split.
 fn best_left(task: &Task<'_, '_>, steps: usize) -> Result<Option<i64>, AllocError> {
+    let mut tree = Tree::new(task, false)?;
+    best_in(task, steps, &mut tree)
+}
+
+/// The same, in a tree of one node.
+fn best_in<'m, 'a>(
+    task: &Task<'m, 'a>,
+    steps: usize,
+    tree: &mut Tree<'m, 'a>,
+) -> Result<Option<i64>, AllocError>
+    requires asked { tree.old.model ≡ task.now.model.now }
+{
     let Some((variable, is_cost)) = objective_of(task.model) else {
         return Ok(None);
     };
-    let mut tree = Tree::new(task, false)?;
-    let mut work = Work::new(task, Way::Unsplit, steps, &tree)?;
-    go_through(task, &mut tree, &mut work)?;
-    let Some(ends) = tree.ends(variable) else {
+    go_from(task, Way::Unsplit, steps, tree)?;
+    let best = |ends: KindEnds| if is_cost { ends.low } else { ends.high };
+    Ok(tree.ends(variable).map(best))
+}
+
+/// The best number that bounds leave to the objective, where a search shows that none is better.
+fn shown_best(task: &Task<'_, '_>, steps: usize) -> Result<Option<i64>, AllocError>
+    ensures { IfOk result (λ o. IfSome o (λ b. HasNone
+        (record { model = task.now.model.now; filling = task.now.filling.now; last = Some b }))) }
+{
+    let Some(best) = best_left(task, steps)? else {
         return Ok(None);
     };
-    Ok(Some(if is_cost { ends.low } else { ends.high }))
+    let beyond = Task {
+        last: Some(best),
+        ..*task
+    };
+    match refuting(&beyond, steps)? {
+        Some(_) => Ok(Some(best)),
+        None => Ok(None),
+    }
 }
 
 /// A number that no known-solution with the values of a filling has an objective better than: the
@@ -255,7 +301,7 @@ pub fn bound(
 {
     let known = known_of(alloc, model, known)?;
     let (sets, lacks_bounds) = open_of(alloc, model, filling)?;
-    let open = Task {
+    let task = Task {
         alloc,
         known,
         model,
@@ -266,15 +312,5 @@ pub fn bound(
         edges: &[],
         last: None,
     };
-    let Some(best) = best_left(&open, steps)? else {
-        return Ok(None);
-    };
-    let task = Task {
-        last: Some(best),
-        ..open
-    };
-    match refuting(&task, steps)? {
-        Some(_) => Ok(Some(best)),
-        None => Ok(None),
-    }
+    shown_best(&task, steps)
 }

@@ -369,11 +369,6 @@ impl<'m, 'a> Work<'m, 'a> {
         }
     }
 
-    /// How many nodes there were so far.
-    pub(crate) fn nodes(&self) -> usize {
-        self.nodes
-    }
-
     /// Takes note that a variable's bounds were split, or a set without them, and the rest is open.
     pub(crate) fn branch_off(
         &mut self,

@@ -2,7 +2,7 @@ use Rattle.std.specs.Prelude.{◌≡◌}
 use Rattle.fz_bounds.specs.Bounds.{IsInside}
 use Rattle.fz_bounds.specs.of_model.Meaning.{Assignment}
 use Rattle.fz_search.specs.Found.{IsSought, asked_of}
-use Rattle.fz_search.proofs.enclosing.enclose_all.Given as goal
+use Rattle.fz_search.proofs.enclosing.enclose_each.Given as goal
 
 abbrev pub invariant-rounds : goal.invariant-rounds
 invariant-rounds l = record {
