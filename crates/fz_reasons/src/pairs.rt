@@ -120,17 +120,14 @@ fn neighbours_of(builtin: Builtin) -> Option<Relation>
 fn unlike_neighbours(relation: Relation, numbers: &[i64]) -> Option<Neighbours>
     ensures { IfSome result (AreUnlike relation numbers.now) }
 {
-    for next in 1..numbers.len() {
+    for place in 0..numbers.len().saturating_sub(1) {
         let sides = Sides {
-            left: i128::from(numbers[next - 1]),
+            left: i128::from(numbers[place]),
             relation,
-            right: i128::from(numbers[next]),
+            right: i128::from(numbers[place + 1]),
         };
         if !sides.hold() {
-            return Some(Neighbours {
-                place: next - 1,
-                sides,
-            });
+            return Some(Neighbours { place, sides });
         }
     }
     None

@@ -75,29 +75,28 @@ pub(crate) fn reason_of(
 fn by_elements(builtin: Builtin, view: &ArgumentView<'_, '_>) -> Option<Reason>
     ensures { IfSome result (Says builtin (assigned view.now) (arguments_of view.now)) }
 {
+    let (first, second) = (&view.elements(0), &view.elements(1));
     match builtin {
-        Builtin::BoolClause if !any_true(&view.elements(0)) && !any_false(&view.elements(1)) => {
-            Some(Reason::NoLiteral)
-        }
-        Builtin::ArrayBoolXor if !odd_number_true(&view.elements(0)) => Some(Reason::Even),
-        Builtin::FznAllDifferentInt => Some(Reason::Clash(clash(&view.elements(0), false)?)),
-        Builtin::FznAlldifferentExcept0 => Some(Reason::Clash(clash(&view.elements(0), true)?)),
-        Builtin::FzcheckSubcircuit => Some(Reason::Clash(clash(&view.elements(1), false)?)),
-        Builtin::FznGlobalCardinality => Some(Reason::Count(exactly(view, 0, 2)?)),
+        Builtin::BoolClause if !any_true(first) && !any_false(second) => { Some(Reason::NoLiteral) }
+        Builtin::ArrayBoolXor if !odd_number_true(first) => Some(Reason::Even),
+        Builtin::FznAllDifferentInt => clash(first, false).map(Reason::Clash),
+        Builtin::FznAlldifferentExcept0 => clash(first, true).map(Reason::Clash),
+        Builtin::FzcheckSubcircuit => clash(second, false).map(Reason::Clash),
+        Builtin::FznGlobalCardinality => exactly(view, 0, 2).map(Reason::Count),
         Builtin::FznGlobalCardinalityClosed => match exactly(view, 0, 2) {
             Some(count) => Some(Reason::Count(count)),
-            None => Some(Reason::Outside(outside(&view.elements(0), &view.elements(1))?)),
+            None => outside(first, second).map(Reason::Outside),
         },
-        Builtin::FznGlobalCardinalityLowUp => Some(Reason::Count(between(view)?)),
+        Builtin::FznGlobalCardinalityLowUp => between(view).map(Reason::Count),
         Builtin::FznGlobalCardinalityLowUpClosed => match between(view) {
             Some(count) => Some(Reason::Count(count)),
-            None => Some(Reason::Outside(outside(&view.elements(0), &view.elements(1))?)),
+            None => outside(first, second).map(Reason::Outside),
         },
-        Builtin::FznDistribute => Some(Reason::Count(exactly(view, 2, 0)?)),
-        Builtin::FznMemberInt if !is_listed(view.int(1), &view.elements(0)) => {
+        Builtin::FznDistribute => exactly(view, 2, 0).map(Reason::Count),
+        Builtin::FznMemberInt if !is_listed(view.int(1), first) => {
             Some(Reason::NotListed(view.int(1)))
         }
-        Builtin::FznMemberBool if !is_truth_listed(view.truth(1), &view.elements(0)) => {
+        Builtin::FznMemberBool if !is_truth_listed(view.truth(1), first) => {
             Some(Reason::NotListed(number_of_truth(view.truth(1))))
         }
         Builtin::SetIn if !view.set(1).contains(view.int(0)) => {

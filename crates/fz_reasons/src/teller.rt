@@ -4,11 +4,21 @@ use crate::told::{Piece, Told, Who};
 use fz_kernel::{ArgumentView, Elements};
 use fz_store::{Argument, Builtin, ConstraintParts, Partial, Slot, part};
 use std::alloc::{AllocError, Global};
+use std::fmt::Display;
+use std::ops::Range;
 
 /// The most variables that are in a reason: no list of them is shown that is as long.
 const MOST_MET: usize = 16;
 
-/// A constraint whose arguments have values, and what is said of it so far.
+/// Says a format.
+macro_rules! say {
+    ($teller:expr; $($format:tt)+) => { $teller.say_format(format_args!($($format)+)) };
+}
+
+pub(crate) use say;
+
+/// A constraint whose arguments have values, and what is said of it so far. Where memory runs out
+/// nothing is told of it.
 #[derive(Drop)]
 pub(crate) struct Teller<'s, 'a> {
     pub alloc: Global,
@@ -16,6 +26,8 @@ pub(crate) struct Teller<'s, 'a> {
     pub view: ArgumentView<'s, 'a>,
     parts: ConstraintParts<'s, 'a>,
     told: Told,
+    /// Whether all that was said is there.
+    is_whole: bool,
 }
 
 impl<'s, 'a> Teller<'s, 'a> {
@@ -35,109 +47,136 @@ impl<'s, 'a> Teller<'s, 'a> {
                 pieces: Vec::new(alloc),
                 who: Vec::new(alloc),
             },
+            is_whole: true,
         }
     }
 
-    pub(crate) fn told(self) -> Told {
-        self.told
+    /// What was said, if anything was.
+    ///
+    /// # Errors
+    ///
+    /// Memory ran out for what was said.
+    pub(crate) fn told(self) -> Result<Option<Told>, AllocError> {
+        match self.is_whole {
+            true if self.told.pieces.is_empty() => Ok(None),
+            true => Ok(Some(self.told)),
+            false => Err(AllocError),
+        }
     }
 
-    pub(crate) fn say(&mut self, text: &str) -> Result<(), AllocError> {
-        self.add(String::from_str(self.alloc, text)?)
+    pub(crate) fn say(&mut self, text: &str) {
+        self.add(String::from_str(self.alloc, text));
     }
 
-    /// Says a text that was made for this.
-    pub(crate) fn add(&mut self, text: String) -> Result<(), AllocError> {
-        Ok(self.told.pieces.push(Piece::Text(text))?)
+    /// Says a format: `say!` calls this.
+    pub(crate) fn say_format<D: Display + Drop>(&mut self, text: D) {
+        self.add(String::format(self.alloc, text));
+    }
+
+    fn add(&mut self, text: Result<String, AllocError>) {
+        match text {
+            Ok(text) => self.push(Piece::Text(text)),
+            Err(_) => self.is_whole = false,
+        }
+    }
+
+    fn push(&mut self, piece: Piece) {
+        self.is_whole &= self.told.pieces.push(piece).is_ok();
     }
 
     /// Says a number, or the Boolean that it stands for.
-    pub(crate) fn say_value(&mut self, is_truth: bool, value: i128) -> Result<(), AllocError> {
+    pub(crate) fn say_value(&mut self, is_truth: bool, value: i128) {
         match value {
             0 if is_truth => self.say("false"),
             _ if is_truth => self.say("true"),
-            _ => self.add(format!(in self.alloc; "{value}")?),
+            _ => say!(self; "{value}"),
         }
     }
 
     /// Says a variable by its name.
-    pub(crate) fn name(&mut self, variable: usize) -> Result<(), AllocError> {
-        self.told.pieces.push(Piece::Name(variable))?;
-        self.meet(variable, None)
+    pub(crate) fn name(&mut self, variable: usize) {
+        self.push(Piece::Name(variable));
+        self.meet(variable, None);
+    }
+
+    /// Says the name of an argument with a sign of equality, where it is a variable.
+    pub(crate) fn name_equal(&mut self, argument: usize) {
+        if let Some(variable) = self.variable(argument, 0) {
+            self.name(variable);
+            self.say(" = ");
+        }
     }
 
     /// Says the name of what is at a place of an argument in brackets, where it is a variable.
-    pub(crate) fn bracket(&mut self, argument: usize, place: usize) -> Result<(), AllocError> {
-        let Some(variable) = self.variable(argument, place) else {
-            return Ok(());
-        };
-        self.say(" (")?;
-        self.name(variable)?;
-        self.say(")")
+    pub(crate) fn bracket(&mut self, argument: usize, place: usize) {
+        if let Some(variable) = self.variable(argument, place) {
+            self.say(" (");
+            self.name(variable);
+            self.say(")");
+        }
     }
 
     /// What is at a place of an argument is in the reason, as this with its number from 1.
-    pub(crate) fn meet_as(
-        &mut self,
-        argument: usize,
-        place: usize,
-        role: &str,
-    ) -> Result<(), AllocError> {
-        let Some(variable) = self.variable(argument, place) else {
-            return Ok(());
-        };
-        let number = from_one(place);
-        let role = format!(in self.alloc; "{role} {number}")?;
-        self.meet(variable, Some(role))
+    pub(crate) fn meet_as(&mut self, argument: usize, place: usize, role: &str) {
+        if let Some(variable) = self.variable(argument, place) {
+            match format!(in self.alloc; "{role} {}", from_one(place)) {
+                Ok(role) => self.meet(variable, Some(role)),
+                Err(_) => self.is_whole = false,
+            }
+        }
+    }
+
+    /// What is at a place of each of these arguments is in the reason, as this.
+    pub(crate) fn meet_each(&mut self, arguments: Range<usize>, place: usize, role: &str) {
+        for argument in arguments {
+            self.meet_as(argument, place, role);
+        }
     }
 
     /// What is at a place of an argument is in the reason.
-    pub(crate) fn meet_at(&mut self, argument: usize, place: usize) -> Result<(), AllocError> {
-        match self.variable(argument, place) {
-            Some(variable) => self.meet(variable, None),
-            None => Ok(()),
+    pub(crate) fn meet_at(&mut self, argument: usize, place: usize) {
+        if let Some(variable) = self.variable(argument, place) {
+            self.meet(variable, None);
         }
     }
 
-    fn meet(&mut self, variable: usize, role: Option<String>) -> Result<(), AllocError> {
-        if self.told.who.len() == MOST_MET {
-            return Ok(());
-        }
+    fn meet(&mut self, variable: usize, role: Option<String>) {
+        let mut is_new = self.told.who.len() < MOST_MET;
         for who in &self.told.who {
-            if who.variable == variable {
-                return Ok(());
-            }
+            is_new &= who.variable != variable;
         }
-        Ok(self.told.who.push(Who { variable, role })?)
+        if is_new {
+            self.is_whole &= self.told.who.push(Who { variable, role }).is_ok();
+        }
     }
 
     /// The elements of a list that are this number are in the reason.
-    pub(crate) fn meet_equal(&mut self, argument: usize, value: i64) -> Result<(), AllocError> {
+    pub(crate) fn meet_equal(&mut self, argument: usize, value: i64) {
         let elements = self.view.elements(argument);
         for place in 0..elements.len() {
             if elements.int(place) == value {
-                self.meet_at(argument, place)?;
+                self.meet_at(argument, place);
             }
         }
-        Ok(())
     }
 
     /// The variable that is at a place of an argument. A scalar is at the place 0 of its own.
     pub(crate) fn variable(&self, argument: usize, place: usize) -> Option<usize> {
-        match self.slot(argument, place)? {
-            Slot::Variable(number) => Some(number as usize),
-            Slot::Number(_) | Slot::Truth(_) | Slot::Constant(_) | Slot::Array(_) => None,
-        }
-    }
-
-    fn slot(&self, argument: usize, place: usize) -> Option<Slot> {
-        match self.parts.arguments().get(argument)? {
+        let slot = match self.parts.arguments().get(argument)? {
             Argument::One(Slot::Array(number)) => {
-                let array = self.parts.arrays.get(*number as usize)?;
-                array.elements.slots.get(place).copied()
+                self.parts
+                    .arrays
+                    .get(*number as usize)?
+                    .elements
+                    .slots
+                    .get(place)?
             }
-            Argument::One(slot) => Some(*slot),
-            Argument::List(segment) => part(&self.parts.store.slots, *segment).get(place).copied(),
+            Argument::One(slot) => slot,
+            Argument::List(segment) => part(&self.parts.store.slots, *segment).get(place)?,
+        };
+        match slot {
+            Slot::Variable(number) => Some(*number as usize),
+            _ => None,
         }
     }
 }

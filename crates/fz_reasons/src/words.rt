@@ -8,8 +8,8 @@ use crate::reason::{Operands, Reason, Relation, Sides, Why};
 use crate::rows::{holds, reason_of, why};
 use crate::sides::{comparison, sides_of};
 use crate::sum_words::say_sum;
-use crate::teller::Teller;
-use crate::term_words::{result_of, say_front, say_result};
+use crate::teller::{Teller, say};
+use crate::term_words::{RowResult, result_of, say_front, say_result};
 use crate::told::Told;
 use fz_kernel::Readiness;
 use fz_store::{Builtin, Form, Known, Model, Partial, PointParts};
@@ -32,15 +32,8 @@ pub fn reason_at(
     let Some((known, mut teller)) = teller_at(alloc, model, filling, point) else {
         return Ok(None);
     };
-    match why(alloc, known, &teller.view)? {
-        Some(Why::Fails(reason)) => say_reason(&mut teller, &reason)?,
-        Some(Why::Holds) => {
-            say_held(&mut teller)?;
-            teller.say(", but the Boolean is false")?;
-        }
-        None => return Ok(None),
-    }
-    Ok(Some(teller.told()))
+    say_why(&mut teller, known)?;
+    teller.told()
 }
 
 /// Why the constraint at a point gave its value, in words; none where there is nothing to tell.
@@ -59,15 +52,8 @@ pub fn giving_at(
     let Some((known, mut teller)) = teller_at(alloc, model, filling, point) else {
         return Ok(None);
     };
-    let is_said = match known.form {
-        Form::Base => say_giving(&mut teller)?,
-        Form::Reified | Form::Implied => say_whether(&mut teller)?,
-    };
-    if is_said {
-        Ok(Some(teller.told()))
-    } else {
-        Ok(None)
-    }
+    say_how(&mut teller, known)?;
+    teller.told()
 }
 
 /// The constraint at a point, with its row; none where some value is missing.
@@ -90,48 +76,49 @@ fn teller_at<'s, 'a>(
     }
 }
 
-/// How a base row gave a value: its result, or what it compares. That two values are the same, the
-/// values say.
-fn say_giving(teller: &mut Teller<'_, '_>) -> Result<bool, AllocError> {
-    match teller.builtin {
-        Builtin::IntEq | Builtin::BoolEq | Builtin::Bool2Int => return Ok(false),
-        _ => {}
+/// Why a row or one of its reified forms fails.
+fn say_why(teller: &mut Teller<'_, '_>, known: Known) -> Result<(), AllocError> {
+    match why(teller.alloc, known, &teller.view)? {
+        Some(Why::Fails(reason)) => say_reason(teller, &reason),
+        Some(Why::Holds) => {
+            say_held(teller);
+            teller.say(", but the Boolean is false");
+        }
+        None => {}
     }
-    if let Some(result) = result_of(teller)? {
-        say_result(teller, result)?;
-        return Ok(true);
-    }
-    if sides_of(teller.builtin, &teller.view).is_none() {
-        return Ok(false);
-    }
-    say_held(teller)?;
-    Ok(true)
+    Ok(())
 }
 
-/// Why the row of a reified form fails, or that it holds.
-fn say_whether(teller: &mut Teller<'_, '_>) -> Result<bool, AllocError> {
-    if let Some(reason) = reason_of(teller.alloc, teller.builtin, &teller.view)? {
-        say_reason(teller, &reason)?;
-        return Ok(true);
+/// How a base row gave a value: its result, or what it compares. That two values are the same, the
+/// values say. Of a reified form, why the row fails, or that it holds.
+fn say_how(teller: &mut Teller<'_, '_>, known: Known) -> Result<(), AllocError> {
+    match (known.form, teller.builtin) {
+        (Form::Base, Builtin::IntEq | Builtin::BoolEq | Builtin::Bool2Int) => {}
+        (Form::Base, _) => match result_of(teller)? {
+            Some(result) => say_result(teller, result),
+            None if sides_of(teller.builtin, &teller.view).is_some() => say_held(teller),
+            None => {}
+        },
+        (Form::Reified | Form::Implied, _) => {
+            match reason_of(teller.alloc, teller.builtin, &teller.view)? {
+                Some(reason) => say_reason(teller, &reason),
+                None if holds(teller.alloc, teller.builtin, &teller.view)? => say_held(teller),
+                None => {}
+            }
+        }
     }
-    let holds = holds(teller.alloc, teller.builtin, &teller.view)?;
-    if holds {
-        say_held(teller)?;
-    }
-    Ok(holds)
+    Ok(())
 }
 
 /// That a row holds, with both sides where it compares two.
-fn say_held(teller: &mut Teller<'_, '_>) -> Result<(), AllocError> {
-    let Some(sides) = sides_of(teller.builtin, &teller.view) else {
-        return teller.say("what it reifies holds");
-    };
-    say_left(teller, sides)?;
-    match sides.relation {
-        Relation::Equal => Ok(()),
-        _ => {
-            teller.say(" ")?;
-            say_right(teller, sides)
+fn say_held(teller: &mut Teller<'_, '_>) {
+    match sides_of(teller.builtin, &teller.view) {
+        None => teller.say("what it reifies holds"),
+        Some(sides) if matches!(sides.relation, Relation::Equal) => say_left(teller, sides),
+        Some(sides) => {
+            say_left(teller, sides);
+            teller.say(" ");
+            say_right(teller, sides);
         }
     }
 }
@@ -166,113 +153,89 @@ fn are_truths(operands: Operands) -> bool {
 }
 
 /// The left one of two sides as it is computed, and its value.
-fn say_left(teller: &mut Teller<'_, '_>, sides: Sides) -> Result<(), AllocError> {
+fn say_left(teller: &mut Teller<'_, '_>, sides: Sides) {
     let Some((operands, _)) = comparison(teller.builtin) else {
-        return Ok(());
+        return;
     };
-    let left = sides.left;
     match operands {
-        Operands::Products => say_sum(teller)?,
+        Operands::Products => say_sum(teller),
         Operands::Weights => {
-            meet_true(teller)?;
-            teller.say("the sum where it is true is ")?;
+            meet_true(teller);
+            teller.say("the sum where it is true is ");
         }
         Operands::Count => {
             let counted = teller.view.int(1);
-            return say_count(teller, 0, counted, left);
+            return say_count(teller, 0, counted, sides.left);
         }
         Operands::CountLast => {
             let counted = teller.view.int(2);
-            return say_count(teller, 1, counted, left);
+            return say_count(teller, 1, counted, sides.left);
         }
-        Operands::Scalars | Operands::Truths => {
-            if let Some(variable) = teller.variable(0, 0) {
-                teller.name(variable)?;
-                teller.say(" = ")?;
-            }
-        }
+        Operands::Scalars | Operands::Truths => teller.name_equal(0),
         Operands::And | Operands::Or | Operands::Xor | Operands::All | Operands::Any => {
-            say_front(teller)?;
+            say_front(teller);
         }
     }
-    teller.say_value(are_truths(operands), left)
+    teller.say_value(are_truths(operands), sides.left);
 }
 
 /// The Booleans that are true are in the reason.
-fn meet_true(teller: &mut Teller<'_, '_>) -> Result<(), AllocError> {
+fn meet_true(teller: &mut Teller<'_, '_>) {
     let truths = teller.view.elements(1);
     for place in 0..truths.len() {
         if truths.truth(place) {
-            teller.meet_at(1, place)?;
+            teller.meet_at(1, place);
         }
     }
-    Ok(())
 }
 
 /// How often a number is an element of a list.
-pub(crate) fn say_count(
-    teller: &mut Teller<'_, '_>,
-    list: usize,
-    value: i64,
-    count: i128,
-) -> Result<(), AllocError> {
-    teller.meet_equal(list, value)?;
-    teller.add(format!(in teller.alloc; "{value} comes {count} times")?)
+pub(crate) fn say_count(teller: &mut Teller<'_, '_>, list: usize, value: i64, count: i128) {
+    teller.meet_equal(list, value);
+    say!(teller; "{value} comes {count} times");
 }
 
 /// The right one of two sides, behind the sign.
-fn say_right(teller: &mut Teller<'_, '_>, sides: Sides) -> Result<(), AllocError> {
+fn say_right(teller: &mut Teller<'_, '_>, sides: Sides) {
     let Some((operands, _)) = comparison(teller.builtin) else {
-        return Ok(());
+        return;
     };
-    teller.say(sign(sides.relation))?;
-    teller.say_value(are_truths(operands), sides.right)?;
-    match operands {
-        Operands::CountLast => teller.bracket(0, 0),
-        Operands::Scalars | Operands::Truths | Operands::All | Operands::Any => {
-            teller.bracket(1, 0)
-        }
+    teller.say(sign(sides.relation));
+    teller.say_value(are_truths(operands), sides.right);
+    let argument = match operands {
+        Operands::CountLast => 0,
+        Operands::Scalars | Operands::Truths | Operands::All | Operands::Any => 1,
         Operands::Products
         | Operands::Weights
         | Operands::Count
         | Operands::And
         | Operands::Or
-        | Operands::Xor => teller.bracket(2, 0),
-    }
+        | Operands::Xor => 2,
+    };
+    teller.bracket(argument, 0);
 }
 
 /// A reason of a row.
-fn say_reason(teller: &mut Teller<'_, '_>, reason: &Reason) -> Result<(), AllocError> {
+fn say_reason(teller: &mut Teller<'_, '_>, reason: &Reason) {
     match *reason {
         Reason::Sides(sides) => {
-            say_left(teller, sides)?;
-            teller.say(", not ")?;
-            say_right(teller, sides)
+            say_left(teller, sides);
+            teller.say(", not ");
+            say_right(teller, sides);
         }
         Reason::Number(other) => {
-            say_other(teller)?;
-            teller.say_value(false, i128::from(other.value))?;
-            teller.bracket(other.argument, 0)
+            say_result(teller, RowResult::Number(other.argument, other.wanted));
+            say!(teller; ", not {}", other.value);
+            teller.bracket(other.argument, 0);
         }
         Reason::Truth(other) => {
-            say_other(teller)?;
-            teller.say_value(true, i128::from(other.value))?;
-            teller.bracket(other.argument, 0)
+            say_result(teller, RowResult::Truth(other.argument, other.wanted));
+            say!(teller; ", not {}", other.value);
+            teller.bracket(other.argument, 0);
         }
         Reason::NoLiteral => teller.say("no literal is true"),
         Reason::Even => teller.say("an even number of elements are true"),
         Reason::Same => teller.say("the sets are the same"),
         _ => say_of_elements(teller, reason),
-    }
-}
-
-/// That the result is another one.
-fn say_other(teller: &mut Teller<'_, '_>) -> Result<(), AllocError> {
-    match result_of(teller)? {
-        Some(result) => {
-            say_result(teller, result)?;
-            teller.say(", not ")
-        }
-        None => teller.say("it isn't "),
     }
 }
