@@ -99,24 +99,36 @@ fn add_printed(
     }
 }
 
+/// The variables that declarations have printed.
+fn printed(alloc: Global, model: &Model<'_>, ast: &Ast<'_>) -> Result<Variables, AllocError> {
+    let mut variables = IndexSet::new(alloc);
+    for decl in &ast.decls {
+        add_printed(alloc, &mut variables, model, decl)?;
+    }
+    Ok(variables)
+}
+
 /// The numbers of the printed variables that nothing binds, each once, in the order of the text.
-fn unconstrained(
+fn unconstrained(alloc: Global, model: &Model<'_>, ast: &Ast<'_>) -> Result<Variables, AllocError> {
+    let mentioned = mentioned(alloc, model)?;
+    let mut left = printed(alloc, model, ast)?;
+    left.retain(|variable| !mentioned.contains(variable));
+    Ok(left)
+}
+
+/// The names of the first twelve of these variables.
+fn names_of(
     alloc: Global,
     model: &Model<'_>,
     ast: &Ast<'_>,
-) -> Result<Vec<usize>, AllocError> {
-    let mentioned = mentioned(alloc, model)?;
-    let mut printed = IndexSet::new(alloc);
-    for decl in &ast.decls {
-        add_printed(alloc, &mut printed, model, decl)?;
+    table: &NameTable<'_>,
+    numbers: &[usize],
+) -> Result<Vec<String>, AllocError> {
+    let mut names = Vec::new(alloc);
+    for number in numbers.iter().take(MOST_NAMES) {
+        names.push(best_name(alloc, table, ast, name_at(model, *number))?)?;
     }
-    let mut left = Vec::new(alloc);
-    for variable in printed.as_slice() {
-        if !mentioned.contains(variable) {
-            left.push(*variable)?;
-        }
-    }
-    Ok(left)
+    Ok(names)
 }
 
 impl Unbound {
@@ -132,13 +144,10 @@ impl Unbound {
         if numbers.is_empty() {
             return Ok(None);
         }
-        let mut names = Vec::new(alloc);
-        for number in numbers.iter().take(MOST_NAMES) {
-            let name = name_at(model, *number);
-            names.push(best_name(alloc, table, ast, name)?)?;
-        }
-        let left_out = numbers.len().saturating_sub(MOST_NAMES);
-        Ok(Some(Unbound { names, left_out }))
+        Ok(Some(Unbound {
+            names: names_of(alloc, model, ast, table, numbers.as_slice())?,
+            left_out: numbers.len().saturating_sub(MOST_NAMES),
+        }))
     }
 
     /// The line that tells them, with LF.
@@ -148,6 +157,11 @@ impl Unbound {
     /// Out of memory.
     pub fn text(&self, alloc: Global) -> Result<String, AllocError> {
         let mut text = String::from_str(alloc, "printed, and in no constraint: ")?;
+        self.push_to(&mut text)?;
+        Ok(text)
+    }
+
+    fn push_to(&self, text: &mut String) -> Result<(), AllocError> {
         for (place, name) in self.names.iter().enumerate() {
             let comma = if place > 0 { ", " } else { "" };
             write!(text, "{comma}{name}")?;
@@ -155,7 +169,6 @@ impl Unbound {
         if self.left_out > 0 {
             write!(text, " and {} more", self.left_out)?;
         }
-        text.push_str("\n")?;
-        Ok(text)
+        text.push_str("\n")
     }
 }

@@ -124,6 +124,7 @@ impl<'a, 'n> Explainer<'a, 'n> {
             return Ok(None);
         };
         let reading = Reading {
+            alloc,
             case,
             model,
             text: self.text,
@@ -133,7 +134,7 @@ impl<'a, 'n> Explainer<'a, 'n> {
             filling: &filling,
             steps: &steps,
         };
-        verdict_message(alloc, &reading)
+        verdict_message(&reading)
     }
 }
 

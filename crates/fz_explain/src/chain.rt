@@ -6,16 +6,16 @@
 ghost use Rattle.std.specs.Prelude.{◌<◌, IfSome, length};
 ghost use Rattle.fz_filling.specs.of_model.Meaning.{points};
 
-use crate::bounds::note_on_bounds;
+use crate::bounds::push_step;
 use crate::message::Message;
-use crate::notes::{Known, Note, domain_text, short_text, told_text, told_value};
+use crate::notes::{Known, Note, push_domain, push_told, push_valued};
 use crate::source::{Source, source_of};
 use crate::variables::variables_of;
 use crate::verdict::Reading;
 use fz_index::{Narrower, Narrowing};
 use fz_reasons::giving_at;
 use indexmap::IndexSet;
-use std::alloc::{AllocError, Global};
+use std::alloc::AllocError;
 
 /// The most lines behind the variables of a message.
 const MOST_LINES: usize = 16;
@@ -23,19 +23,20 @@ const MOST_LINES: usize = 16;
 /// The most variables that are looked at for one of a message.
 const MOST_VARIABLES: usize = 4096;
 
-/// What is behind a value or bounds.
+/// What is behind a value or bounds: the value of a variable, or where it has none its bounds
+/// before the step with this number.
 #[derive(Clone, Copy)]
-enum Ground {
-    /// The value of a variable.
-    Value(usize),
-    /// The bounds of a variable before the step with this number.
-    Before(usize, usize),
+struct Ground {
+    variable: usize,
+    before: Option<usize>,
 }
 
-/// The steps to bounds, and what is told so far.
+/// The steps to bounds, what is looked at for a variable of the message, and what is told so far.
 #[derive(Drop)]
-struct Chain<'r> {
+struct Chain<'r, 's, 'e, 'a, 't, 'n> {
+    reading: &'r Reading<'s, 'e, 'a, 't, 'n>,
     steps: &'r [Narrowing],
+    waiting: Vec<Ground>,
     /// The points that gave values.
     givers: IndexSet<usize>,
     /// The variables whose printed value or domain is told.
@@ -48,25 +49,13 @@ struct Chain<'r> {
 
 /// Adds to each variable of a message on a point why it has its value, or its bounds, to which
 /// these steps led.
-pub(crate) fn note_chain(
-    alloc: Global,
-    reading: &Reading<'_, '_, '_, '_, '_>,
+pub(crate) fn note_chain<'r>(
+    reading: &'r Reading,
     message: &mut Message,
     point: usize,
-    steps: &[Narrowing],
+    steps: &'r [Narrowing],
 ) -> Result<(), AllocError> {
-    let mut chain = Chain::new(alloc, steps);
-    chain.givers.insert(point)?;
-    for place in 0..message.variables.len() {
-        chain.have_told(message.variables[place].number)?;
-    }
-    for place in 0..message.variables.len() {
-        let grounds = chain.grounds_of(alloc, reading, &message.variables[place])?;
-        let behind = chain.follow(alloc, reading, grounds)?;
-        message.variables[place].behind = behind;
-    }
-    message.behind_left_out = chain.count.saturating_sub(MOST_LINES);
-    Ok(())
+    Chain::new(reading, steps).note(message, point)
 }
 
 /// The number of the last step of a variable.
@@ -112,10 +101,16 @@ fn narrower(step: &Narrowing) -> Option<usize> {
     }
 }
 
-impl<'r> Chain<'r> {
-    fn new(alloc: Global, steps: &'r [Narrowing]) -> Chain<'r> {
+impl<'r, 's, 'e, 'a, 't, 'n> Chain<'r, 's, 'e, 'a, 't, 'n> {
+    fn new(
+        reading: &'r Reading<'s, 'e, 'a, 't, 'n>,
+        steps: &'r [Narrowing],
+    ) -> Chain<'r, 's, 'e, 'a, 't, 'n> {
+        let alloc = reading.alloc;
         Chain {
+            reading,
             steps,
+            waiting: Vec::new(alloc),
             givers: IndexSet::new(alloc),
             variables: IndexSet::new(alloc),
             taken: IndexSet::new(alloc),
@@ -123,204 +118,185 @@ impl<'r> Chain<'r> {
         }
     }
 
-    /// Notes that a message tells of a variable by itself.
-    fn have_told(&mut self, variable: usize) -> Result<(), AllocError> {
-        self.variables.insert(variable)?;
-        if let Some(step) = last_step(self.steps, variable) {
-            self.taken.insert(step)?;
+    /// Adds the lines to the variables of a message on a point. What it tells of these by itself is
+    /// told.
+    fn note(&mut self, message: &mut Message, point: usize) -> Result<(), AllocError> {
+        self.givers.insert(point)?;
+        for note in &message.variables {
+            self.variables.insert(note.number)?;
+            if let Some(step) = last_step(self.steps, note.number) {
+                self.taken.insert(step)?;
+            }
         }
+        for place in 0..message.variables.len() {
+            self.explain(&mut message.variables[place])?;
+        }
+        message.behind_left_out = self.count.saturating_sub(MOST_LINES);
         Ok(())
     }
 
-    /// What is behind that which a message tells of a variable.
-    fn grounds_of(
-        &self,
-        alloc: Global,
-        reading: &Reading<'_, '_, '_, '_, '_>,
-        note: &Note,
-    ) -> Result<Vec<Ground>, AllocError> {
-        let mut grounds = Vec::new(alloc);
+    /// Adds the lines on what is behind that which a message tells of a variable.
+    fn explain(&mut self, note: &mut Note) -> Result<(), AllocError> {
+        self.waiting.clear();
         match &note.known {
-            Known::Value(_) => grounds.push(Ground::Value(note.number))?,
+            Known::Value(_) => self.wait_for(note.number, None)?,
             Known::Narrowed(_) => {
                 if let Some(step) = last_step(self.steps, note.number) {
-                    self.await_step(alloc, reading, &mut grounds, step)?;
+                    self.wait_for_step(step)?;
                 }
             }
             Known::Within(_) | Known::Nothing => {}
         }
-        Ok(grounds)
+        self.follow(&mut note.behind)
+    }
+
+    /// Adds a ground, unless so many wait as are looked at.
+    fn wait_for(&mut self, variable: usize, before: Option<usize>) -> Result<(), AllocError> {
+        if self.waiting.len() < MOST_VARIABLES {
+            self.waiting.push(Ground { variable, before })?;
+        }
+        Ok(())
     }
 
     /// Adds what is behind the step with this number: the variables of its point, or the bounds in
     /// which a number was tried.
-    fn await_step(
-        &self,
-        alloc: Global,
-        reading: &Reading<'_, '_, '_, '_, '_>,
-        waiting: &mut Vec<Ground>,
-        number: usize,
-    ) -> Result<(), AllocError> {
+    fn wait_for_step(&mut self, number: usize) -> Result<(), AllocError> {
         let Some(step) = self.steps.get(number) else {
             return Ok(());
         };
         match step.by {
-            Narrower::Point(point) if point < reading.model.points() => {
-                for variable in variables_of(alloc, reading.model, point)? {
-                    wait_for(waiting, Ground::Before(variable, number))?;
-                }
-                Ok(())
-            }
-            Narrower::Point(_) => Ok(()),
-            Narrower::Trial(_) => wait_for(waiting, Ground::Before(step.left.variable, number)),
+            Narrower::Point(point) => self.wait_for_point(point, Some(number)),
+            Narrower::Trial(_) => self.wait_for(step.left.variable, Some(number)),
         }
     }
 
-    /// The lines on grounds and what is behind them, nearest first.
-    fn follow(
-        &mut self,
-        alloc: Global,
-        reading: &Reading<'_, '_, '_, '_, '_>,
-        grounds: Vec<Ground>,
-    ) -> Result<Vec<String>, AllocError> {
-        let mut lines = Vec::new(alloc);
-        let mut waiting = grounds;
-        for place in 0..MOST_VARIABLES {
-            if place >= waiting.len() {
-                break;
+    /// Adds the variables of a point, where there is one with this number.
+    fn wait_for_point(&mut self, point: usize, before: Option<usize>) -> Result<(), AllocError> {
+        let reading = self.reading;
+        if point < reading.model.points() {
+            for variable in variables_of(reading.alloc, reading.model, point)? {
+                self.wait_for(variable, before)?;
             }
-            let ground = waiting[place];
-            let line = match ground {
-                Ground::Before(variable, step) if !reading.filling.has(variable) => {
-                    self.look_before(alloc, reading, &mut waiting, variable, step)?
-                }
-                Ground::Value(variable) | Ground::Before(variable, _) => {
-                    self.look_at_value(alloc, reading, &mut waiting, variable)?
-                }
+        }
+        Ok(())
+    }
+
+    /// Adds the lines on the grounds that wait and on what is behind them, nearest first.
+    fn follow(&mut self, lines: &mut Vec<String>) -> Result<(), AllocError> {
+        for place in 0..MOST_VARIABLES {
+            let Some(&ground) = self.waiting.get(place) else {
+                break;
             };
-            if let Some(line) = line {
+            let mut line = String::new(self.reading.alloc);
+            self.look_at(&mut line, ground)?;
+            if !line.is_empty() {
                 self.count = self.count.saturating_add(1);
                 if self.count <= MOST_LINES {
                     lines.push(line)?;
                 }
             }
         }
-        Ok(lines)
+        Ok(())
+    }
+
+    /// Makes the line on a ground, where there is something to tell.
+    fn look_at(&mut self, line: &mut String, ground: Ground) -> Result<(), AllocError> {
+        let Ground { variable, before } = ground;
+        match before {
+            Some(step) if !self.reading.filling.has(variable) => {
+                self.look_before(line, variable, step)
+            }
+            _ => self.look_at_value(line, variable),
+        }
     }
 
     /// The line on the bounds of a variable before the step with this number: those of another
     /// point or of its domain, where that isn't told.
     fn look_before(
         &mut self,
-        alloc: Global,
-        reading: &Reading<'_, '_, '_, '_, '_>,
-        waiting: &mut Vec<Ground>,
+        line: &mut String,
         variable: usize,
         number: usize,
-    ) -> Result<Option<String>, AllocError> {
-        let steps = self.steps;
-        let Some(step) = steps.get(number) else {
-            return Ok(None);
+    ) -> Result<(), AllocError> {
+        let Some(step) = self.steps.get(number) else {
+            return Ok(());
         };
-        let Some(before) = step_before(steps, variable, number, narrower(step)) else {
-            if step.left.variable == variable {
-                return Ok(None);
-            }
-            return self.domain_line(alloc, reading, variable);
-        };
-        let is_new = self.taken.insert(before)?;
-        if !is_new {
-            return Ok(None);
-        }
-        self.await_step(alloc, reading, waiting, before)?;
-        match steps.get(before) {
-            Some(step) => {
-                let note = note_on_bounds(alloc, reading, step.left, Some(step))?;
-                Ok(Some(short_text(alloc, &note)?))
-            }
-            None => Ok(None),
+        match step_before(self.steps, variable, number, narrower(step)) {
+            Some(before) => self.look_at_step(line, before),
+            None if step.left.variable == variable => Ok(()),
+            None => self.look_at_domain(line, variable),
         }
     }
 
-    /// The line on the domain of a variable, where that isn't told.
-    fn domain_line(
-        &mut self,
-        alloc: Global,
-        reading: &Reading<'_, '_, '_, '_, '_>,
-        variable: usize,
-    ) -> Result<Option<String>, AllocError> {
-        let is_new = self.variables.insert(variable)?;
+    /// The line on a step, where that isn't told.
+    fn look_at_step(&mut self, line: &mut String, number: usize) -> Result<(), AllocError> {
+        let is_new = self.taken.insert(number)?;
+        let Some(step) = self.steps.get(number) else {
+            return Ok(());
+        };
         if is_new {
-            return domain_text(alloc, reading, variable);
+            self.wait_for_step(number)?;
+            push_step(self.reading, line, step)?;
         }
-        Ok(None)
+        Ok(())
+    }
+
+    /// The line on the domain of a variable, where that isn't told.
+    fn look_at_domain(&mut self, line: &mut String, variable: usize) -> Result<(), AllocError> {
+        let is_new = self.variables.insert(variable)?;
+        match self.reading.model.variables().get(variable) {
+            Some(variable) if is_new => {
+                push_domain(self.reading, line, variable.name, &variable.domain)
+            }
+            _ => Ok(()),
+        }
     }
 
     /// The line on a value: the reason for it, where it was given, or else that it is printed,
     /// where bounds are from it.
-    fn look_at_value(
-        &mut self,
-        alloc: Global,
-        reading: &Reading<'_, '_, '_, '_, '_>,
-        waiting: &mut Vec<Ground>,
-        variable: usize,
-    ) -> Result<Option<String>, AllocError> {
+    fn look_at_value(&mut self, line: &mut String, variable: usize) -> Result<(), AllocError> {
+        let reading = self.reading;
         match source_of(reading.filling, reading.steps, variable) {
-            Source::Printed => self.printed_line(alloc, reading, variable),
+            Source::Printed => self.look_at_printed(line, variable),
             Source::Given(point) if point < reading.model.points() => {
                 let is_new = self.givers.insert(point)?;
-                if !is_new {
-                    return Ok(None);
+                if is_new {
+                    self.wait_for_point(point, None)?;
+                    push_reason(reading, line, variable, point)?;
                 }
-                for other in variables_of(alloc, reading.model, point)? {
-                    wait_for(waiting, Ground::Value(other))?;
-                }
-                reason_for(alloc, reading, variable, point)
+                Ok(())
             }
-            _ => Ok(None),
+            _ => Ok(()),
         }
     }
 
     /// The line on a printed value, where bounds are from it and it isn't told.
-    fn printed_line(
-        &mut self,
-        alloc: Global,
-        reading: &Reading<'_, '_, '_, '_, '_>,
-        variable: usize,
-    ) -> Result<Option<String>, AllocError> {
+    fn look_at_printed(&mut self, line: &mut String, variable: usize) -> Result<(), AllocError> {
         if self.steps.is_empty() {
-            return Ok(None);
+            return Ok(());
         }
         let is_new = self.variables.insert(variable)?;
-        if !is_new {
-            return Ok(None);
+        if is_new {
+            push_valued(self.reading, line, variable)?;
+            line.push_str(", printed")?;
         }
-        let value = told_value(alloc, reading, variable)?;
-        Ok(Some(format!(in alloc; "{value}, printed")?))
+        Ok(())
     }
 }
 
-/// Adds a ground, unless so many wait as are looked at.
-fn wait_for(waiting: &mut Vec<Ground>, ground: Ground) -> Result<(), AllocError> {
-    if waiting.len() < MOST_VARIABLES {
-        waiting.push(ground)?;
-    }
-    Ok(())
-}
-
-/// The reason for a value that a point gave.
-fn reason_for(
-    alloc: Global,
-    reading: &Reading<'_, '_, '_, '_, '_>,
+/// Adds a value that a point gave, and the reason for it.
+fn push_reason(
+    reading: &Reading,
+    line: &mut String,
     variable: usize,
     point: usize,
-) -> Result<Option<String>, AllocError>
+) -> Result<(), AllocError>
     requires in_range { point < length (points reading.now.model.now) }
 {
-    let Some(told) = giving_at(alloc, reading.model, reading.filling, point)? else {
-        return Ok(None);
-    };
-    let value = told_value(alloc, reading, variable)?;
-    let reason = told_text(alloc, reading, &told)?;
-    Ok(Some(format!(in alloc; "{value}: {reason}")?))
+    if let Some(told) = giving_at(reading.alloc, reading.model, reading.filling, point)? {
+        push_valued(reading, line, variable)?;
+        line.push_str(": ")?;
+        push_told(reading, line, &told)?;
+    }
+    Ok(())
 }

@@ -25,6 +25,19 @@ pub(crate) fn shown_text(alloc: Global, bytes: &[u8]) -> Result<String, AllocErr
     text.chars().map(visible).collect(alloc)
 }
 
+/// Adds the text of bytes as it is shown, between two others.
+pub(crate) fn push_shown(
+    text: &mut String,
+    front: &str,
+    bytes: &[u8],
+    end: &str,
+) -> Result<(), AllocError> {
+    text.push_str(front)?;
+    let shown = shown_text(*text.allocator(), bytes)?;
+    text.push_str(&shown)?;
+    text.push_str(end)
+}
+
 /// The same as characters.
 fn letters_of(alloc: Global, bytes: &[u8]) -> Result<Vec<char>, AllocError> {
     let text = String::from_utf8_lossy(alloc, bytes)?;
@@ -95,22 +108,63 @@ impl Excerpt {
     /// Out of memory.
     pub(crate) fn new(alloc: Global, spot: Spot<'_>, marked: usize) -> Result<Excerpt, AllocError> {
         let line = spot.behind;
-        let marked = letters_of(alloc, &line[..marked.min(line.len())])?;
-        let mut behind = letters_of(alloc, line.strip_suffix(b"\r").unwrap_or(line))?;
-        let mut front = letters_of(alloc, spot.front)?;
+        let marked = columns(&letters_of(alloc, &line[..marked.min(line.len())])?);
+        let behind = line.strip_suffix(b"\r").unwrap_or(line);
         // The front may take half of all columns, or as many as those behind it leave.
-        let left = MOST_COLUMNS.saturating_sub(columns(&behind));
-        front.reverse();
-        cut(&mut front, left.max(MOST_COLUMNS / 2))?;
-        front.reverse();
-        let before = columns(&front);
-        cut(&mut behind, MOST_COLUMNS.saturating_sub(before))?;
-        let marks = columns(&marked).min(columns(&behind)).max(1);
-        front.extend_from_slice(&behind)?;
+        let left = MOST_COLUMNS.saturating_sub(columns(&letters_of(alloc, behind)?));
+        let mut letters = front_of(alloc, spot.front, left.max(MOST_COLUMNS / 2))?;
+        let front = columns(&letters);
+        let room = MOST_COLUMNS.saturating_sub(front);
+        let shown = add_cut(alloc, &mut letters, behind, room)?;
         Ok(Excerpt {
-            text: front.iter().copied().collect(alloc)?,
-            front: before,
-            marks,
+            text: letters.iter().copied().collect(alloc)?,
+            front,
+            marks: marked.min(shown).max(1),
         })
     }
+}
+
+/// The characters of the front of a line that are shown in so many columns.
+fn front_of(alloc: Global, bytes: &[u8], room: usize) -> Result<Vec<char>, AllocError> {
+    let mut letters = letters_of(alloc, bytes)?;
+    letters.reverse();
+    cut(&mut letters, room)?;
+    letters.reverse();
+    Ok(letters)
+}
+
+/// Adds the characters of bytes that are shown in so many columns, and gives how many they take.
+fn add_cut(
+    alloc: Global,
+    letters: &mut Vec<char>,
+    bytes: &[u8],
+    room: usize,
+) -> Result<usize, AllocError> {
+    let mut added = letters_of(alloc, bytes)?;
+    cut(&mut added, room)?;
+    letters.extend_from_slice(&added)?;
+    Ok(columns(&added))
+}
+
+/// How many digits a number has.
+pub(crate) fn digits_of(number: usize) -> usize {
+    number.checked_ilog10().unwrap_or(0).saturating_add(1) as usize
+}
+
+/// Adds a line that is shown, behind its number, and marks below it behind so many columns.
+pub(crate) fn push_line(
+    text: &mut String,
+    front: &str,
+    line: usize,
+    shown: &str,
+    before: usize,
+    marks: usize,
+) -> Result<(), AllocError> {
+    let digits = digits_of(line);
+    writeln!(text, "{front}   {line} | {shown}")?;
+    writeln!(
+        text,
+        "{front}   {:digits$} | {:before$}{:^>marks$}",
+        "", "", ""
+    )
 }

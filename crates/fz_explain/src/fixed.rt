@@ -17,7 +17,7 @@ pub struct Fixing {
 }
 
 /// The value of a scalar that is no variable.
-fn value_of(alloc: Global, scalar: Scalar<'_>) -> Result<Option<Value>, AllocError>
+pub(crate) fn value_of(alloc: Global, scalar: Scalar<'_>) -> Result<Option<Value>, AllocError>
     ensures { IfOk result (λ o. o ≡ fixed_value (scalar_term scalar.entry)) }
 {
     match scalar {

@@ -1,6 +1,6 @@
 //! The notes of a message on what to do about a block that is undecided.
 
-use crate::excerpt::shown_text;
+use crate::excerpt::push_shown;
 use crate::message::Message;
 use crate::verdict::Reading;
 use fz_filling::{Completion, Reason, Verdict};
@@ -26,17 +26,13 @@ const BOUND_EXPONENT: &str =
 const TIGHTEN_DOMAINS: &str = "tighten the domains, so that no sum or power leaves 128 bits";
 
 /// Adds what to do about a block that is undecided.
-pub(crate) fn note_help(
-    alloc: Global,
-    reading: &Reading<'_, '_, '_, '_, '_>,
-    message: &mut Message,
-) -> Result<(), AllocError> {
-    let case = reading.case;
-    let Verdict::Undecided(reason) = case.verdict else {
+pub(crate) fn note_help(reading: &Reading, message: &mut Message) -> Result<(), AllocError> {
+    let alloc = reading.alloc;
+    let Verdict::Undecided(reason) = reading.case.verdict else {
         return Ok(());
     };
     match reason {
-        Reason::NoValue(_) => note_help_on_value(alloc, reading, message),
+        Reason::NoValue(_) => note_help_on_value(reading, message),
         Reason::Unknown(number, _) => {
             note(alloc, message, help_on_unknown(reading.model, number))
         }
@@ -62,14 +58,11 @@ fn note(alloc: Global, message: &mut Message, told: &str) -> Result<(), AllocErr
 
 /// The same, of a block that lacks a value. A constraint that isn't known is mostly the cause, so
 /// the first one of the model is named.
-fn note_help_on_value(
-    alloc: Global,
-    reading: &Reading<'_, '_, '_, '_, '_>,
-    message: &mut Message,
-) -> Result<(), AllocError> {
+fn note_help_on_value(reading: &Reading, message: &mut Message) -> Result<(), AllocError> {
+    let alloc = reading.alloc;
     if let Some((number, name)) = first_unknown(reading.model) {
-        let name = shown_text(alloc, name)?;
-        let told = format!(in alloc; "constraint {number} {name} isn't known, which may be why")?;
+        let mut told = format!(in alloc; "constraint {number} ")?;
+        push_shown(&mut told, "", name, " isn't known, which may be why")?;
         message.note(told)?;
         note(alloc, message, USE_LIBRARY)?;
     }

@@ -4,10 +4,9 @@
 ghost use Rattle.std.specs.Prelude.{◌≡◌, ◌+◌, ◌-◌, ◌<◌, suc, take, min, IfSome, IsNone};
 ghost use Rattle.fz_places.specs.Lines.{characters, last_line, line_ends};
 
-use crate::excerpt::Excerpt;
+use crate::excerpt::{Excerpt, digits_of, push_line};
 use crate::explained::FIRST_VARIABLES;
-use crate::notes::{FixedNote, Note, fixed_text, giver_lines, note_text};
-use crate::quoting::Quote;
+use crate::notes::{FixedNote, Note};
 use crate::remarks::Remarks;
 use fz_files::Passed;
 use fz_places::{Spot, spot_of};
@@ -73,49 +72,36 @@ impl Message {
     ///
     /// Out of memory.
     pub fn text(&self, alloc: Global) -> Result<String, AllocError> {
-        let line = self.line;
-        let digits = format!(in alloc; "{line}")?.len();
+        let digits = digits_of(self.line);
         let front = format!(in alloc; "{:digits$}    =", "")?;
         let mut text = String::from_str(alloc, &self.head)?;
-        self.write_behind(alloc, &mut text, &front)?;
+        self.push_behind(&mut text, &front)?;
         Ok(text)
     }
 
     /// Adds the lines behind the head, with this at the front of each.
-    fn write_behind(
-        &self,
-        alloc: Global,
-        text: &mut String,
-        front: &str,
-    ) -> Result<(), AllocError> {
-        write_lines(text, front, " ", &self.remarks.lines(alloc)?)?;
+    fn push_behind(&self, text: &mut String, front: &str) -> Result<(), AllocError> {
+        self.remarks.push_to(text, front, " ")?;
         if let Some(quote) = &self.remarks.quote {
-            write_quote(alloc, text, front, quote)?;
+            push_line(text, front, quote.line, &quote.text, quote.front, 1)?;
         }
         if let Some(told) = &self.reason {
             writeln!(text, "{front} {told}")?;
         }
-        self.write_variables(alloc, text, front)?;
+        self.push_variables(text, front)?;
         for note in &self.fixed {
-            writeln!(text, "{front} {}", fixed_text(alloc, note)?)?;
+            note.push_to(text, front)?;
         }
-        write_lines(text, front, " ", &self.notes)
+        push_lines(text, front, " ", &self.notes)
     }
 
-    fn write_variables(
-        &self,
-        alloc: Global,
-        text: &mut String,
-        front: &str,
-    ) -> Result<(), AllocError> {
+    fn push_variables(&self, text: &mut String, front: &str) -> Result<(), AllocError> {
         let left_out = self.left_out;
         for (place, note) in self.variables.iter().enumerate() {
             if place == FIRST_VARIABLES && left_out > 0 {
                 writeln!(text, "{front} ... and {left_out} more ...")?;
             }
-            writeln!(text, "{front} {}", note_text(alloc, note)?)?;
-            write_lines(text, front, "   ", &giver_lines(alloc, note)?)?;
-            write_lines(text, front, "   ", &note.behind)?;
+            note.push_to(text, front)?;
         }
         let left_out = self.behind_left_out;
         if left_out > 0 {
@@ -125,7 +111,7 @@ impl Message {
     }
 }
 
-fn write_lines(
+pub(crate) fn push_lines(
     text: &mut String,
     front: &str,
     blanks: &str,
@@ -135,18 +121,6 @@ fn write_lines(
         writeln!(text, "{front}{blanks}{told}")?;
     }
     Ok(())
-}
-
-fn write_quote(
-    alloc: Global,
-    text: &mut String,
-    front: &str,
-    quote: &Quote,
-) -> Result<(), AllocError> {
-    let (line, before) = (quote.line, quote.front);
-    let width = format!(in alloc; "{line}")?.len();
-    writeln!(text, "{front}   {line} | {}", quote.text)?;
-    writeln!(text, "{front}   {:width$} | {:before$}^", "", "")
 }
 
 /// A message without variables and notes on a byte range of a text, which counts from the first
@@ -165,16 +139,11 @@ pub fn message_at(
     let Some(spot) = text.spot_at(place.start) else {
         return Ok(None);
     };
-    let Text { name, .. } = text;
-    let Spot { line, column, .. } = spot;
     let marked = place.end.saturating_sub(place.start);
-    let Excerpt { text, front, marks } = Excerpt::new(alloc, spot, marked)?;
-    let digits = format!(in alloc; "{line}")?.len();
-    let mut head = format!(in alloc; "{name}:{line}:{column}: {said}\n   {line} | {text}\n")?;
-    writeln!(head, "   {:digits$} | {:front$}{:^>marks$}", "", "", "")?;
+    let head = head_of(alloc, text.name, spot, marked, &said)?;
     Ok(Some(Message {
-        line,
-        column,
+        line: spot.line,
+        column: spot.column,
         said,
         remarks: Remarks::none(alloc),
         reason: None,
@@ -185,4 +154,20 @@ pub fn message_at(
         notes: Vec::new(alloc),
         head,
     }))
+}
+
+/// The first lines of a message: where it is and what is said, and the line of the spot, from which
+/// on so many bytes are marked.
+fn head_of(
+    alloc: Global,
+    name: &str,
+    spot: Spot<'_>,
+    marked: usize,
+    said: &str,
+) -> Result<String, AllocError> {
+    let Spot { line, column, .. } = spot;
+    let mut head = format!(in alloc; "{name}:{line}:{column}: {said}\n")?;
+    let Excerpt { text, front, marks } = Excerpt::new(alloc, spot, marked)?;
+    push_line(&mut head, "", line, &text, front, marks)?;
+    Ok(head)
 }

@@ -1,6 +1,6 @@
 //! What things of a FlatZinc model are called in the MiniZinc model.
 
-use crate::excerpt::shown_text;
+use crate::excerpt::{push_shown, shown_text};
 use fz_places::{Element, NameTable, element_of};
 use fz_tree::Ast;
 use std::alloc::{AllocError, Global};
@@ -35,20 +35,24 @@ pub(crate) fn best_name(
 
 /// The element of a printed array that a name is.
 fn element_text(alloc: Global, ast: &Ast<'_>, name: &[u8]) -> Result<Option<String>, AllocError> {
-    match element_of(alloc, ast, name)? {
-        Some(Element { array, indices }) => Ok(Some(indexed(alloc, array, &indices)?)),
-        None => Ok(None),
-    }
+    let Some(Element { array, indices }) = element_of(alloc, ast, name)? else {
+        return Ok(None);
+    };
+    let mut text = String::new(alloc);
+    push_element(&mut text, array, &indices)?;
+    Ok(Some(text))
 }
 
-/// The element of an array with these indices, as `a[1,2]`.
-pub(crate) fn indexed(alloc: Global, array: &[u8], indices: &[i64]) -> Result<String, AllocError> {
-    let mut text = shown_text(alloc, array)?;
-    text.push_str("[")?;
+/// Adds the element of an array with these indices, as `a[1,2]`.
+pub(crate) fn push_element(
+    text: &mut String,
+    array: &[u8],
+    indices: &[i64],
+) -> Result<(), AllocError> {
+    push_shown(text, "", array, "[")?;
     for (place, index) in indices.iter().enumerate() {
         let comma = if place > 0 { "," } else { "" };
         write!(text, "{comma}{index}")?;
     }
-    text.push_str("]")?;
-    Ok(text)
+    text.push_str("]")
 }

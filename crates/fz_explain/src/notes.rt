@@ -1,14 +1,14 @@
 //! The notes of a message on variables, with their values or bounds and where these come from, and
 //! on domains.
 
-use crate::bounds::{Bounds, bounds_text};
-use crate::excerpt::shown_text;
+use crate::bounds::{Bounds, push_bounds};
+use crate::excerpt::{push_shown, shown_text};
 use crate::explained::{Explained, FIRST_VARIABLES, MOST_VARIABLES, explain};
 use crate::fixed::{Fixing, fixing_of};
-use crate::message::Message;
+use crate::message::{Message, push_lines};
 use crate::naming::{best_name, model_name};
 use crate::place::point_place;
-use crate::remarks::{Remarks, remarks_on};
+use crate::remarks::Remarks;
 use crate::source::Source;
 use crate::verdict::Reading;
 use fz_places::{IntSet, Range, Value, spot_of};
@@ -21,6 +21,9 @@ use std::slice;
 
 /// The most ranges of a set that are shown.
 pub const MOST_RANGES: usize = 8;
+
+/// What is said of a variable without a value.
+const NOT_GIVEN: &str = "it isn't printed, and what is printed doesn't give it";
 
 /// What a message says of a variable.
 #[derive(Drop)]
@@ -73,78 +76,55 @@ pub enum Origin {
 /// Adds notes on variables, first those that a reason speaks of: of more than twelve, on the first
 /// eight and the last four.
 pub(crate) fn note_variables(
-    alloc: Global,
-    reading: &Reading<'_, '_, '_, '_, '_>,
+    reading: &Reading,
     message: &mut Message,
     variables: &[usize],
     who: &[Who],
 ) -> Result<(), AllocError> {
-    let ordered = in_order(alloc, variables, who)?;
-    let told = explain(alloc, reading.filling, reading.steps, ordered.as_slice())?;
-    for explained in told.variables {
-        let role = role_of(alloc, who, explained.variable)?;
-        message
-            .variables
-            .push(note_on(alloc, reading, explained, role)?)?;
-    }
-    message.left_out = told.left_out;
-    Ok(())
+    let mut ordered = IndexSet::new(reading.alloc);
+    add_in_order(&mut ordered, variables, who)?;
+    note_ordered(reading, message, ordered.as_slice(), who)
 }
 
-/// Variables, first those that a reason speaks of.
-fn in_order(
-    alloc: Global,
+/// Adds variables, first those that a reason speaks of.
+fn add_in_order(
+    ordered: &mut IndexSet<usize>,
     variables: &[usize],
     who: &[Who],
-) -> Result<IndexSet<usize>, AllocError> {
-    let mut ordered = IndexSet::new(alloc);
+) -> Result<(), AllocError> {
     for one in who {
         ordered.insert(one.variable)?;
     }
     for variable in variables {
         ordered.insert(*variable)?;
     }
-    Ok(ordered)
+    Ok(())
 }
 
-/// What a variable is in a reason, where that is said.
-fn role_of(alloc: Global, who: &[Who], variable: usize) -> Result<Option<String>, AllocError> {
-    for one in who {
-        if one.variable == variable {
-            return role_in(alloc, one);
-        }
+fn note_ordered(
+    reading: &Reading,
+    message: &mut Message,
+    variables: &[usize],
+    who: &[Who],
+) -> Result<(), AllocError> {
+    let told = explain(reading.alloc, reading.filling, reading.steps, variables)?;
+    message.left_out = told.left_out;
+    for explained in told.variables {
+        let note = note_on(reading, explained, who)?;
+        message.variables.push(note)?;
     }
-    Ok(None)
+    Ok(())
 }
 
-fn role_in(alloc: Global, one: &Who) -> Result<Option<String>, AllocError> {
-    match &one.role {
-        Some(role) => Ok(Some(String::from_str(alloc, role)?)),
-        None => Ok(None),
-    }
-}
-
-fn note_on(
-    alloc: Global,
-    reading: &Reading<'_, '_, '_, '_, '_>,
-    explained: Explained,
-    role: Option<String>,
-) -> Result<Note, AllocError> {
+fn note_on(reading: &Reading, explained: Explained, who: &[Who]) -> Result<Note, AllocError> {
     let Explained {
         variable,
         value,
         source,
     } = explained;
-    let name = name_at(reading.model, variable);
-    Ok(Note {
-        number: variable,
-        role,
-        name: shown_text(alloc, name)?,
-        element: model_name(alloc, reading.names, reading.ast, name)?,
-        known: known_of(value),
-        origin: origin_of(alloc, reading, source)?,
-        behind: Vec::new(alloc),
-    })
+    let mut note = Note::new(reading.alloc, variable, known_of(value));
+    note.tell(reading, source, who)?;
+    Ok(note)
 }
 
 fn known_of(value: Option<Value>) -> Known {
@@ -154,151 +134,148 @@ fn known_of(value: Option<Value>) -> Known {
     }
 }
 
-/// The note on a variable whose bounds are known.
-pub(crate) fn note_with(
-    alloc: Global,
-    reading: &Reading<'_, '_, '_, '_, '_>,
+/// What a variable is in a reason, where that is said.
+fn role_of(alloc: Global, who: &[Who], variable: usize) -> Result<Option<String>, AllocError> {
+    for one in who {
+        if one.variable == variable {
+            return match &one.role {
+                Some(role) => Ok(Some(String::from_str(alloc, role)?)),
+                None => Ok(None),
+            };
+        }
+    }
+    Ok(None)
+}
+
+impl Note {
+    /// The note on a variable, of which neither its name nor an origin is told yet.
+    pub(crate) fn new(alloc: Global, variable: usize, known: Known) -> Note {
+        Note {
+            number: variable,
+            role: None,
+            name: String::new(alloc),
+            element: None,
+            known,
+            origin: Origin::Nothing,
+            behind: Vec::new(alloc),
+        }
+    }
+
+    /// Tells the names of the variable.
+    pub(crate) fn tell_names(&mut self, reading: &Reading) -> Result<(), AllocError> {
+        let name = name_at(reading.model, self.number);
+        push_shown(&mut self.name, "", name, "")?;
+        self.element = model_name(reading.alloc, reading.names, reading.ast, name)?;
+        Ok(())
+    }
+
+    /// Tells the names, the origin of the value, and what the variable is in a reason.
+    fn tell(&mut self, reading: &Reading, source: Source, who: &[Who]) -> Result<(), AllocError> {
+        self.tell_names(reading)?;
+        self.role = role_of(reading.alloc, who, self.number)?;
+        self.origin = origin_of(reading, source)?;
+        Ok(())
+    }
+
+    /// Adds the lines of the note, with this at the front of each: the note in words, where the
+    /// constraint is from that gave the value, and what is behind.
+    pub(crate) fn push_to(&self, text: &mut String, front: &str) -> Result<(), AllocError> {
+        write!(text, "{front} ")?;
+        if let Some(role) = &self.role {
+            write!(text, "{role}: ")?;
+        }
+        push_name(text, &self.name, &self.element)?;
+        self.push_known(text)?;
+        self.origin.push_to(text)?;
+        text.push_str("\n")?;
+        if let Origin::Given(_, _, remarks) = &self.origin {
+            remarks.push_to(text, front, "   ")?;
+        }
+        push_lines(text, front, "   ", &self.behind)
+    }
+
+    /// Adds what is known of the variable behind its name.
+    fn push_known(&self, text: &mut String) -> Result<(), AllocError> {
+        match &self.known {
+            Known::Value(value) => push_value(text, " = ", value)?,
+            Known::Narrowed(bounds) => push_bounds(text, " is narrowed to ", *bounds)?,
+            Known::Within(bounds) => push_bounds(text, " is ", *bounds)?,
+            Known::Nothing => return text.push_str(" = none: "),
+        }
+        text.push_str(", ")
+    }
+}
+
+impl Origin {
+    /// Adds the origin in words.
+    pub(crate) fn push_to(&self, text: &mut String) -> Result<(), AllocError> {
+        match self {
+            Origin::Printed => text.push_str("printed"),
+            Origin::Given(giver, Some(line), _) => write!(text, "by {giver}, line {line}"),
+            Origin::Given(giver, None, _) => write!(text, "by {giver}"),
+            Origin::Nothing => text.push_str(NOT_GIVEN),
+        }
+    }
+}
+
+impl FixedNote {
+    /// Adds the line of the note, with this at its front.
+    pub(crate) fn push_to(&self, text: &mut String, front: &str) -> Result<(), AllocError> {
+        write!(text, "{front} ")?;
+        push_name(text, &self.name, &self.element)?;
+        let value = &self.value;
+        writeln!(text, " = {value}, fixed")
+    }
+}
+
+/// Adds a name, behind the one in the MiniZinc model.
+fn push_name(text: &mut String, name: &str, element: &Option<String>) -> Result<(), AllocError> {
+    match element {
+        Some(element) => write!(text, "{element} ({name})"),
+        None => text.push_str(name),
+    }
+}
+
+/// Adds a variable with its value, by its name in the MiniZinc model where it has one.
+pub(crate) fn push_valued(
+    reading: &Reading,
+    text: &mut String,
     variable: usize,
-    known: Known,
-    origin: Origin,
-) -> Result<Note, AllocError> {
-    let name = name_at(reading.model, variable);
-    Ok(Note {
-        number: variable,
-        role: None,
-        name: shown_text(alloc, name)?,
-        element: model_name(alloc, reading.names, reading.ast, name)?,
-        known,
-        origin,
-        behind: Vec::new(alloc),
-    })
-}
-
-/// The note in words.
-pub(crate) fn note_text(alloc: Global, note: &Note) -> Result<String, AllocError> {
-    let name = name_text(alloc, &note.name, &note.element)?;
-    let told = known_text(alloc, &name, &note.known, &note.origin)?;
-    match &note.role {
-        Some(role) => format!(in alloc; "{role}: {told}"),
-        None => Ok(told),
-    }
-}
-
-/// What is known of a variable, by its name in the MiniZinc model where it has one.
-pub(crate) fn short_text(alloc: Global, note: &Note) -> Result<String, AllocError> {
-    match &note.element {
-        Some(element) => known_text(alloc, element, &note.known, &note.origin),
-        None => known_text(alloc, &note.name, &note.known, &note.origin),
-    }
-}
-
-/// What is known of what has this name, and where that is from.
-fn known_text(
-    alloc: Global,
-    name: &str,
-    known: &Known,
-    origin: &Origin,
-) -> Result<String, AllocError> {
-    let origin = origin_text(alloc, origin)?;
-    match known {
-        Known::Value(value) => {
-            let value = value_text(alloc, value)?;
-            format!(in alloc; "{name} = {value}, {origin}")
-        }
-        Known::Narrowed(bounds) => {
-            let bounds = bounds_text(alloc, *bounds)?;
-            format!(in alloc; "{name} is narrowed to {bounds}, {origin}")
-        }
-        Known::Within(bounds) => {
-            let bounds = bounds_text(alloc, *bounds)?;
-            format!(in alloc; "{name} is {bounds}, {origin}")
-        }
-        Known::Nothing => format!(in alloc; "{name} = none: {origin}"),
-    }
-}
-
-/// The lines on where the constraint is from that gave the value.
-pub(crate) fn giver_lines(alloc: Global, note: &Note) -> Result<Vec<String>, AllocError> {
-    match &note.origin {
-        Origin::Given(_, _, remarks) => remarks.lines(alloc),
-        Origin::Printed | Origin::Nothing => Ok(Vec::new(alloc)),
-    }
-}
-
-/// A variable with its value, by its name in the MiniZinc model where it has one.
-pub(crate) fn told_value(
-    alloc: Global,
-    reading: &Reading<'_, '_, '_, '_, '_>,
-    variable: usize,
-) -> Result<String, AllocError> {
-    let told = told_name(alloc, reading, variable)?;
+) -> Result<(), AllocError> {
+    push_variable(reading, text, variable)?;
     match reading.filling.get(variable) {
-        Some(value) => {
-            let value = value_text(alloc, value)?;
-            format!(in alloc; "{told} = {value}")
-        }
-        None => Ok(told),
+        Some(value) => push_value(text, " = ", value),
+        None => Ok(()),
     }
 }
 
-/// A variable's name in the MiniZinc model where it has one, else in this.
-pub(crate) fn told_name(
-    alloc: Global,
-    reading: &Reading<'_, '_, '_, '_, '_>,
+/// Adds a variable's name in the MiniZinc model where it has one, else in this.
+pub(crate) fn push_variable(
+    reading: &Reading,
+    text: &mut String,
     variable: usize,
-) -> Result<String, AllocError> {
-    let name = name_at(reading.model, variable);
-    best_name(alloc, reading.names, reading.ast, name)
+) -> Result<(), AllocError> {
+    push_best_name(reading, text, name_at(reading.model, variable))
 }
 
-/// A reason in words, with the names of its variables.
-pub(crate) fn told_text(
-    alloc: Global,
-    reading: &Reading<'_, '_, '_, '_, '_>,
+fn push_best_name(reading: &Reading, text: &mut String, name: &[u8]) -> Result<(), AllocError> {
+    let name = best_name(reading.alloc, reading.names, reading.ast, name)?;
+    text.push_str(&name)
+}
+
+/// Adds a reason in words, with the names of its variables.
+pub(crate) fn push_told(
+    reading: &Reading,
+    text: &mut String,
     told: &Told,
-) -> Result<String, AllocError> {
-    let mut text = String::new(alloc);
+) -> Result<(), AllocError> {
     for piece in &told.pieces {
         match piece {
             Piece::Text(said) => text.push_str(said)?,
-            Piece::Name(variable) => {
-                let name = told_name(alloc, reading, *variable)?;
-                text.push_str(&name)?;
-            }
+            Piece::Name(variable) => push_variable(reading, text, *variable)?,
         }
     }
-    Ok(text)
-}
-
-/// The note on what is fixed in words.
-pub(crate) fn fixed_text(alloc: Global, note: &FixedNote) -> Result<String, AllocError> {
-    let FixedNote {
-        name,
-        element,
-        value,
-    } = note;
-    let name = name_text(alloc, name, element)?;
-    format!(in alloc; "{name} = {value}, fixed")
-}
-
-/// A name, behind the one in the MiniZinc model.
-fn name_text(alloc: Global, name: &str, element: &Option<String>) -> Result<String, AllocError> {
-    match element {
-        Some(element) => format!(in alloc; "{element} ({name})"),
-        None => String::from_str(alloc, name),
-    }
-}
-
-fn origin_text(alloc: Global, origin: &Origin) -> Result<String, AllocError> {
-    match origin {
-        Origin::Printed => String::from_str(alloc, "printed"),
-        Origin::Given(giver, Some(line), _) => format!(in alloc; "by {giver}, line {line}"),
-        Origin::Given(giver, None, _) => format!(in alloc; "by {giver}"),
-        Origin::Nothing => String::from_str(
-            alloc,
-            "it isn't printed, and what is printed doesn't give it",
-        ),
-    }
+    Ok(())
 }
 
 /// The name of a variable, or an empty text where there is no such variable.
@@ -309,44 +286,40 @@ pub(crate) fn name_at<'m>(model: &'m Model<'_>, variable: usize) -> &'m [u8] {
     }
 }
 
-fn origin_of(
-    alloc: Global,
-    reading: &Reading<'_, '_, '_, '_, '_>,
-    source: Source,
-) -> Result<Origin, AllocError> {
+fn origin_of(reading: &Reading, source: Source) -> Result<Origin, AllocError> {
     match source {
         Source::Printed => Ok(Origin::Printed),
         Source::Given(point) if point < reading.model.points() => {
-            giver_of(alloc, reading, &reading.model.point(point))
+            giver_of(reading, &reading.model.point(point))
         }
         _ => Ok(Origin::Nothing),
     }
 }
 
 /// The point that gave a value.
-pub(crate) fn giver_of(
-    alloc: Global,
-    reading: &Reading<'_, '_, '_, '_, '_>,
-    point: &Point<'_>,
-) -> Result<Origin, AllocError> {
-    let text = reading.text;
-    let line = match point_place(reading.ast, point) {
-        Some(place) => Some(spot_of(text.bytes, place.start).line),
-        None => None,
-    };
+pub(crate) fn giver_of(reading: &Reading, point: &Point<'_>) -> Result<Origin, AllocError> {
+    let alloc = reading.alloc;
     match point {
         Point::Domain(_) => by_its_domain(alloc),
         Point::Definition(name) => {
-            let name = shown_text(alloc, name)?;
-            let giver = format!(in alloc; "definition of {name}")?;
-            Ok(Origin::Given(giver, line, Remarks::none(alloc)))
+            let mut giver = String::new(alloc);
+            push_shown(&mut giver, "definition of ", name, "")?;
+            Ok(Origin::Given(giver, line_of(reading, point), Remarks::none(alloc)))
         }
         Point::Constraint(number, name) => {
-            let name = shown_text(alloc, name)?;
-            let giver = format!(in alloc; "constraint {number} {name}")?;
-            Ok(Origin::Given(giver, line, remarks_on(alloc, reading, point)?))
+            let mut giver = format!(in alloc; "constraint {number} ")?;
+            push_shown(&mut giver, "", name, "")?;
+            let mut remarks = Remarks::none(alloc);
+            remarks.add_point(reading, point)?;
+            Ok(Origin::Given(giver, line_of(reading, point), remarks))
         }
     }
+}
+
+/// The line in the model's text of a point.
+fn line_of(reading: &Reading, point: &Point<'_>) -> Option<usize> {
+    let place = point_place(reading.ast, point)?;
+    Some(spot_of(reading.text.bytes, place.start).line)
 }
 
 pub(crate) fn by_its_domain(alloc: Global) -> Result<Origin, AllocError> {
@@ -354,45 +327,50 @@ pub(crate) fn by_its_domain(alloc: Global) -> Result<Origin, AllocError> {
     Ok(Origin::Given(giver, None, Remarks::none(alloc)))
 }
 
-pub(crate) fn value_text(alloc: Global, value: &Value) -> Result<String, AllocError> {
+/// Adds a value behind a word.
+pub(crate) fn push_value(text: &mut String, front: &str, value: &Value) -> Result<(), AllocError> {
+    text.push_str(front)?;
     match value {
-        Value::Int(number) => format!(in alloc; "{number}"),
-        Value::Bool(truth) => format!(in alloc; "{truth}"),
-        Value::Set(set) => set_text(alloc, set),
+        Value::Int(number) => write!(text, "{number}"),
+        Value::Bool(truth) => write!(text, "{truth}"),
+        Value::Set(set) => push_set(text, set),
     }
 }
 
-/// The ranges of a set: of more than eight the first eight, and how many are left out.
-fn set_text(alloc: Global, set: &IntSet) -> Result<String, AllocError> {
-    let ranges = set.ranges(alloc)?;
-    let mut text = String::from_str(alloc, "{")?;
+fn push_set(text: &mut String, set: &IntSet) -> Result<(), AllocError> {
+    let ranges = set.ranges(*text.allocator())?;
+    push_ranges(text, &ranges)
+}
+
+/// Adds the ranges of a set: of more than eight the first eight, and how many are left out.
+fn push_ranges(text: &mut String, ranges: &[Range]) -> Result<(), AllocError> {
+    text.push_str("{")?;
     for (place, range) in ranges.iter().take(MOST_RANGES).enumerate() {
         let comma = if place > 0 { "," } else { "" };
         let Range { lo, hi } = range;
-        if lo == hi {
-            write!(text, "{comma}{lo}")?;
-        } else {
-            write!(text, "{comma}{lo}..{hi}")?;
+        write!(text, "{comma}{lo}")?;
+        if lo != hi {
+            write!(text, "..{hi}")?;
         }
     }
     let left_out = ranges.len().saturating_sub(MOST_RANGES);
     if left_out > 0 {
         write!(text, ",... and {left_out} more")?;
     }
-    text.push_str("}")?;
-    Ok(text)
+    text.push_str("}")
 }
 
 /// Adds notes on the parameters and the arrays without variables that a constraint names.
 pub(crate) fn note_fixed(
-    alloc: Global,
-    reading: &Reading<'_, '_, '_, '_, '_>,
+    reading: &Reading,
     message: &mut Message,
     constraint: &Constraint<'_>,
 ) -> Result<(), AllocError> {
     for arg in &constraint.args {
         for basic in basics_of(arg) {
-            note_basic(alloc, reading, message, basic)?;
+            if let Basic::Named(named) = basic {
+                note_named(reading, message, named.text)?;
+            }
         }
     }
     Ok(())
@@ -405,99 +383,94 @@ fn basics_of<'t, 'a>(arg: &'t Expr<'a>) -> &'t [Basic<'a>] {
     }
 }
 
-fn note_basic(
-    alloc: Global,
-    reading: &Reading<'_, '_, '_, '_, '_>,
-    message: &mut Message,
-    basic: &Basic<'_>,
-) -> Result<(), AllocError> {
-    let Basic::Named(named) = basic else {
-        return Ok(());
-    };
-    let name = shown_text(alloc, named.text)?;
-    if is_told(&message.fixed, &name) {
+fn note_named(reading: &Reading, message: &mut Message, name: &[u8]) -> Result<(), AllocError> {
+    if is_told(reading.alloc, &message.fixed, name)? {
         return Ok(());
     }
-    if let Some(fixing) = fixing_of(alloc, reading.model, named.text)? {
-        let value = fixing_text(alloc, &fixing)?;
-        let element = model_name(alloc, reading.names, reading.ast, named.text)?;
+    match fixing_of(reading.alloc, reading.model, name)? {
+        Some(fixing) => note_fixing(reading, message, name, &fixing),
+        None => Ok(()),
+    }
+}
+
+fn is_told(alloc: Global, fixed: &[FixedNote], name: &[u8]) -> Result<bool, AllocError> {
+    let name = shown_text(alloc, name)?;
+    Ok(fixed.iter().any(|note| note.name == name))
+}
+
+fn note_fixing(
+    reading: &Reading,
+    message: &mut Message,
+    name: &[u8],
+    fixing: &Fixing,
+) -> Result<(), AllocError> {
+    let mut value = String::new(reading.alloc);
+    push_fixing(&mut value, fixing)?;
+    let element = model_name(reading.alloc, reading.names, reading.ast, name)?;
+    let name = shown_text(reading.alloc, name)?;
+    Ok(
         message.fixed.push(FixedNote {
             name,
             element,
             value,
-        })?;
+        })?,
+    )
+}
+
+/// Adds the value of a parameter, or a list of values: of more than twelve the first eight, how
+/// many are left out, and the last four.
+fn push_fixing(text: &mut String, fixing: &Fixing) -> Result<(), AllocError> {
+    if fixing.is_array {
+        text.push_str("[")?;
     }
-    Ok(())
-}
-
-fn is_told(fixed: &[FixedNote], name: &str) -> bool {
-    fixed.iter().any(|note| note.name.as_str() == name)
-}
-
-/// The value of a parameter, or a list of values: of more than twelve the first eight, how many
-/// are left out, and the last four.
-fn fixing_text(alloc: Global, fixing: &Fixing) -> Result<String, AllocError> {
-    let mut text = String::new(alloc);
-    let count = fixing.values.len();
-    let left_out = if count > MOST_VARIABLES {
-        count - MOST_VARIABLES
-    } else {
-        0
-    };
+    let left_out = fixing.values.len().saturating_sub(MOST_VARIABLES);
     for (place, value) in fixing.values.iter().enumerate() {
         let comma = if place > 0 { "," } else { "" };
         if left_out > 0 && place == FIRST_VARIABLES {
             write!(text, "{comma}... and {left_out} more ...")?;
         }
         if place < FIRST_VARIABLES || place >= FIRST_VARIABLES.saturating_add(left_out) {
-            write!(text, "{comma}{}", value_text(alloc, value)?)?;
+            push_value(text, comma, value)?;
         }
     }
     if fixing.is_array {
-        return format!(in alloc; "[{text}]");
+        text.push_str("]")?;
     }
-    Ok(text)
+    Ok(())
 }
 
 /// Adds the note on the domain of a name; there is none on a domain of all values.
 pub(crate) fn note_domain(
-    alloc: Global,
-    reading: &Reading<'_, '_, '_, '_, '_>,
+    reading: &Reading,
     message: &mut Message,
     point: &Point<'_>,
     domain: &Domain,
 ) -> Result<(), AllocError> {
     let (Point::Domain(name) | Point::Definition(name) | Point::Constraint(_, name)) = point;
-    match domain_of(alloc, reading, name, domain)? {
-        Some(told) => message.note(told),
-        None => Ok(()),
+    let mut told = String::new(reading.alloc);
+    push_domain(reading, &mut told, name, domain)?;
+    if told.is_empty() {
+        return Ok(());
     }
+    message.note(told)
 }
 
-/// What is said of the domain of a variable; none of all values.
-pub(crate) fn domain_text(
-    alloc: Global,
-    reading: &Reading<'_, '_, '_, '_, '_>,
-    variable: usize,
-) -> Result<Option<String>, AllocError> {
-    match reading.model.variables().get(variable) {
-        Some(variable) => domain_of(alloc, reading, variable.name, &variable.domain),
-        None => Ok(None),
-    }
-}
-
-/// The same of the domain of a name.
-fn domain_of(
-    alloc: Global,
-    reading: &Reading<'_, '_, '_, '_, '_>,
+/// Adds what is said of the domain of a name: nothing of all values.
+pub(crate) fn push_domain(
+    reading: &Reading,
+    text: &mut String,
     name: &[u8],
     domain: &Domain,
-) -> Result<Option<String>, AllocError> {
-    let domain = match domain {
-        Domain::All => return Ok(None),
-        Domain::Within(lo, hi) => format!(in alloc; "{lo}..{hi}")?,
-        Domain::Among(set) => set_text(alloc, set)?,
-    };
-    let name = best_name(alloc, reading.names, reading.ast, name)?;
-    Ok(Some(format!(in alloc; "the domain of {name} is {domain}")?))
+) -> Result<(), AllocError> {
+    if let Domain::All = domain {
+        return Ok(());
+    }
+    text.push_str("the domain of ")?;
+    push_best_name(reading, text, name)?;
+    text.push_str(" is ")?;
+    match domain {
+        Domain::All => Ok(()),
+        Domain::Within(lo, hi) => write!(text, "{lo}..{hi}"),
+        Domain::Among(set) => push_set(text, set),
+    }
 }

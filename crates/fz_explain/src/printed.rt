@@ -2,17 +2,18 @@
 
 use crate::case::Case;
 use crate::differing::first_differing;
-use crate::excerpt::shown_text;
+use crate::excerpt::push_shown;
+use crate::fixed::value_of;
 use crate::message::Message;
-use crate::naming::indexed;
-use crate::notes::{note_variables, value_text};
+use crate::naming::push_element;
+use crate::notes::{note_variables, push_value};
 use crate::place::declaration_of;
 use crate::verdict::Reading;
 use fz_data::literal_value;
-use fz_places::{Value, indices_of};
+use fz_places::indices_of;
 use fz_store::{Scalar, Scalars, What};
 use fz_tree::{Literal, Printed, PrintedValue, Span};
-use std::alloc::{AllocError, Global};
+use std::alloc::AllocError;
 
 /// The item of a name that the block of a case prints.
 fn item_of<'e>(case: &Case<'e, '_>, name: &[u8]) -> Option<&'e Printed<'e>> {
@@ -37,8 +38,7 @@ pub(crate) fn printed_place(case: &Case<'_, '_>, name: &[u8]) -> Option<Span> {
 /// Adds notes on a printed name that has another value: on the variable that it is, or on the first
 /// element that differs.
 pub(crate) fn note_printed(
-    alloc: Global,
-    reading: &Reading<'_, '_, '_, '_, '_>,
+    reading: &Reading,
     message: &mut Message,
     name: &[u8],
 ) -> Result<(), AllocError> {
@@ -46,9 +46,9 @@ pub(crate) fn note_printed(
         return Ok(());
     };
     match (found.what, &item.value) {
-        (What::Scalar(scalar), _) => note_scalar(alloc, reading, message, scalar),
+        (What::Scalar(scalar), _) => note_scalar(reading, message, scalar),
         (What::Array(_, scalars), PrintedValue::Array { elements, .. }) => {
-            note_elements(alloc, reading, message, name, scalars, elements)
+            note_elements(reading, message, name, scalars, elements)
         }
         (What::Array(_, _), PrintedValue::One(_)) => Ok(()),
     }
@@ -56,64 +56,66 @@ pub(crate) fn note_printed(
 
 /// Adds the note on a scalar, where it is a variable.
 fn note_scalar(
-    alloc: Global,
-    reading: &Reading<'_, '_, '_, '_, '_>,
+    reading: &Reading,
     message: &mut Message,
     scalar: Scalar<'_>,
 ) -> Result<(), AllocError> {
     match scalar {
-        Scalar::Variable(number) => note_variables(alloc, reading, message, &[number], &[]),
+        Scalar::Variable(number) => note_variables(reading, message, &[number], &[]),
         Scalar::Number(_) | Scalar::Truth(_) | Scalar::Set(_) => Ok(()),
     }
 }
 
 /// Adds the notes on the first element of an array that hasn't its printed value.
 fn note_elements(
-    alloc: Global,
-    reading: &Reading<'_, '_, '_, '_, '_>,
+    reading: &Reading,
     message: &mut Message,
     name: &[u8],
     scalars: Scalars<'_>,
     literals: &[Literal],
 ) -> Result<(), AllocError> {
-    let Some(place) = first_differing(alloc, reading.filling, scalars, literals)? else {
+    let Some(place) = first_differing(reading.alloc, reading.filling, scalars, literals)? else {
         return Ok(());
     };
     let (Some(scalar), Some(literal)) = (scalars.get(place), literals.get(place)) else {
         return Ok(());
     };
-    note_scalar(alloc, reading, message, scalar)?;
-    let element = element_name(alloc, reading, name, place)?;
-    let printed = value_text(alloc, &literal_value(alloc, &literal.what)?)?;
-    let fixed = fixed_text(alloc, scalar)?;
-    message.note(format!(in alloc; "{element} is printed as {printed} here{fixed}")?)
+    note_scalar(reading, message, scalar)?;
+    let mut told = String::new(reading.alloc);
+    push_name(reading, &mut told, name, place)?;
+    push_values(&mut told, scalar, literal)?;
+    message.note(told)
 }
 
-/// The element of an array at a place, from 0, as `a[1,2]`, or without index sets by its number.
-fn element_name(
-    alloc: Global,
-    reading: &Reading<'_, '_, '_, '_, '_>,
+/// Adds the element of an array at a place, from 0, as `a[1,2]`, or without index sets by its
+/// number.
+fn push_name(
+    reading: &Reading,
+    text: &mut String,
     name: &[u8],
     place: usize,
-) -> Result<String, AllocError> {
+) -> Result<(), AllocError> {
     if let Some(decl) = declaration_of(reading.ast, name)
-        && let Some(indices) = indices_of(alloc, decl, place)?
+        && let Some(indices) = indices_of(reading.alloc, decl, place)?
     {
-        return indexed(alloc, name, &indices);
+        return push_element(text, name, &indices);
     }
-    let name = shown_text(alloc, name)?;
     let number = place.saturating_add(1);
-    format!(in alloc; "element {number} of {name}")
+    write!(text, "element {number} of ")?;
+    push_shown(text, "", name, "")
 }
 
-/// What is said of a scalar that is no variable.
-fn fixed_text(alloc: Global, scalar: Scalar<'_>) -> Result<String, AllocError> {
-    let value = match scalar {
-        Scalar::Variable(_) => return Ok(String::new(alloc)),
-        Scalar::Number(number) => Value::Int(number),
-        Scalar::Truth(truth) => Value::Bool(truth),
-        Scalar::Set(set) => Value::Set(set.copy(alloc)?),
-    };
-    let value = value_text(alloc, &value)?;
-    format!(in alloc; ", and is {value}")
+/// Adds what is printed for a scalar, and what it is, where it is no variable.
+fn push_values(text: &mut String, scalar: Scalar<'_>, literal: &Literal) -> Result<(), AllocError> {
+    let alloc = *text.allocator();
+    push_value(
+        text,
+        " is printed as ",
+        &literal_value(alloc, &literal.what)?,
+    )?;
+    text.push_str(" here")?;
+    match value_of(alloc, scalar)? {
+        Some(value) => push_value(text, ", and is ", &value),
+        None => Ok(()),
+    }
 }

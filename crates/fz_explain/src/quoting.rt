@@ -1,7 +1,7 @@
 //! The line of a MiniZinc model that a path leads to.
 
 use crate::excerpt::Excerpt;
-use fz_places::spot_of;
+use fz_places::{ModelPlace, spot_of};
 use std::alloc::{AllocError, Global};
 
 /// How the name of a file ends that is quoted.
@@ -23,33 +23,29 @@ pub struct Quote {
     pub front: usize,
 }
 
-/// The place of a path in this file, which may be told without the folders that the path begins
+/// The place of a path in its file, which may be told without the folders that the path begins
 /// with; none where it is no MiniZinc model, or can't be opened by its name.
 pub(crate) fn source_in(
     alloc: Global,
     path: &[u8],
-    file: &[u8],
-    line: &[u8],
-    column: &[u8],
+    found: &ModelPlace<'_>,
 ) -> Result<Option<Source>, AllocError> {
-    let (Some(line), Some(column)) = (number_of(line), number_of(column)) else {
+    let (Some(line), Some(column)) = (number_of(found.line), number_of(found.column)) else {
         return Ok(None);
     };
-    if !file.ends_with(MODEL) {
+    let folder = if found.file.contains(&b'/') {
+        b""
+    } else {
+        folder_of(path)
+    };
+    let (Ok(folder), Ok(file)) = (str::from_utf8(folder), str::from_utf8(found.file)) else {
+        return Ok(None);
+    };
+    if !found.file.ends_with(MODEL) {
         return Ok(None);
     }
-    let mut name = Vec::new(alloc);
-    if !file.contains(&b'/') {
-        name.extend_from_slice(folder_of(path))?;
-    }
-    name.extend_from_slice(file)?;
-    match str::from_utf8(&name) {
-        Ok(text) => {
-            let file = String::from_str(alloc, text)?;
-            Ok(Some(Source { file, line, column }))
-        }
-        Err(_) => Ok(None),
-    }
+    let file = format!(in alloc; "{folder}{file}")?;
+    Ok(Some(Source { file, line, column }))
 }
 
 /// The folders of the first file of a path.

@@ -24,8 +24,7 @@ fn none_will_do(alloc: Global, tried: usize) -> Result<String, AllocError> {
 /// Adds the variables in the point that can't hold: those with a value, and those without one with
 /// their bounds, and what narrowed these.
 pub(crate) fn note_refutation(
-    alloc: Global,
-    reading: &Reading<'_, '_, '_, '_, '_>,
+    reading: &Reading,
     message: &mut Message,
     refutation: &Refutation,
 ) -> Result<(), AllocError> {
@@ -34,26 +33,21 @@ pub(crate) fn note_refutation(
     if point >= reading.model.points() {
         return Ok(());
     }
-    note_valued(alloc, reading, message, point)?;
+    note_valued(reading, message, point)?;
     for left in &refutation.left {
         let step = last_of(steps, left.variable);
-        let note = note_on_bounds(alloc, reading, *left, step)?;
+        let note = note_on_bounds(reading, *left, step)?;
         message.variables.push(note)?;
     }
-    note_chain(alloc, reading, message, point, steps)?;
-    message.note(none_will_do(alloc, refutation.tried)?)
+    note_chain(reading, message, point, steps)?;
+    message.note(none_will_do(reading.alloc, refutation.tried)?)
 }
 
 /// Adds notes on the variables in a point that have a value.
-fn note_valued(
-    alloc: Global,
-    reading: &Reading<'_, '_, '_, '_, '_>,
-    message: &mut Message,
-    point: usize,
-) -> Result<(), AllocError>
+fn note_valued(reading: &Reading, message: &mut Message, point: usize) -> Result<(), AllocError>
     requires in_range { point < length (points reading.now.model.now) }
 {
-    let mut valued = variables_of(alloc, reading.model, point)?;
+    let mut valued = variables_of(reading.alloc, reading.model, point)?;
     valued.retain(|variable| reading.filling.has(*variable));
-    note_variables(alloc, reading, message, &valued, &[])
+    note_variables(reading, message, &valued, &[])
 }

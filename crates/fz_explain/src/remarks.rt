@@ -1,7 +1,8 @@
 //! What the MiniZinc compiler wrote at a point on where it is from: the names of a constraint and
 //! of its expression, and the path to it in the model.
 
-use crate::excerpt::{cut_text, shown_text};
+use crate::excerpt::{cut_text, push_shown, shown_text};
+use crate::message::push_lines;
 use crate::place::point_notes;
 use crate::quoting::{Quote, Source, source_in};
 use crate::verdict::Reading;
@@ -36,6 +37,27 @@ impl Remarks {
         }
     }
 
+    /// Adds what the compiler wrote at a point.
+    pub(crate) fn add_point(
+        &mut self,
+        reading: &Reading,
+        point: &Point<'_>,
+    ) -> Result<(), AllocError> {
+        let alloc = reading.alloc;
+        let Some(notes) = point_notes(reading.ast, point) else {
+            return Ok(());
+        };
+        self.add_name(alloc, notes, b"mzn_constraint_name")?;
+        self.add_name(alloc, notes, b"mzn_expression_name")?;
+        match line_of(alloc, reading.names, point)? {
+            Some(line) if !line.path.is_empty() => self.add_path(alloc, line.path),
+            _ => match text_of(notes, b"mzn_path") {
+                Some(path) => self.add_path(alloc, unquoted(path)),
+                None => Ok(()),
+            },
+        }
+    }
+
     fn add_name(
         &mut self,
         alloc: Global,
@@ -49,22 +71,28 @@ impl Remarks {
     }
 
     fn add_path(&mut self, alloc: Global, path: &[u8]) -> Result<(), AllocError> {
-        let Some(found) = model_place(alloc, path)? else {
-            self.place = Some(cut_text(alloc, path)?);
-            return Ok(());
-        };
-        let ModelPlace {
-            file,
-            line,
-            column,
-            loops,
-        } = found;
-        self.source = source_in(alloc, path, file, line, column)?;
-        let file = shown_text(alloc, file)?;
-        let line = shown_text(alloc, line)?;
-        let column = shown_text(alloc, column)?;
-        self.place = Some(format!(in alloc; "{file}:{line}:{column}")?);
-        for value in loops {
+        match model_place(alloc, path)? {
+            Some(found) => self.add_place(alloc, path, &found),
+            None => {
+                self.place = Some(cut_text(alloc, path)?);
+                Ok(())
+            }
+        }
+    }
+
+    fn add_place(
+        &mut self,
+        alloc: Global,
+        path: &[u8],
+        found: &ModelPlace<'_>,
+    ) -> Result<(), AllocError> {
+        self.source = source_in(alloc, path, found)?;
+        let mut place = String::new(alloc);
+        push_shown(&mut place, "", found.file, ":")?;
+        push_shown(&mut place, "", found.line, ":")?;
+        push_shown(&mut place, "", found.column, "")?;
+        self.place = Some(place);
+        for value in &found.loops {
             self.loops.push(loop_text(alloc, value)?)?;
         }
         Ok(())
@@ -84,25 +112,29 @@ impl Remarks {
         Ok(())
     }
 
-    /// The lines of a message: each name on one, the place and the loop variables behind the last.
-    pub(crate) fn lines(&self, alloc: Global) -> Result<Vec<String>, AllocError> {
-        let mut lines = Vec::new(alloc);
-        for name in &self.names {
-            lines.push(String::from_str(alloc, name)?)?;
-        }
+    /// Adds the lines of a message, with these at the front: each name on one, the place and the
+    /// loop variables behind the last.
+    pub(crate) fn push_to(
+        &self,
+        text: &mut String,
+        front: &str,
+        blanks: &str,
+    ) -> Result<(), AllocError> {
         let Some(place) = &self.place else {
-            return Ok(lines);
+            return push_lines(text, front, blanks, &self.names);
         };
-        let mut last = match lines.pop() {
-            Some(name) => format!(in alloc; "{name}, {place}")?,
-            None => String::from_str(alloc, place)?,
-        };
-        for (number, value) in self.loops.iter().enumerate() {
-            let front = if number > 0 { ", " } else { ", with " };
-            write!(last, "{front}{value}")?;
+        match self.names.split_last() {
+            Some((last, names)) => {
+                push_lines(text, front, blanks, names)?;
+                write!(text, "{front}{blanks}{last}, {place}")?;
+            }
+            None => write!(text, "{front}{blanks}{place}")?,
         }
-        lines.push(last)?;
-        Ok(lines)
+        for (number, value) in self.loops.iter().enumerate() {
+            let between = if number > 0 { ", " } else { ", with " };
+            write!(text, "{between}{value}")?;
+        }
+        text.push_str("\n")
     }
 }
 
@@ -113,29 +145,6 @@ fn loop_text(alloc: Global, value: &[u8]) -> Result<String, AllocError> {
         Some((name, value)) => format!(in alloc; "{name} = {value}"),
         None => Ok(text),
     }
-}
-
-/// What the compiler wrote at a point.
-pub(crate) fn remarks_on(
-    alloc: Global,
-    reading: &Reading<'_, '_, '_, '_, '_>,
-    point: &Point<'_>,
-) -> Result<Remarks, AllocError> {
-    let mut remarks = Remarks::none(alloc);
-    let Some(notes) = point_notes(reading.ast, point) else {
-        return Ok(remarks);
-    };
-    remarks.add_name(alloc, notes, b"mzn_constraint_name")?;
-    remarks.add_name(alloc, notes, b"mzn_expression_name")?;
-    match line_of(alloc, reading.names, point)? {
-        Some(line) if !line.path.is_empty() => remarks.add_path(alloc, line.path)?,
-        _ => {
-            if let Some(path) = text_of(notes, b"mzn_path") {
-                remarks.add_path(alloc, unquoted(path))?;
-            }
-        }
-    }
-    Ok(remarks)
 }
 
 /// The line of a point in the table of names, where a constraint has its number, from 0.

@@ -10,17 +10,16 @@ use crate::domain::declared_domain;
 use crate::failing::{Sought, first_point};
 use crate::help::note_help;
 use crate::message::{Message, Text, message_at};
-use crate::notes::{note_domain, note_fixed, note_variables, told_text};
+use crate::notes::{note_domain, note_fixed, note_variables, push_told};
 use crate::place::{constraint_of, point_place};
 use crate::printed::{note_printed, printed_place};
 use crate::refutation::note_refutation;
-use crate::remarks::remarks_on;
 use crate::sentence::sentence;
 use crate::sums::too_large_at;
 use crate::variables::variables_of;
 use fz_filling::{Completion, Fault, Giver, Reason, Verdict};
 use fz_places::NameTable;
-use fz_reasons::reason_at;
+use fz_reasons::{Told, reason_at};
 use fz_store::{Goal, Model, Partial, Point, Term};
 use fz_tree::{Ast, Basic, Goal as GoalItem, Span};
 use std::alloc::{AllocError, Global};
@@ -28,6 +27,7 @@ use std::alloc::{AllocError, Global};
 /// A case with the model's text, tree and table of names, and the block's filling with its steps.
 #[derive(Clone, Copy)]
 pub(crate) struct Reading<'s, 'e, 'a, 't, 'n> {
+    pub alloc: Global,
     pub case: &'s Case<'e, 'a>,
     pub model: &'s Model<'a>,
     pub text: Text<'t>,
@@ -74,69 +74,46 @@ pub(crate) fn verdict_place<'t>(
 }
 
 /// The message on the verdict of a case.
-pub(crate) fn verdict_message(
-    alloc: Global,
-    reading: &Reading<'_, '_, '_, '_, '_>,
-) -> Result<Option<Message>, AllocError> {
+pub(crate) fn verdict_message(reading: &Reading) -> Result<Option<Message>, AllocError> {
     let case = reading.case;
     let Some((text, place)) = verdict_place(reading.ast, reading.text, case) else {
         return Ok(None);
     };
-    let mut message = message_at(alloc, &text, place, sentence(alloc, case)?)?;
+    let said = sentence(reading.alloc, case)?;
+    let mut message = message_at(reading.alloc, &text, place, said)?;
     if let Some(message) = &mut message {
-        note_verdict(alloc, reading, message)?;
+        note_verdict(reading, message)?;
     }
     Ok(message)
 }
 
-/// Adds the notes on the verdict.
-fn note_verdict(
-    alloc: Global,
-    reading: &Reading<'_, '_, '_, '_, '_>,
-    message: &mut Message,
-) -> Result<(), AllocError> {
+/// Adds the notes on the verdict: where it is a violation, on the first point that fails, or else
+/// on the bounds that refute the block.
+fn note_verdict(reading: &Reading, message: &mut Message) -> Result<(), AllocError> {
     let case = reading.case;
     if let Some(point) = verdict_point(case.verdict) {
-        note_text(alloc, reading, message, &point)?;
+        note_text(reading, message, &point)?;
     }
     match case.verdict {
         Verdict::Satisfied => {}
-        Verdict::Violated(Fault::Printed(name)) => note_printed(alloc, reading, message, name)?,
-        Verdict::Violated(Fault::NotBetter(now, before)) => {
-            let told = format!(in alloc; "block {} has {before}", block_before(case))?;
-            note_objective(alloc, reading, message, &told, now)?;
+        Verdict::Violated(Fault::Printed(name)) => note_printed(reading, message, name)?,
+        Verdict::Violated(Fault::NotBetter(now, before))
+        | Verdict::Undecided(Reason::NotShownBetter(now, before)) => {
+            note_objective(reading, message, before, now)?
         }
-        Verdict::Undecided(Reason::NotShownBetter(now, before)) => {
-            let told = format!(in alloc; "{before} was found for block {}", block_before(case))?;
-            note_objective(alloc, reading, message, &told, now)?;
-        }
-        Verdict::Violated(_) => note_failing(alloc, reading, message)?,
-        Verdict::Undecided(_) => note_first(alloc, reading, message, Sought::Undecided)?,
+        Verdict::Violated(_) => match case.refuted {
+            Some(refutation) => note_refutation(reading, message, refutation)?,
+            None => note_first(reading, message, Sought::Failing)?,
+        },
+        Verdict::Undecided(_) => note_first(reading, message, Sought::Undecided)?,
     }
-    note_help(alloc, reading, message)
-}
-
-/// Adds notes on the first point that fails, or else on the bounds that refute the block.
-fn note_failing(
-    alloc: Global,
-    reading: &Reading<'_, '_, '_, '_, '_>,
-    message: &mut Message,
-) -> Result<(), AllocError> {
-    if let Some(refutation) = reading.case.refuted {
-        return note_refutation(alloc, reading, message, refutation);
-    }
-    note_first(alloc, reading, message, Sought::Failing)
+    note_help(reading, message)
 }
 
 /// Adds notes on the first point of this kind.
-fn note_first(
-    alloc: Global,
-    reading: &Reading<'_, '_, '_, '_, '_>,
-    message: &mut Message,
-    sought: Sought,
-) -> Result<(), AllocError> {
-    match first_point(alloc, reading.model, reading.filling, sought)? {
-        Some(point) => note_point(alloc, reading, message, point),
+fn note_first(reading: &Reading, message: &mut Message, sought: Sought) -> Result<(), AllocError> {
+    match first_point(reading.alloc, reading.model, reading.filling, sought)? {
+        Some(point) => note_point(reading, message, point),
         None => Ok(()),
     }
 }
@@ -144,80 +121,80 @@ fn note_first(
 /// Adds what the text of the model has at the point of a verdict: what the compiler wrote there,
 /// and the values that are fixed.
 fn note_text(
-    alloc: Global,
-    reading: &Reading<'_, '_, '_, '_, '_>,
+    reading: &Reading,
     message: &mut Message,
     point: &Point<'_>,
 ) -> Result<(), AllocError> {
-    message.remarks = remarks_on(alloc, reading, point)?;
+    message.remarks.add_point(reading, point)?;
     if let Point::Constraint(number, _) = point
         && let Some(constraint) = constraint_of(reading.ast, *number)
     {
-        note_fixed(alloc, reading, message, constraint)?;
+        note_fixed(reading, message, constraint)?;
     }
     Ok(())
 }
 
-fn note_point(
-    alloc: Global,
-    reading: &Reading<'_, '_, '_, '_, '_>,
-    message: &mut Message,
-    point: usize,
-) -> Result<(), AllocError>
+fn note_point(reading: &Reading, message: &mut Message, point: usize) -> Result<(), AllocError>
     requires in_range { point < length (points reading.now.model.now) }
 {
-    let model = reading.model;
-    note_reason(alloc, reading, message, point)?;
-    note_chain(alloc, reading, message, point, &[])?;
+    let (alloc, model) = (reading.alloc, reading.model);
+    note_reason(reading, message, point)?;
+    note_chain(reading, message, point, &[])?;
     if let Some(domain) = declared_domain(model, point) {
-        note_domain(alloc, reading, message, &model.point(point), domain)?;
+        note_domain(reading, message, &model.point(point), domain)?;
     }
     if let Some(place) = too_large_at(alloc, model, reading.filling, point)? {
-        let told = format!(in alloc; "the sum leaves 128 bits at element {place}")?;
-        message.note(told)?;
+        message.note(format!(in alloc; "the sum leaves 128 bits at element {place}")?)?;
     }
     Ok(())
 }
 
 /// Adds why a point fails, and notes on its variables.
-fn note_reason(
-    alloc: Global,
-    reading: &Reading<'_, '_, '_, '_, '_>,
-    message: &mut Message,
-    point: usize,
-) -> Result<(), AllocError>
+fn note_reason(reading: &Reading, message: &mut Message, point: usize) -> Result<(), AllocError>
     requires in_range { point < length (points reading.now.model.now) }
 {
-    let variables = variables_of(alloc, reading.model, point)?;
-    let Some(told) = reason_at(alloc, reading.model, reading.filling, point)? else {
-        return note_variables(alloc, reading, message, &variables, &[]);
-    };
-    message.reason = Some(told_text(alloc, reading, &told)?);
-    note_variables(alloc, reading, message, &variables, &told.who)
+    let variables = variables_of(reading.alloc, reading.model, point)?;
+    match reason_at(reading.alloc, reading.model, reading.filling, point)? {
+        Some(told) => note_told(reading, message, &variables, &told),
+        None => note_variables(reading, message, &variables, &[]),
+    }
 }
 
-/// The number of the block before.
-fn block_before(case: &Case<'_, '_>) -> usize {
-    case.number.saturating_sub(1)
+fn note_told(
+    reading: &Reading,
+    message: &mut Message,
+    variables: &[usize],
+    told: &Told,
+) -> Result<(), AllocError> {
+    let mut reason = String::new(reading.alloc);
+    push_told(reading, &mut reason, told)?;
+    message.reason = Some(reason);
+    note_variables(reading, message, variables, &told.who)
 }
 
 /// Adds notes on the objective: the variable that it is, what is said of the block before, and its
 /// value.
 fn note_objective(
-    alloc: Global,
-    reading: &Reading<'_, '_, '_, '_, '_>,
+    reading: &Reading,
     message: &mut Message,
-    before: &str,
+    before: i64,
     now: i64,
 ) -> Result<(), AllocError> {
+    let (alloc, number) = (reading.alloc, reading.case.number);
+    let earlier = number.saturating_sub(1);
     if let Goal::Minimize(Term::Var(number)) | Goal::Maximize(Term::Var(number)) = reading
         .model
         .goal()
     {
-        note_variables(alloc, reading, message, &[*number], &[])?;
+        note_variables(reading, message, &[*number], &[])?;
     }
-    let number = reading.case.number;
-    message.note(format!(in alloc; "{before}, and block {number} has {now}")?)
+    let mut told = if let Verdict::Violated(_) = reading.case.verdict {
+        format!(in alloc; "block {earlier} has {before}")?
+    } else {
+        format!(in alloc; "{before} was found for block {earlier}")?
+    };
+    write!(told, ", and block {number} has {now}")?;
+    message.note(told)
 }
 
 fn objective_place(ast: &Ast<'_>) -> Option<Span> {
