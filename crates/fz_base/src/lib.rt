@@ -1,5 +1,5 @@
-//! What the other crates of the checker are built on: byte ranges ([`Span`]), finite sets of
-//! integers ([`IntSet`]) and the values of FlatZinc over int, bool and set ([`Value`]).
+//! What the values of the checker are: finite sets of integers ([`IntSet`]) and the values of
+//! FlatZinc over int, bool and set ([`Value`]).
 //!
 //! A set of numbers from 0 to 63 is stored as the bits of a word, any other as ranges of 64-bit
 //! numbers, so `1..1000000000` takes no more memory than `1..100`. A set has no limit but memory.
@@ -12,10 +12,8 @@ mod bits;
 mod kept;
 mod ranges;
 mod sets;
-mod span;
 mod value;
 
 pub use ranges::Range;
 pub use sets::{IntSet, SetError};
-pub use span::Span;
 pub use value::Value;

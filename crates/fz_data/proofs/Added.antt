@@ -5,7 +5,7 @@ use Rattle.std.specs.Option.{option_map_or}
 use Rattle.std.proofs.lemmas.Bool.{and_right, cond-true, cond-false}
 use Rattle.std.proofs.lemmas.Option.{slice_get_within}
 use Rattle.fz_store.proofs.of_meaning.Points.{slice_get_at}
-use Rattle.fz_tree.specs.of_base.declared.value.Value.{Value}
+use Rattle.fz_store.specs.of_meaning.of_base.declared.value.Value.{Value}
 use Rattle.fz_store.specs.of_meaning.declared.kind.Kind.{Kind}
 use Rattle.fz_store.specs.of_meaning.declared.term.Term.{Term}
 use Rattle.fz_store.specs.of_meaning.declared.term.Term.TheVariants.{Var, Fixed}

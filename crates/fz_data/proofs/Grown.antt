@@ -3,7 +3,7 @@ use Rattle.std.proofs.Common.{◌≡◌, ℕ, ◌+◌, ◌<◌, true, List, [], 
 use Rattle.std.proofs.lemmas.Bool.{false≢true}
 use Rattle.std.proofs.lemmas.List.{append-nil, map-append, length-map}
 use Rattle.std.proofs.Math.Seq.{take-append_seam, drop-append_seam}
-use Rattle.fz_tree.specs.of_base.declared.value.Value.{Value}
+use Rattle.fz_store.specs.of_meaning.of_base.declared.value.Value.{Value}
 use Rattle.fz_store.specs.of_meaning.declared.term.Term.{Term}
 use Rattle.fz_store.specs.declared.parts.Variable.{Variable}
 use Rattle.fz_store.specs.declared.parts.Array.{Array}

@@ -3,7 +3,7 @@
 use Rattle.std.proofs.Common.{◌≡◌, cond, List, [], ◌∷◌, map, Option, Some, None, option_map, slice_get, refl, sym, ap, ◌∙◌}
 use Rattle.std.specs.List.{AllByRecursion}
 use Rattle.std.specs.Option.{option_map_or}
-use Rattle.fz_tree.specs.of_base.declared.value.Value.{Value}
+use Rattle.fz_store.specs.of_meaning.of_base.declared.value.Value.{Value}
 use Rattle.fz_store.specs.of_meaning.declared.kind.Kind.{Kind}
 use Rattle.fz_store.specs.of_meaning.declared.kind.Kind.TheVariants.{Int as IntKind}
 use Rattle.fz_store.specs.of_meaning.declared.term.Term.TheVariants.{Var, Fixed}

@@ -12,7 +12,7 @@ use Rattle.fz_store.specs.of_meaning.declared.kind.Kind.{Kind}
 use Rattle.fz_store.specs.of_meaning.declared.kind.Kind.TheVariants.{Int as IntKind}
 use Rattle.fz_store.specs.declared.parts.Variable.{Variable}
 use Rattle.fz_store.specs.declared.parts.Array.{Array}
-use Rattle.fz_tree.specs.of_base.declared.value.Value.{Value}
+use Rattle.fz_store.specs.of_meaning.of_base.declared.value.Value.{Value}
 use Rattle.fz_store.specs.declared.store.Slot.{Slot}
 use Rattle.fz_store.specs.declared.store.Slot.TheVariants as slots
 use Rattle.fz_store.specs.declared.store.Argument.{Argument}

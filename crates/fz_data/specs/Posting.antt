@@ -1,7 +1,7 @@
 -- Only private functions use these: what a store's parts stand for while a model is loaded,
 -- whatever is appended later.
 use Rattle.std.specs.Prelude.{◌≡◌, List, None, map}
-use Rattle.fz_tree.specs.of_base.declared.value.Value.{Value}
+use Rattle.fz_store.specs.of_meaning.of_base.declared.value.Value.{Value}
 use Rattle.fz_store.specs.of_meaning.Located.{Constraint}
 use Rattle.fz_store.specs.of_meaning.Meaning as meaning
 use Rattle.fz_store.specs.of_meaning.Meaning.{first_some, row_of}

@@ -1,6 +1,6 @@
 -- Elements beside their printed values, one after another.
 use Rattle.std.proofs.Common.{◌≡◌, ◌<◌, ◌≤◌, ℕ, zero, suc, cond, List, [], ◌∷◌, map, length, drop, get_or, slice_get, None, Some, refl, arith}
-use Rattle.fz_tree.specs.of_base.declared.value.Value.{Value}
+use Rattle.fz_store.specs.of_meaning.of_base.declared.value.Value.{Value}
 use Rattle.fz_filling.specs.of_model.Meaning.{Partial}
 use Rattle.fz_filling.specs.of_model.declared.Term.{Term}
 use Rattle.fz_explain.specs.Differing.{differing_from, has_value}

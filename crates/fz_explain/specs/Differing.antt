@@ -1,7 +1,7 @@
 -- The element of a printed array whose value isn't the printed one (this project's profile).
 use Rattle.std.specs.Prelude.{ℕ, suc, Bool, false, cond, List, ◌∷◌, Option, None, Some}
 use Rattle.std.specs.Option.{option_map_or}
-use Rattle.fz_tree.specs.of_base.declared.value.Value.{Value}
+use Rattle.fz_store.specs.of_meaning.of_base.declared.value.Value.{Value}
 use Rattle.fz_filling.specs.of_model.Meaning.{Partial, value}
 use Rattle.fz_filling.specs.of_model.States.{same_value}
 use Rattle.fz_filling.specs.of_model.declared.Term.{Term}

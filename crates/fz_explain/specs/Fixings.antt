@@ -1,7 +1,7 @@
 -- What a name stands for that is no variable (this project's profile).
 use Rattle.std.specs.Prelude.{ℕ, Bool, true, false, List, [], ◌∷◌, Option, Some, None, option_map}
 use Rattle.std.specs.Option.{option_and_then}
-use Rattle.fz_tree.specs.of_base.declared.value.Value.{Value}
+use Rattle.fz_store.specs.of_meaning.of_base.declared.value.Value.{Value}
 use Rattle.fz_filling.specs.of_model.Meaning.{Model, Place, find_name}
 use Rattle.fz_filling.specs.of_model.declared.Term.{Term}
 use Rattle.fz_filling.specs.of_model.declared.Term.TheVariants.{Fixed, Var}

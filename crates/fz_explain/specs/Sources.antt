@@ -2,7 +2,7 @@
 use Rattle.std.specs.Prelude.{◌≡◌, ℕ, Bool, cond, List, [], ◌∷◌, ◌++◌, ◌==◌, Option, None, Some, slice_get}
 use Rattle.std.specs.List.{list_any}
 use Rattle.std.specs.Option.{option_map_or}
-use Rattle.fz_tree.specs.of_base.declared.value.Value.{Value}
+use Rattle.fz_store.specs.of_meaning.of_base.declared.value.Value.{Value}
 use Rattle.fz_filling.specs.of_model.Meaning.{Model, Partial, Point, points, value_at}
 use Rattle.fz_filling.specs.of_model.Steps.{terms_of}
 use Rattle.fz_filling.specs.declared.completion.Completion.{Completion}

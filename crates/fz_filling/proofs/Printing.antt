@@ -5,7 +5,7 @@ use Rattle.std.specs.Option.{option_map_or}
 use Rattle.fz_index.specs.of_model.of_base.declared.value.Value.{Value}
 use Rattle.fz_index.specs.of_model.of_base.declared.value.Value.TheVariants.{Set}
 use Rattle.fz_index.specs.of_model.States.{same_value, same_values}
-use Rattle.fz_stream.specs.of_syntax.Sets.{NumberSet}
+use Rattle.fz_store.specs.of_meaning.of_base.Sets.{NumberSet}
 use Rattle.fz_index.specs.of_model.Meaning.{Partial, value, values}
 use Rattle.fz_index.specs.of_model.Relations.{option_cons}
 use Rattle.fz_index.specs.of_model.declared.Term.{Term}

@@ -4,7 +4,7 @@
 -- a constraint's arguments and of the objective. A span counts the source's bytes from 0 up to an
 -- end that is not part of it.
 use Rattle.std.specs.Prelude.{ℕ, Bool, List, Option, map, option_map}
-use Rattle.fz_base.specs.declared.span.Span.{Span}
+use Rattle.fz_tree.specs.declared.span.Span.{Span}
 use Rattle.fz_tree.specs.Tree as tree
 
 pub record Name : Type 0 where

@@ -1,6 +1,6 @@
 ghost use Rattle.std.specs.Prelude.{◌≡◌};
 
-use fz_base::Span;
+use fz_tree::Span;
 use std::alloc::{AllocError, AllocFailed};
 use thiserror::Error;
 

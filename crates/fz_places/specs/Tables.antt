@@ -5,7 +5,7 @@
 use Rattle.std.specs.Prelude.{◌≡◌, ℕ, ◌+◌, ◌==◌, cond, List, [], ◌∷◌, map, length, Option, Some, None, option_map, is_none, is_some, bytes_eq, ⊤}
 use Rattle.std.specs.List.{find}
 use Rattle.std.specs.Option.{option_and_then}
-use Rattle.fz_meaning.specs.of_base.declared.span.Span.{Span}
+use Rattle.fz_tree.specs.declared.span.Span.{Span}
 use Rattle.fz_places.specs.Lines.{parted}
 use Rattle.fz_places.specs.declared.names.NameLine.{NameLine}
 use Rattle.fz_places.specs.declared.names.NameTable.{NameTable}

@@ -7,7 +7,7 @@ use Rattle.std.specs.Bool.{OnFalse}
 use Rattle.std.proofs.lemmas.List.{append-nil, append_cancel_right, map-append, length-map}
 use Rattle.std.proofs.lemmas.Bool.{eqb-true, cases_Bool}
 use Rattle.std.proofs.lemmas.Grind.{flat_map-append}
-use Rattle.fz_tree.specs.of_base.declared.span.Span.{Span}
+use Rattle.fz_tree.specs.declared.span.Span.{Span}
 use Rattle.fz_tree.specs.Token.{TokenValue, Word, Marked}
 use Rattle.fz_tree.specs.Lexing.{SpannedToken}
 use Rattle.fz_tree.specs.Left.{left, listed_comma, source_of}

@@ -9,13 +9,11 @@ pub mod Words
 pub use Rattle.fz_tree.specs.Token
 pub use Rattle.fz_tree.specs.Lexing
 pub use Rattle.fz_tree.specs.Spanned as Places
-pub use Rattle.fz_tree.specs.of_base.Sets
-pub use Rattle.fz_tree.specs.of_base.Ranges
 pub use Rattle.fz_tree.specs.declared.error.SyntaxError
 pub use Rattle.fz_tree.specs.declared.limits.Limits
 pub use Rattle.fz_tree.specs.declared.token.Mark
 pub use Rattle.fz_tree.specs.declared.token.TokenKind
-pub use Rattle.fz_tree.specs.of_base.declared.span.Span
+pub use Rattle.fz_tree.specs.declared.span.Span
 pub use Rattle.fz_tree.specs.Tree
 pub use Rattle.fz_tree.specs.View
 pub use Rattle.fz_tree.specs.Tokens

@@ -1,7 +1,7 @@
 -- Used only by private functions: a reader of the contracts need not believe this file. What the
 -- parser has left to read, and what it took between two states.
 use Rattle.std.specs.Prelude.{◌≡◌, ◌≤◌, ℕ, List, [], ◌∷◌, ◌++◌, length, map, Some, Result, Ok, Err}
-use Rattle.fz_tree.specs.of_base.declared.span.Span.{Span}
+use Rattle.fz_tree.specs.declared.span.Span.{Span}
 use Rattle.fz_tree.specs.declared.token.Mark.TheVariants.{Comma}
 use Rattle.fz_tree.specs.Token.{TokenValue}
 use Rattle.fz_tree.specs.Lexing.{SpannedToken}

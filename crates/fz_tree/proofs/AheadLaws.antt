@@ -21,7 +21,7 @@ use Rattle.fz_tree.proofs.Laws.{found_is_longest, longest_is_positive, none_begi
 use Rattle.fz_tree.proofs.Next.{comma_cut}
 use Rattle.fz_tree.proofs.Cuts.{at_place, cut_then, cut_forward, cut_continues, cut_stays, cut_ordered, in_order_upto, comment_positive, no_cut_from, no_limit_from}
 use Rattle.fz_tree.proofs.Texts.{cut_spelled}
-use Rattle.fz_base.specs.declared.span.Span.{Span}
+use Rattle.fz_tree.specs.declared.span.Span.{Span}
 use Rattle.fz_tree.proofs.Lexed.{all_right, only_fault, fault_placed}
 
 -- why nothing more is read from an offset on

@@ -13,4 +13,3 @@ pub mod Found
 pub mod Ahead
 pub mod Left
 pub mod AnyLength
-pub use Rattle.fz_base.specs as of_base

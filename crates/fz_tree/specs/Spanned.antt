@@ -2,7 +2,7 @@
 -- about the source (this project's profile).
 use Rattle.std.specs.Prelude.{◌≡◌, ℕ, ◌+◌, ◌^◌, ◌<◌, ◌≤◌, List, length, drop, slice_range, map, ℤ, ◌≢◌, take, slice_index, IsFalse}
 use Rattle.std.specs.List.{AllByRecursion}
-use Rattle.fz_base.specs.declared.span.Span.{Span}
+use Rattle.fz_tree.specs.declared.span.Span.{Span}
 use Rattle.fz_tree.specs.Token.{TokenValue, Word, Whole, FloatText, StringText, Marked, Spells, is_blank}
 use Rattle.fz_tree.specs.Lexing.{SpannedToken, CutBetween, IsLongestSpelling, IsTokenWithinLimit, LexesWithin, IsWithinLimit}
 use Rattle.fz_tree.specs.declared.limits.Limits.{Limits}

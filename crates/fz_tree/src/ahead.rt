@@ -11,8 +11,8 @@ ghost use Rattle.fz_tree.specs.Left.{left, listed_comma, source_of};
 
 use crate::error::SyntaxError;
 use crate::lexer::Lexer;
+use crate::span::Span;
 use crate::token::Token;
-use fz_base::Span;
 
 /// Goes over the rest of a text.
 #[tactic(auto, using(crate::proofs::AheadLaws::fault_scanned, crate::proofs::Next::fault_is_not))]

@@ -1,6 +1,6 @@
 ghost use Rattle.std.specs.Prelude.{◌≡◌};
 
-use fz_base::Span;
+use crate::span::Span;
 use std::alloc::{AllocError, AllocFailed};
 use thiserror::Error;
 

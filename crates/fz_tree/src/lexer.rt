@@ -13,9 +13,9 @@ use crate::limits::Limits;
 use crate::scanner::{
     Front, comment_len, is_blank, is_word_start, mark_front, read_other_front, short_whole,
 };
+use crate::span::Span;
 use crate::token::{Token, TokenKind};
 use crate::word::word_len;
-use fz_base::Span;
 use std::alloc::Global;
 
 /// Skips blanks and whole comments from a byte offset on, and gives the offset where they end.

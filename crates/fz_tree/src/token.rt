@@ -1,4 +1,4 @@
-use fz_base::Span;
+use crate::span::Span;
 
 /// A mark of the language: `(` `)` `[` `]` `{` `}` `,` `;` `:` `::` `=` `..`.
 #[derive(Clone, Copy, Debug, PartialEq, Eq)]

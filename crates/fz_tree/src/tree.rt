@@ -1,6 +1,6 @@
 //! The syntax tree. Its parts hold slices of the source.
 
-use fz_base::Span;
+use crate::span::Span;
 
 /// A name: its bytes, a slice of the source, and their byte range there.
 #[derive(Clone, Copy)]

@@ -1,6 +1,6 @@
 use Rattle.std.proofs.Common.{false, sym, ap, ◌∙◌}
 use Rattle.std.specs.Option.{option_map_or}
-use Rattle.fz_tree.specs.of_base.declared.value.Value.TheVariants.{Set}
+use Rattle.fz_store.specs.of_meaning.of_base.declared.value.Value.TheVariants.{Set}
 use Rattle.fz_filling.specs.of_model.Meaning.{value_at}
 use Rattle.fz_filling.specs.of_model.Names.{literal_value}
 use Rattle.fz_filling.specs.of_model.States.{same_value}
