@@ -1,10 +1,12 @@
 //! The lines of JSON of the answer, of refusals and of explanations. `docs/REPORT.md`
 //! tells their members, and `tests/as_json.py` tests them.
 
+use crate::events::{Counts, add_place, refused_word};
+use fz_check::{Answer, CheckError, Span, refusal_fault};
 use fz_explain::{
     Bounds, FixedNote, Kind, Known, MOST_RANGES, Message, Note, Origin, Remarks, Unbound, Value,
 };
-use fz_report::{Answer, CheckError, Counts, Object, Span, add_place, refusal_fault, refused_word};
+use fz_files::Object;
 use std::alloc::{AllocError, Global};
 
 /// Adds where a message is, and what it says, where there is one.

@@ -1,17 +1,20 @@
 //! The command `check`.
 
 use crate::as_json::refusal_line;
+use crate::detail::{Detail, refuse_fault};
+use crate::events::unread_line;
 use crate::explain::explanation;
+use crate::known::claims_of;
 use crate::names::check_with_names;
-use crate::refuse::{Detail, refuse_fault};
+use crate::options::{completion_of, options_of};
+use crate::reading::{Unread, most_bytes, open_file, read_whole};
+use crate::refusing::{refuse, refuse_file};
 use crate::teller::{JsonTeller, Teller};
+use crate::tree::{branches_of, read_tree};
+use fz_check::{Answer, CheckError, Claims, MOST_READS, Taker, check_events, status};
+use fz_command::{CheckOptions, Explaining, Form};
 use fz_explain::{Explainer, Message, NameTable, Text};
-use fz_report::{
-    Answer, CheckError, CheckOptions, Claims, Explaining, Form, MOST_READS, NOTHING, Recent,
-    Recorder, Taker, Unread, branches_of, check_events, claims_of, completion_of, find_input,
-    most_bytes, open_file, options_of, read_tree, read_whole, refuse, refuse_file, status,
-    unread_line,
-};
+use fz_files::{NOTHING, Recent, Recorder, find_input};
 use std::alloc::Global;
 use std::cell::RefCell;
 use std::io::{Read, Write};

@@ -1,11 +1,10 @@
 //! Where the fault of a refusal is, as a message: the file, the line and column, what is wrong, and
 //! the line with the fault marked.
 
+use fz_check::{BlockError, CheckError, ModelError, StreamError, SyntaxError, Told, refusal_fault};
+use fz_command::Size;
 use fz_explain::{Message, Text, message_at};
-use fz_report::{
-    BlockError, CheckError, ModelError, Passed, Size, StreamError, SyntaxError, Told, count_blocks,
-    refusal_fault,
-};
+use fz_files::{Passed, count_blocks};
 use fz_words::{Given, Refused, meaning as syntax_meaning};
 use std::alloc::{AllocError, Global};
 

@@ -1,21 +1,27 @@
 //! The program `fzcheck`: what its commands do, its refusals and exit status. The verdicts and the
 //! texts that it shows are by `fz_check`; what stands behind a verdict is by `fz_explain`.
 //!
-//! Tests are in `tests/program.sh` and `tests/explained`.
+//! Tests are in `tests/program.sh`, `tests/as_json.py` and `tests/explained`.
 #![tactic(auto)]
 
 mod as_json;
 mod check;
+mod detail;
+mod events;
 mod explain;
+mod known;
 mod names;
-mod refuse;
+mod options;
+mod reading;
+mod refusing;
 mod show;
 mod teller;
+mod tree;
 
 use check::check_files;
-use fz_report::{
-    CheckError, HELP, Refused, Request, VERSION, read_words, refuse, refuse_usage, refuse_wrong,
-};
+use fz_check::CheckError;
+use fz_command::{HELP, Refused, Request, VERSION, read_words};
+use refusing::{refuse, refuse_usage, refuse_wrong};
 use show::show_file;
 use std::process::ExitCode;
 use std::{env, io};

@@ -2,8 +2,12 @@
 
 use crate::as_json::names_line;
 use crate::check::{Task, check_stream};
+use crate::reading::{Unread, read_file};
+use crate::refusing::refuse;
+use fz_check::{CheckError, Claims, Span};
+use fz_command::Form;
 use fz_explain::{Message, NameTable, TableError, Text, message_at};
-use fz_report::{CheckError, Claims, Form, NOTHING, Span, Unread, read_file, refuse};
+use fz_files::NOTHING;
 use std::alloc::{AllocError, Global};
 use std::io::{Read, Write};
 

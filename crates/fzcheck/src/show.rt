@@ -1,13 +1,15 @@
 //! The command `show`.
 
 use crate::SHOWN;
+use crate::detail::{Detail, refuse_fault};
 use crate::explain::explanation;
-use crate::refuse::{Detail, refuse_fault};
+use crate::options::limits_of;
+use crate::reading::{most_bytes, read_file};
+use crate::refusing::{refuse, refuse_file};
+use fz_check::{CheckError, show_printing_all, show_with};
+use fz_command::{Printing, Size};
 use fz_explain::Text;
-use fz_report::{
-    CheckError, NOTHING, Printing, Size, limits_of, most_bytes, read_file, refuse, refuse_file,
-    show_printing_all, show_with,
-};
+use fz_files::NOTHING;
 use std::io;
 use std::io::Write;
 

@@ -2,14 +2,15 @@
 //! shown how far the check is, and why blocks aren't satisfied.
 
 ghost use Rattle.std.specs.Prelude.{⊤};
-ghost use Rattle.fz_report.specs.of_check.Report.{by, event_line};
+ghost use Rattle.fz_check.specs.Report.{by, event_line};
 
 use crate::as_json::{answer_line, explanation_line};
+use crate::events::{Counts, block_line, claim_line, cut_line, refuted_line};
+use crate::reading::read_file;
+use fz_check::{Answer, Event, Judged, Taker, TextTaker, Verdict};
+use fz_command::{CheckOptions, Explaining, Form};
 use fz_explain::{Case, Explainer, Message, Remarks, Text, Unbound};
-use fz_report::{
-    Answer, CheckOptions, Counts, Event, Explaining, Form, Judged, Passed, Progress, Recent, Taker,
-    TextTaker, Verdict, block_line, claim_line, cut_line, read_file, refuted_line,
-};
+use fz_files::{Passed, Progress, Recent};
 use std::alloc::AllocError;
 use std::cell::RefCell;
 

@@ -1,8 +1,10 @@
 //! How much is told of the place of a refusal.
 
 use crate::explain::{LARGER, has_larger, meaning};
+use crate::refusing::{is_told, refuse};
+use fz_check::CheckError;
+use fz_command::Size;
 use fz_explain::Message;
-use fz_report::{CheckError, Size, is_told, refuse};
 use std::io::IsTerminal;
 
 /// How much is told of the place of a refusal.

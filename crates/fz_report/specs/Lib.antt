@@ -1,1 +1,0 @@
-pub use Rattle.fz_check.specs as of_check
