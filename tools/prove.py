@@ -18,7 +18,8 @@ import time
 from sources import PARTS, ROOT, sum_of_sources, text_of, toolchain
 
 ROOM = f"{ROOT}/build/prove"
-MEMORY = 5_000_000  # kilobytes for each crate at a time
+MEMORY = 4_000_000  # kilobytes for each crate at a time
+NEARLY = 0.7  # a crate with this share of the most behind it is waited for as well
 USAGE_STATUS = 5  # `rt run` runs the program, here on no words: this is what it answers
 VERDICT = re.compile(r"^logic=proved ", re.M)
 
@@ -34,7 +35,7 @@ def die_with_parent():
 
 
 def stand_back():
-    """Leaves the processors to the crate that all others wait for, wherever that can use them."""
+    """Leaves the processors to the crates that all others wait for, wherever those can use them."""
     die_with_parent()
     os.nice(10)
 
@@ -50,7 +51,8 @@ class Crate:
         self.room = f"{self.tree}/crates/{name}"
         self.is_program = os.path.exists(f"{self.folder}/src/main.rt")
         files = glob.glob(f"{self.folder}/src/**/*.rt", recursive=True)
-        self.functions = sum(len(re.findall(r"\bfn \w", text_of(it))) for it in files)
+        source = "".join(map(text_of, files))
+        self.functions, self.lines = len(re.findall(r"\bfn \w", source)), source.count("\n")
 
     def start(self, jobs, begin):
         """Starts the proof. What earlier runs kept of the crate is moved into its tree."""
@@ -60,7 +62,7 @@ class Crate:
                 link(f"{it.folder}/{part}", f"{self.tree}/crates/{it.name}/{part}")
         with open(f"{self.tree}/crates.txt", "w", encoding="utf-8") as file:
             file.writelines(f"{it.line}\n" for it in (*self.below, self))
-        self.sources = sum_of_sources(self.room)
+        self.jobs, self.sources = jobs, sum_of_sources(self.room)
         os.makedirs(f"{self.tree}/.git")  # where the repository of this tree ends
         os.makedirs(f"{self.folder}/out", exist_ok=True)
         os.rename(f"{self.folder}/out", f"{self.room}/out")
@@ -92,11 +94,11 @@ class Crate:
     def is_proved(self):
         return self.process.returncode == (USAGE_STATUS if self.is_program else 0)
 
-    def checked(self):
-        """About how many functions are checked so far, as the prover tells."""
+    def share(self):
+        """About which share of the functions is checked so far, as the prover tells."""
         told = re.findall(r"so far: (\d+) of (\d+) functions", text_of(self.log))
         checked, among = map(int, told[-1] if told else (0, 1))
-        return self.functions * checked // max(among, 1)
+        return checked / max(among, 1)
 
 
 def crates_of(program):
@@ -118,23 +120,25 @@ class Build:
     def __init__(self, crates, jobs):
         self.crates, self.jobs, self.toolchain = crates, jobs, toolchain()
         self.running, self.proved, self.began = [], [], time.monotonic()
-        self.behind = {}  # the functions of the longest chain of crates that begins with a crate
+        self.behind = {}  # the lines of the longest chain of crates that begins with a crate
         for it in reversed(crates):
             above = (self.behind[other] for other in self.behind if it in other.deps)
-            self.behind[it] = it.functions + max(above, default=0)
+            self.behind[it] = it.lines + max(above, default=0)
 
     def start(self, lanes):
-        """Starts what is ready. Most of the proof is one chain of crates, so the crate with the
-        most behind it gets all the processes, and one beside it half of them, which stand back."""
+        """Starts what is ready. The crate with the most behind it gets all the processes, since
+        the longest chain of crates is waited for. Each beside it gets what is left over, one at
+        least, since several take a third more of the processor in all. Those with far less behind
+        them stand back."""
         waiting = [it for it in self.crates if it not in (*self.proved, *self.running)]
         ready = [it for it in waiting if {*it.deps} <= {*self.proved}]
         ready.sort(key=self.behind.get, reverse=True)
         for crate in ready[: lanes - len(self.running)]:
-            most = max(map(self.behind.get, self.running), default=0)
-            if self.behind[crate] > most:
-                crate.start(self.jobs, die_with_parent)
-            else:
-                crate.start(max(self.jobs // 2, 1), stand_back)
+            others = (self.behind[it] - it.lines * it.share() for it in self.running)
+            most = max(others, default=0)
+            begin = die_with_parent if self.behind[crate] > NEARLY * most else stand_back
+            left = max(self.jobs - sum(it.jobs for it in self.running), 1)
+            crate.start(self.jobs if self.behind[crate] > most else left, begin)
             self.running.append(crate)
 
     def end(self, crate, log):
@@ -165,7 +169,7 @@ class Build:
         """Rewrites the terminal's line."""
         if sys.stderr.isatty():
             checked = sum(it.functions for it in self.proved)
-            checked += sum(it.checked() for it in self.running)
+            checked += sum(int(it.functions * it.share()) for it in self.running)
             among = sum(it.functions for it in self.crates)
             minutes = (time.monotonic() - self.began) / 60
             line = f"{what}: {self.count()}, {checked:,} of {among:,} functions, {minutes:.0f} min"
