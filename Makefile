@@ -24,7 +24,7 @@
 
 CRATES := $(notdir $(wildcard crates/*))
 SOURCES := crates.txt $(shell find crates -type d -name out -prune -o -type f -print)
-COMPANIONS := $(wildcard companions/fzcheck-*)
+COMPANIONS := $(wildcard python/fzcheck-*)
 PREFIX ?= /usr/local
 SHARE = $(DESTDIR)$(PREFIX)/share
 ZSH_FUNCTIONS ?= $(PREFIX)/share/zsh/site-functions
@@ -113,14 +113,15 @@ quick:
 install: build/fzcheck
 	install -D -t $(DESTDIR)$(PREFIX)/bin build/fzcheck
 	install -D -t $(SHARE)/fzcheck $(COMPANIONS)
-	install -m 644 -t $(SHARE)/fzcheck companions/fzcheck_*
+	cd python && find fzcheck -name '*.py' -o -name '*.html' | \
+	  xargs -I{} install -D -m 644 {} $(SHARE)/fzcheck/{}
 	for it in $(notdir $(COMPANIONS)); do \
 	  ln -sf ../share/fzcheck/$$it $(DESTDIR)$(PREFIX)/bin/$$it; done
 	install -D -m 644 -t $(SHARE)/man/man1 docs/*.1
 	install -D -m 644 completions/fzcheck.bash $(SHARE)/bash-completion/completions/fzcheck
 	install -D -m 644 completions/fzcheck.zsh $(DESTDIR)$(ZSH_FUNCTIONS)/_fzcheck
-	install -D -m 644 -t $(SHARE)/fzcheck minizinc/fzcheck.msc
-	install -D -m 644 -t $(SHARE)/fzcheck/fzcheck minizinc/fzcheck/*.mzn
+	install -D -m 644 -t $(SHARE)/fzcheck/minizinc minizinc/fzcheck.msc
+	install -D -m 644 -t $(SHARE)/fzcheck/minizinc/fzcheck minizinc/fzcheck/*.mzn
 	install -D -m 644 -t $(SHARE)/doc/fzcheck README.md CHANGELOG.md CONTRIBUTING.md LICENSE
 	cp -R docs examples $(SHARE)/doc/fzcheck
 	chmod -R u=rwX,go=rX $(SHARE)/doc/fzcheck

@@ -1,5 +1,5 @@
 #!/usr/bin/env python3
-"""Runs companions/fzcheck-batch over a season that is made from tests/corpus and examples: twenty
+"""Runs python/fzcheck-batch over a season that is made from tests/corpus and examples: twenty
 models, each with the streams of six solvers, of which four are wrong in their own ways.
 
     tests/batch.py PROGRAM
@@ -27,7 +27,7 @@ import hosts
 import minizinc
 
 ROOT = pathlib.Path(os.path.abspath(__file__)).parent.parent
-COMMAND = (sys.executable, str(ROOT / "companions" / "fzcheck-batch"))
+COMMAND = (sys.executable, str(ROOT / "python" / "fzcheck-batch"))
 MARKER, COMPLETE, UNSATISFIABLE = "----------\n", "==========\n", "=====UNSATISFIABLE=====\n"
 SOURCES = [f"tests/corpus/{name}" for name in (
     "bool_mix_std/one", "dims_out_std/one", "divmod_std/n20", "golomb6_alld/all",
@@ -140,7 +140,8 @@ class Place:
         for name in ("bin", "models", "streams"):
             (self.folder / name).mkdir()
         (self.folder / "bin" / "fzcheck").symlink_to(program)
-        self.variables = {"PATH": f"{self.folder}/bin:{os.environ['PATH']}"}
+        self.variables = {"PATH": f"{self.folder}/bin:{os.environ['PATH']}",
+                          "FZCHECK": f"{self.folder}/bin/fzcheck"}
 
     def model(self, name: str, text: str) -> None:
         path = self.folder / "models" / f"{name}.fzn"
@@ -288,8 +289,8 @@ def try_hosts(place: Place) -> None:
         words = place.words("hosts", "--models", "few", "-j", "1", "--cut", "--shard", "{}/4")
         status, _, told = place.run(
             "parallel", "--will-cite", "-j", "1", "--workdir", str(place.folder), "--ssh", made.ssh,
-            "--sshlogin", ",".join(made.addresses), "-q", "env", f"PATH={place.variables['PATH']}",
-            *words, ":::", "1", "2", "3", "4")
+            "--sshlogin", ",".join(made.addresses), "-q", "env",
+            *(f"{name}={value}" for name, value in place.variables.items()), *words, ":::", "1", "2", "3", "4")
         told = re.sub("fzcheck-batch: no model for the stream .*\n", "", told)
         expect("shards over ssh", (0, ""), (status, told))
         expect("both hosts took some", True, made.both_were_used())

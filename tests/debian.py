@@ -77,7 +77,7 @@ def main(folder, root=HERE):
     told = subprocess.run(words, stdin=subprocess.DEVNULL, stdout=subprocess.PIPE, text=True,
                           stderr=subprocess.STDOUT, timeout=600).stdout
     parts = dict(re.findall(r"^= (\w+)\n(.*?)(?=^= |\Z)", told, re.M | re.S))
-    if not os.path.exists(f"{ROOT}/companions/fzcheck-mzn"):
+    if not os.path.exists(f"{ROOT}/python/fzcheck-mzn"):
         del PARTS["mzn"]
     failed = [name for name, wanted in WHOLE.items() if parts.get(name) != wanted]
     failed += [name for name, wanted in PARTS.items() if wanted not in parts.get(name, "")]

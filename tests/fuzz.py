@@ -16,7 +16,7 @@ import tempfile
 from typing import Any, Dict, List, NamedTuple
 
 HERE = os.path.dirname(os.path.abspath(__file__))
-COMPANIONS = os.path.join(HERE, os.pardir, "companions")
+COMPANIONS = os.path.join(HERE, os.pardir, "python")
 SOLVER = os.path.join(HERE, "fuzzed_solver.py")
 NAMES = ("int_lin_le,int_le_reif,int_div,array_int_element,int_max,int_mod,fzn_all_different_int,"
          "int_ne,bool_clause,set_in")
@@ -58,9 +58,8 @@ BAD = {
 class Test:
     def __init__(self, program: str, folder: str) -> None:
         self.folder = folder
-        path = os.path.dirname(os.path.abspath(program)) + os.pathsep + os.environ["PATH"]
-        self.environment = {**os.environ, "PATH": path, "TMPDIR": os.path.join(folder, "tmp"),
-                            "PYTHONDONTWRITEBYTECODE": "1"}
+        self.environment = {**os.environ, "FZCHECK": os.path.abspath(program),
+                            "TMPDIR": os.path.join(folder, "tmp"), "PYTHONDONTWRITEBYTECODE": "1"}
         os.mkdir(self.environment["TMPDIR"])
         self.passed = self.failed = 0
 

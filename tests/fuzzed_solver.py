@@ -14,7 +14,7 @@ from typing import Any, Callable, Dict, Iterator, List, Optional
 HERE = os.path.dirname(os.path.abspath(__file__))
 sys.path.insert(0, os.path.join(HERE, "corpus"))
 import slow
-from fzcheck_flatzinc import text_of  # from the companions, where slow.py finds its table
+from fzcheck.flatzinc import text_of  # from the companions, where slow.py finds its table
 
 FAULTS = {
     "off-by-one": "int_lin_le lets the sum be one more",

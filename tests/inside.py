@@ -19,7 +19,7 @@ import tempfile
 from solver import ROOT, SOLVER, Place, expect
 import solver
 
-CONFIGURE = os.path.join(ROOT, "companions", "fzcheck-configure")
+CONFIGURE = os.path.join(ROOT, "python", "fzcheck-configure")
 MODELS = sorted(glob.glob(os.path.join(ROOT, "tests", "inside", "*.mzn")))
 WAYS = ((), ("-a",), ("-s",), ("-t", "60000"), ("--json-stream",), ("--output-mode", "dzn"))
 SEEDS = 4

@@ -144,7 +144,7 @@ def faults_of_page(program, page, folder):
     os.mkdir(os.path.join(folder, "bin"))
     os.symlink(program, os.path.join(folder, "bin", "fzcheck"))
     for name in ("fzcheck-solver", "fzcheck-configure", "fzcheck-batch", "fzcheck-mzn"):
-        os.symlink(os.path.join(ROOT, "companions", name), os.path.join(folder, "bin", name))
+        os.symlink(os.path.join(ROOT, "python", name), os.path.join(folder, "bin", name))
     for name in ("minizinc", "examples"):
         os.symlink(os.path.join(ROOT, name), os.path.join(folder, name))
     with open(os.path.join(ROOT, page)) as f:
@@ -156,7 +156,8 @@ def faults_of_page(program, page, folder):
     told = ""
     for block in [PREPARED, *blocks(page)]:
         ran = subprocess.run(("bash", "-ec", block), cwd=folder, capture_output=True, text=True,
-                             env={**os.environ, "PATH": path, "HOME": folder})
+                             env={**os.environ, "PATH": path, "HOME": folder,
+                                  "FZCHECK": os.path.join(folder, "bin", "fzcheck")})
         told += ran.stdout
         if ran.returncode != 0 or re.search("^fzcheck: (?!accepted: )", ran.stderr, re.M):
             yield f"{block}status {ran.returncode}: {ran.stdout}{ran.stderr}"

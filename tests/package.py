@@ -16,7 +16,7 @@ import tempfile
 
 ROOT = os.path.dirname(os.path.dirname(os.path.abspath(__file__)))
 PARTS = """Makefile README.md CHANGELOG.md CONTRIBUTING.md LICENSE crates.txt crates tools
-companions completions minizinc docs examples""".split()
+python completions minizinc docs examples""".split()
 RT = """#!/bin/sh
 case $1 in
 version) echo "some toolchain" ;;
@@ -98,7 +98,7 @@ class Checkout:
                   cwd=f"{documents}/examples")
         expect("the first example", (0, "block 1: satisfied\naccepted: blocks 1\n"),
                (ran.returncode, ran.stdout))
-        for path in glob.glob(f"{ROOT}/companions/fzcheck-*"):
+        for path in glob.glob(f"{ROOT}/python/fzcheck-*"):
             # A link that is broken, or a module that is missing, would be told otherwise.
             script = f"{top}/bin/{os.path.basename(path)}"
             expect(script, read(path), read(script))

@@ -1,5 +1,5 @@
 #!/usr/bin/env python3
-"""Runs companions/fzcheck-mzn with a script in the place of MiniZinc, so that it needn't be there.
+"""Runs python/fzcheck-mzn with a script in the place of MiniZinc, so that it needn't be there.
 
     tests/plan.py PROGRAM
 
@@ -18,15 +18,15 @@ import tempfile
 from solver import ROOT, Place, expect
 import solver
 
-sys.path.insert(0, os.path.join(ROOT, "companions"))
-import fzcheck_mzn_model
-from fzcheck_mzn_plan import Plan, Refused
-from fzcheck_mzn_stream import Writer
-from fzcheck_mzn_table import Table
-from fzcheck_mzn_told import Told
-from fzcheck_mzn_values import Array, Range, Reader, SetOf, Term, from_json
+sys.path.insert(0, os.path.join(ROOT, "python"))
+from fzcheck.mzn import model as model_module
+from fzcheck.mzn.plan import Plan, Refused
+from fzcheck.mzn.stream import Writer
+from fzcheck.mzn.table import Table
+from fzcheck.mzn.told import Told
+from fzcheck.mzn.values import Array, Range, Reader, SetOf, Term, from_json
 
-COMMAND = os.path.join(ROOT, "companions", "fzcheck-mzn")
+COMMAND = os.path.join(ROOT, "python", "fzcheck-mzn")
 KEPT = os.path.join(ROOT, "tests", "plans", "kept")
 FORMS = ("plan.dzn", "plan.json", "plan.jsonl", "stream")
 TEXTS, VALUES = 2000, 500
@@ -306,7 +306,7 @@ def main():
         endings(place)
         bad_inputs(place)
         [entry] = os.listdir(place.path("cache/fzcheck"))
-        model = fzcheck_mzn_model.load(place.path(f"cache/fzcheck/{entry}"))
+        model = model_module.load(place.path(f"cache/fzcheck/{entry}"))
         names_of_enums(place, model)
         rand = random.Random(1)
         random_values(rand)

@@ -1,5 +1,5 @@
 #!/usr/bin/env python3
-"""Checks plans of MiniZinc with companions/fzcheck-mzn, where MiniZinc and `fzn-gecode` are there.
+"""Checks plans of MiniZinc with python/fzcheck-mzn, where MiniZinc and `fzn-gecode` are there.
 
     tests/plans.py PROGRAM
 
@@ -20,7 +20,7 @@ import tempfile
 
 from minizinc import MARKER, ROOT
 
-COMMAND = os.path.join(ROOT, "companions", "fzcheck-mzn")
+COMMAND = os.path.join(ROOT, "python", "fzcheck-mzn")
 FORMS = (("--output-mode", "dzn"), ("--output-mode", "json"),
          ("--json-stream", "--output-mode", "json"))
 SEEDS = 8
@@ -61,6 +61,7 @@ def models(folder):
 def run(folder, *words, **variables):
     environment = {**os.environ, "XDG_CACHE_HOME": os.path.join(folder, "cache"), **variables}
     environment["PATH"] = os.path.join(folder, "bin") + os.pathsep + environment["PATH"]
+    environment["FZCHECK"] = os.path.join(folder, "bin", "fzcheck")
     return subprocess.run(words, capture_output=True, text=True, env=environment, timeout=600)
 
 

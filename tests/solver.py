@@ -1,5 +1,5 @@
 #!/usr/bin/env python3
-"""Runs companions/fzcheck-solver and fzcheck-configure, with scripts in the place of a solver, of the
+"""Runs python/fzcheck-solver and fzcheck-configure, with scripts in the place of a solver, of the
 checker and of MiniZinc, so that none of them has to be there.
 
     tests/solver.py PROGRAM
@@ -21,7 +21,7 @@ import time
 from minizinc import blocks
 
 ROOT = os.path.dirname(os.path.dirname(os.path.abspath(__file__)))
-SOLVER, CONFIGURE = (os.path.join(ROOT, "companions", name)
+SOLVER, CONFIGURE = (os.path.join(ROOT, "python", name)
                      for name in ("fzcheck-solver", "fzcheck-configure"))
 MODEL = "var 0..9: x :: output_var;\nconstraint int_le(x,5);\nsolve satisfy;\n"
 UNKNOWN, FLOAT = MODEL.replace("int_le", "my_own"), MODEL.replace("0..9", "0.0..9.5")
@@ -64,6 +64,7 @@ class Place:
         os.symlink(program, self.path("bin/fzcheck"))
         self.variables = {"FOLDER": folder, "FZCHECK_SOLVER": self.path("a solver"),
                           "PATH": self.path("bin") + ":" + os.environ["PATH"],
+                          "FZCHECK": self.path("bin/fzcheck"),
                           "TMPDIR": self.path("tmp")}
         self.script("a solver", PRINTS)
         self.script("bin/minizinc", MINIZINC)

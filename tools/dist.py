@@ -43,7 +43,7 @@ Description: proved checker for the output of FlatZinc solvers
 BEFORE_REMOVAL = """\
 #!/bin/sh
 set -e
-rm -rf /usr/share/fzcheck/__pycache__
+find /usr/share/fzcheck -name __pycache__ -prune -exec rm -rf {} +
 """
 
 

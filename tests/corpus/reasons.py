@@ -4,7 +4,7 @@
     reasons.py PROGRAM [COUNT] [SEED]
 
 Each constraint stands alone in a model, over literals, and fails by the tests of
-companions/fzcheck_rows.py. What `check --explain` tells as the reason is read here, and has to
+python/fzcheck/fuzz/rows.py. What `check --explain` tells as the reason is read here, and has to
 be so of these literals. COUNT is how many have to fail, 10,000 where none is given. Prints what
 isn't so, how many had a reason, and ends with 'N passed, M failed'."""
 import collections
@@ -18,7 +18,7 @@ import sys
 import tempfile
 
 import slow
-import fzcheck_relations as relations
+from fzcheck.fuzz import relations
 
 RELATIONS = {
     "": lambda a, b: a == b,

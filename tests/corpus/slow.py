@@ -4,7 +4,7 @@ docs/REPORT.md asks for, with --complete by the second filling, and no search.
 
 It follows docs/LANGUAGE.md, BUILTINS.md, STREAM.md, FILLING.md and REPORT.md in the plainest way,
 shares nothing with the checker, and serves to work out reports. Its table of builtins is that of
-companions/fzcheck_rows.py. It leaves out the limits on the
+python/fzcheck/fuzz/rows.py. It leaves out the limits on the
 lengths of texts and lists. Sets are listed number by number, and large ones are not for it
 (TooLargeToList)."""
 import io
@@ -13,10 +13,10 @@ import re
 import sys
 
 HERE = os.path.dirname(os.path.abspath(__file__))
-sys.path.insert(0, os.path.join(HERE, os.pardir, os.pardir, "companions"))
+sys.path.insert(0, os.path.join(HERE, os.pardir, os.pardir, "python"))
 # The tests that import this module take the tables from here.
-from fzcheck_rows import EITHER, FORMS, OTHER_TESTS, RESULTS, TESTS
-from fzcheck_rows import NotKnown, Row, same, total, where
+from fzcheck.fuzz.rows import EITHER, FORMS, OTHER_TESTS, RESULTS, TESTS
+from fzcheck.fuzz.rows import NotKnown, Row, same, total, where
 
 TOKEN = re.compile(
     rb"(?P<blank>[ \t\r\n]+|%[^\n]*)|(?P<word>[A-Za-z_][A-Za-z0-9_]*)"

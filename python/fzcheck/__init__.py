@@ -1,0 +1,1 @@
+"""What stands beside the program fzcheck: the programs fzcheck-*, and what they share."""

@@ -1,0 +1,1 @@
+"""`fzcheck-batch`: a season of many models and solvers."""

@@ -1,0 +1,1 @@
+"""`fzcheck-fuzz` and `fzcheck-shrink`: faults of solvers, found and made small."""

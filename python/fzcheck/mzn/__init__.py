@@ -1,0 +1,1 @@
+"""`fzcheck-mzn`: plans that `minizinc` printed."""
