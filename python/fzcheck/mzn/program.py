@@ -18,10 +18,10 @@ import tempfile
 from typing import Iterator, List, NamedTuple, NoReturn, Optional
 
 from fzcheck import common
-from fzcheck.mzn import told
 from fzcheck.mzn.model import MODEL, TABLE, Failed, Inputs, Model, compiled
 from fzcheck.mzn.plan import Plan, Refused
 from fzcheck.mzn.stream import Writer
+from fzcheck.mzn.told import Told
 
 REFUSED, WRONG_WORDS, UNREAD, INTERRUPTED = 4, 5, 6, 130
 OF_CHECK = ("--large", "--complete", "--cut", "--claims", "--claims=prove", "--explain",
@@ -138,7 +138,7 @@ def judge(words: Words, scratch: str) -> int:
     ran = checked(words, model, path)
     doing("")
     cut = None if writer.cut is None else (len(encoded(text[: writer.cut])), len(encoded(text)))
-    told = told.Told(model, path, name, text.split("\n"), writer.lines, cut)
+    told = Told(model, path, name, text.split("\n"), writer.lines, cut)
     sys.stdout.buffer.write(encoded(told.report(ran.stdout)))
     sys.stdout.flush()
     print(told.explanation(ran.stderr), end="", file=sys.stderr)
