@@ -23,7 +23,6 @@ from fzcheck.mzn import model as model_module
 from fzcheck.mzn.plan import Plan, Refused
 from fzcheck.mzn.stream import Writer
 from fzcheck.mzn.table import Table
-from fzcheck.mzn.told import Told
 from fzcheck.mzn.values import Array, Range, Reader, SetOf, Term, from_json
 
 COMMAND = os.path.join(ROOT, "python", "fzcheck-mzn")
@@ -150,42 +149,6 @@ def checked(place, what, plan, status, report, told, *words):
     expect(what, (status, report, []), (got[0], got[1].splitlines(), left))
 
 
-def verdicts(place):
-    for form in FORMS:
-        checked(place, form, kept(form), 0, GOOD, ())
-    plan = kept("plan.dzn")
-    late = ["block 1: violated: constraint 1 int_lin_le", *GOOD[1:2], "rejected: block 1"]
-    told = ("= model.mzn:18:12\n", "= start[dig] (X_INTRODUCED_0_) = 1, printed\n",
-            "= start[pour] (X_INTRODUCED_1_) = 3, printed\n")
-    checked(place, "too late", plan.replace("dig: 0", "dig: 1"), 1, late, told)
-    in_json = kept("plan.json").replace("[0, 3, 5]", "[1, 3, 5]")
-    checked(place, "too late, in JSON", in_json, 1, late, told)
-    starts = late[0].replace("1 int_lin_le", "3 array_var_int_element")
-    checked(place, "an enum's value", plan.replace("first = dig", "first = pour"), 1,
-            [starts, *late[1:]], ("first = pour, printed\n",))
-    checked(place, "the same", plan.replace("right = 1", "right = 2"), 1,
-            ["block 1: violated: printed right", *late[1:]],
-            ("plan:20: printed right differs in block 1\n   20 | right = 2;\n",
-             "= right is printed as 2 here"))
-    checked(place, "the objective", plan.replace("_objective = 8", "_objective = 7"), 1,
-            ["block 1: violated: constraint 7 int_lin_eq", *late[1:]], ("total = 7, printed",))
-    checked(place, "fixed", plan.replace("three = 3", "three = 4"), 1,
-            ["block 1: violated: domain of three", *late[1:]], ("three = 4, printed",))
-    checked(place, "optional", plan.replace("spare = <>", "spare = 3"), 0, GOOD, ())
-    checked(place, "optional, outside", plan.replace("spare = <>", "spare = 0"), 1,
-            ["block 1: violated: printed spare", *late[1:]], ("spare is 0 in line",))
-    checked(place, "another instance's parameter", "n = 3;\n" + plan, 1,
-            ["block 1: violated: printed n", *late[1:]],
-            ("plan:1: printed n differs in block 1\n   1 | n = 3;\n",))
-    checked(place, "not there", plan.replace("left = 1;\n", "_output = 3;\n"), 0, GOOD,
-            ("not in each solution: left", "hasn't them: _output"))
-    place.file("plan", plan.replace("first = dig", "first = pour"))
-    _, report, _ = place.run(COMMAND, "model.mzn", "data.dzn", "--output", "plan", "--json")
-    explained = [json.loads(line) for line in report.splitlines()][2]
-    expect("explained in JSON", [("first", "pour"), ("start[pour]", 3)],
-           [(one.get("element", one["name"]), one["value"]) for one in explained["variables"][:2]])
-
-
 def endings(place):
     plan = kept("plan.dzn")
     cut = plan.index("start"), plan.index("tool")
@@ -200,8 +163,8 @@ def endings(place):
             ("tells of an error: too bad",))
 
 
-def names_of_enums(place, model):
-    """Indices, loop variables and values that are of an enum are told by its names."""
+def names_of_enums(place):
+    """Indices and loop variables that are of an enum are told by its names."""
     place.file("loops.mzn", "constraint forall(\n  t, u in Task, i in 1..2, v in first(Task))(x);\n")
     path = place.path("loops.mzn")
     table = Table({"Task": ["dig", "pour", "big crane"]}, {"start": ["Task"], "crew": ["Task", ""]})
@@ -215,34 +178,6 @@ def names_of_enums(place, model):
         ("start[1]\n", "start[1]\n"), ("0\t0\tnix|2|3|2|3|t=1;", "0\t0\tnix|2|3|2|3|t=1;"),
     ):
         expect(f"table {before!r}", after, table.named(before))
-    told = Told(model, "", "plan", [], [], None)
-    for before, after in (
-        ("      = first = 2, printed\n", "      = first = pour, printed\n"),
-        ("      = task 4: first = 2, printed\n", "      = task 4: first = pour, printed\n"),
-        ("      = first is narrowed to 2..3, by its domain\n",
-         "      = first is narrowed to pour..build, by its domain\n"),
-        ("      = the domain of first is {1,3}\n", "      = the domain of first is {dig,build}\n"),
-        ("      = first = 2, not ≠ 2\n", "      = first = pour, not ≠ pour\n"),
-        ("      =   X_1_ = false: first = 2, not 3\n", "      =   X_1_ = false: first = pour, not build\n"),
-        ("      = first - day = 2 - 3 = -1, not 0\n", "      = first - day = 2 - 3 = -1, not 0\n"),
-        ("      =   10 | constraint start[1] = 2;\n", "      =   10 | constraint start[1] = 2;\n"),
-        ("printed, and in no constraint: start[1]\n", "printed, and in no constraint: start[dig]\n"),
-    ):
-        expect(f"told {before!r}", after, told.in_words(before))
-    answer = '{"answer":"undecided","unconstrained":["start[2]"]}\n'
-    expect("told in JSON", answer.replace("2", "pour"), told.report_line(answer))
-    variable = {"name": "first", "low": 1, "high": 2, "behind": ["X_1_ = false: first = 2, not 3"]}
-    told.name_variable(variable)
-    expect("a variable in JSON", {"name": "first", "low": "dig", "high": "pour",
-                                  "behind": ["X_1_ = false: first = pour, not build"]}, variable)
-    told = told._replace(lines=[4, 7])
-    line = '{"block":1,"verdict":"violated","point":"printed","name":"n","line":2,"column":1}\n'
-    expect("a line of the plan in JSON", line.replace('2,"column":1', "7"), told.report_line(line))
-    line = '{"explained":1,"line":1,"column":1,"message":"printed n differs in block 1"}\n'
-    expect("the same of a message", line.replace('1,"column":1', "4"), told.report_line(line))
-    line = '{"explained":1,"reason":"first = 2, not 3","notes":["the domain of first is {1,3}"]}\n'
-    expect("an explanation in JSON", {"explained": 1, "reason": "first = pour, not build", "notes": [
-        "the domain of first is {dig,build}"]}, json.loads(told.report_line(line)))
 
 
 def bad_inputs(place):
@@ -302,12 +237,11 @@ def main():
         for name in ("model.mzn", "data.dzn"):
             shutil.copy(os.path.join(KEPT, name), place.path(name))
         values()
-        verdicts(place)
         endings(place)
         bad_inputs(place)
         [entry] = os.listdir(place.path("cache/fzcheck"))
         model = model_module.load(place.path(f"cache/fzcheck/{entry}"))
-        names_of_enums(place, model)
+        names_of_enums(place)
         rand = random.Random(1)
         random_values(rand)
         random_texts(rand, model)

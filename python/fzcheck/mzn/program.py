@@ -1,13 +1,15 @@
 """Checks what `minizinc` printed for a model.
 
     fzcheck-mzn MODEL.mzn [DATA.dzn|DATA.json ..] [-D TEXT] [-I FOLDER] [--output FILE]
-                [--keep FOLDER] [OPTION of fzcheck check ..]
+                [--first] [--flatzinc] [--html FILE] [--keep FOLDER] [OPTION of fzcheck check ..]
 
 FILE, or standard input, is a plan as `minizinc` prints it: by the default output of a model without
 an output item, with --output-mode dzn or json, or with --json-stream; or a FlatZinc stream. The
 model is compiled, the plan turned into a stream, and `fzcheck check` judges that with --complete,
---cut and --explain: its report and its status are this program's. --keep leaves the model, the
-stream and the table of names in FOLDER.
+--cut and --explain=every. The report and what fails are in the words of the model, and the status
+is that of the check. --first stops at the first constraint that fails, --flatzinc shows the
+FlatZinc behind each, and --html writes a page of the plan. --keep leaves the model, the stream and
+the table of names in FOLDER.
 """
 import json
 import os
@@ -15,20 +17,22 @@ import shutil
 import subprocess
 import sys
 import tempfile
-from typing import Iterator, List, NamedTuple, NoReturn, Optional
+from typing import Dict, Iterator, List, NamedTuple, NoReturn, Optional
 
 from fzcheck import common
 from fzcheck.mzn.model import MODEL, TABLE, Failed, Inputs, Model, compiled
-from fzcheck.mzn.plan import Plan, Refused
+from fzcheck.mzn.page import page
+from fzcheck.mzn.plan import Plan, Refused, Solution
 from fzcheck.mzn.stream import Writer
-from fzcheck.mzn.told import Told
+from fzcheck.mzn.told import Source, Told
 
 REFUSED, WRONG_WORDS, UNREAD, INTERRUPTED = 4, 5, 6, 130
 OF_CHECK = ("--large", "--complete", "--cut", "--claims", "--claims=prove", "--explain",
-            "--explain=all", "--json")
+            "--explain=all")
 WITH_DATA = ("-D", "--cmdline-data", "--cmdline-json-data")
 WITH_FOLDER = ("-I", "--search-dir")
 WITH_FILE = ("-d", "--data", "-m", "--model")
+TELLING = ("--first", "--flatzinc", "--json")
 STREAM = "stream"
 
 
@@ -36,7 +40,9 @@ class Words(NamedTuple):
     inputs: Inputs
     plan: Optional[str]  # its file
     folder: Optional[str]  # where to keep what was made
+    page: Optional[str]  # the file of the page
     options: List[str]  # of `fzcheck check`
+    telling: Dict[str, bool]  # which of TELLING are given
 
 
 class Wrong(Exception):
@@ -46,11 +52,14 @@ class Wrong(Exception):
 def words_of(words: List[str]) -> Words:
     inputs = Inputs([], [], [])
     options: List[str] = []
-    places = {"--output": "", "--keep": ""}
+    places = {"--output": "", "--keep": "", "--html": ""}
+    telling = dict.fromkeys(TELLING, False)
     rest = iter(words)
     for word in rest:
         if word in places:
             places[word] = argument(word, rest)
+        elif word in telling:
+            telling[word] = True
         elif word in ("--known", "--complete-steps", "--tree"):
             options += [word, argument(word, rest)]
         elif word in OF_CHECK:
@@ -59,7 +68,8 @@ def words_of(words: List[str]) -> Words:
             add_input(inputs, word, rest)
     if not any(path.endswith(".mzn") for path in inputs.files):
         raise Wrong("there is no MODEL.mzn")
-    return Words(inputs, places["--output"] or None, places["--keep"] or None, options)
+    return Words(inputs, places["--output"] or None, places["--keep"] or None,
+                 places["--html"] or None, options, telling)
 
 
 def argument(word: str, rest: Iterator[str]) -> str:
@@ -108,10 +118,11 @@ def encoded(text: str) -> bytes:
 
 def checked(words: Words, model: Model, stream: str) -> "subprocess.CompletedProcess[str]":
     """Runs the program on the stream, which stands in this file."""
+    explain = "--explain" if words.telling["--first"] else "--explain=every"
+    options = common.with_defaults(words.options, ("--complete", "--cut", explain, "--json"))
     return subprocess.run(
-        [common.program() or "fzcheck", "check",
-         *common.with_defaults(words.options), "--names", os.path.join(model.folder, TABLE),
-         os.path.join(model.folder, MODEL), stream],
+        [common.program() or "fzcheck", "check", *options,
+         "--names", os.path.join(model.folder, TABLE), os.path.join(model.folder, MODEL), stream],
         stdout=subprocess.PIPE, stderr=subprocess.PIPE, encoding="utf-8", errors="surrogateescape")
 
 
@@ -123,10 +134,11 @@ def judge(words: Words, scratch: str) -> int:
     say(model.told)
     plan, writer = Plan(text), Writer(model)
     try:
-        stream = writer.stream(plan.parts())
+        parts = list(plan.parts())
+        stream = writer.stream(iter(parts))
     except Refused as error:
         say(f"refused: {name}:{error.line}: {error}")
-        if "--json" in words.options:
+        if words.telling["--json"]:
             print(json.dumps({"refused": "plan", "line": error.line, "message": str(error)}))
         return REFUSED
     if words.folder:
@@ -138,12 +150,26 @@ def judge(words: Words, scratch: str) -> int:
     ran = checked(words, model, path)
     doing("")
     cut = None if writer.cut is None else (len(encoded(text[: writer.cut])), len(encoded(text)))
-    told = Told(model, path, name, text.split("\n"), writer.lines, cut)
-    sys.stdout.buffer.write(encoded(told.report(ran.stdout)))
-    sys.stdout.flush()
-    print(told.explanation(ran.stderr), end="", file=sys.stderr)
+    solutions = [part for part in parts if isinstance(part, Solution)]
+    source = Source(model, name, text.split("\n"), solutions, writer.lines, cut)
+    told = Told(source, list(map(json.loads, ran.stdout.splitlines())))
+    write(words, told)
+    sys.stderr.write(ran.stderr)
     tell(plan, writer)
     return ran.returncode
+
+
+def write(words: Words, told: Told) -> None:
+    """Writes the report, what fails, and the page."""
+    in_json = words.telling["--json"]
+    for line in told.in_json() if in_json else told.report():
+        sys.stdout.buffer.write(encoded(f"{line}\n"))
+    sys.stdout.flush()
+    for line in () if in_json else told.explanation(words.telling["--flatzinc"]):
+        print(line, file=sys.stderr)
+    if words.page:
+        with open(words.page, "w", encoding="utf-8", errors="replace") as file:
+            file.write(page(told, words.inputs.files))
 
 
 def copied(model: Model, folder: str) -> Model:
