@@ -5,10 +5,10 @@ from fzcheck.mzn.fitting import did_you_mean
 from fzcheck.mzn.model import Inputs
 
 OF_CHECK = ("--large", "--complete", "--cut", "--claims", "--claims=prove", "--explain",
-            "--explain=all", "--json")
+            "--explain=all")
 VALUED_OF_CHECK = ("--complete-steps", "--tree")
-OWN = ("--strict",)
-VALUED = ("--output", "--keep", "--known")
+OWN = ("--strict", "--first", "--flatzinc", "--json")
+VALUED = ("--output", "--keep", "--known", "--html")
 WITH_DATA = ("-D", "--cmdline-data", "--cmdline-json-data")
 WITH_FOLDER = ("-I", "--search-dir")
 WITH_FILE = ("-d", "--data", "-m", "--model")
@@ -21,9 +21,13 @@ class Words(NamedTuple):
     inputs: Inputs
     plan: Optional[str]  # its file, or else standard input
     folder: Optional[str]  # where to keep what was made
+    page: Optional[str]  # the file of the page
     known: List[str]  # the files of other plans
-    is_strict: bool  # whether all names have to be printed
+    own: List[str]  # the options of OWN that are given
     options: List[str]  # of `fzcheck check`
+
+    def has(self, option: str) -> bool:
+        return option in self.own
 
 
 class Wrong(Exception):
@@ -52,8 +56,8 @@ def words_of(words: List[str]) -> Words:
     if not any(path.endswith(".mzn") for path in inputs.files):
         raise Wrong("there is no MODEL.mzn")
     plan = last(values["--output"])
-    return Words(inputs, None if plan == "-" else plan, last(values["--keep"]), values["--known"],
-                 "--strict" in own, options)
+    return Words(inputs, None if plan == "-" else plan, last(values["--keep"]),
+                 last(values["--html"]), values["--known"], own, options)
 
 
 def separated(words: List[str]) -> Iterator[str]:

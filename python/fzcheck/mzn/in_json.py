@@ -32,6 +32,7 @@ class JsonReader:
         self.tokens = tokens_of(text, start)
         self.next = next(self.tokens)
         self.end, self.level = start, 0  # where the last token ends, and how deep it is
+        self.text_end = len(text)
         self.starts: List[int] = []  # of the elements of arrays in the member that is read
 
     def object(self) -> Members:
@@ -60,8 +61,9 @@ class JsonReader:
 
     def fail(self) -> Unreadable:
         token = self.next
+        is_last = token.start + len(token.text) == self.text_end
         return Misformed(f"{token.text!r} isn't expected" if token.text else "it ends too soon",
-                         token.start, token.sort == "end")
+                         token.start, is_last)
 
     def listed(self, close: str, read: Callable[[], Any]) -> None:
         """Reads parts with commas between them, up to the closing mark."""

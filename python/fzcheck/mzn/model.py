@@ -201,9 +201,16 @@ class Flattening:
         with open(path[LISTED], "w", encoding="utf-8") as file:
             file.write("".join(map(ENUM.format, self.enums)))
             file.write(f'output :: "fzcheck" [{shown}"fzcheck:"];\n')
-        return run(*self.words, "-c", *self.inputs.words, path[LISTED], "--output-mode", "dzn",
-                   "--output-output-item", "--only-sections", "fzcheck", "--fzn", path[MODEL],
-                   "--ozn", path[OUTPUT], "--output-paths-to-file", path[TABLE])
+        words = (*self.words, "-c", *self.inputs.words, path[LISTED], "--output-mode", "dzn",
+                 "--output-output-item", "--only-sections", "fzcheck", "--fzn", path[MODEL],
+                 "--ozn", path[OUTPUT])
+        ran = run(*words, "--output-paths-to-file", path[TABLE])
+        # Where it tells paths MiniZinc 2.6.4 takes the arguments of all `int2float` of a
+        # comprehension for one, or an assertion of it fails.
+        if ran.returncode < 0 or "\nconstraint int2float(" in text_in(self.folder, MODEL):
+            with open(path[TABLE], "w", encoding="utf-8"):
+                return run(*words)
+        return ran
 
 
 def write_names(folder: str, types: Dict[str, Any], listed: List[str], told: str) -> None:
@@ -224,9 +231,9 @@ def write_names(folder: str, types: Dict[str, Any], listed: List[str], told: str
     with open(os.path.join(folder, MODEL), "wb") as file:
         whole = text[:at] + "".join(added.items) + text[at:]
         file.write(whole.encode(errors="surrogateescape"))
-    table = Table(values, names)
+    table = Table(values, names).named(text_in(folder, TABLE))
     with open(os.path.join(folder, TABLE), "wb") as file:
-        file.write(table.named(text_in(folder, TABLE)).encode(errors="surrogateescape"))
+        file.write(table.encode(errors="surrogateescape"))
     with open(os.path.join(folder, NAMES), "w", encoding="utf-8") as file:
         found = {"names": names, "enums": values, "told": told, "floats": floats(flat)}
         json.dump(found, file)

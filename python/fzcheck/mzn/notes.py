@@ -1,51 +1,51 @@
-"""What isn't checked of a plan, or isn't printed: lines of the report, which change its answer."""
-import json
-from typing import List, NamedTuple, Tuple
+"""What `fzcheck check` can't know of a plan: how a name differs that isn't in the FlatZinc, what
+isn't checked and what isn't printed. These become parts of its report, and may change its answer."""
+from typing import Any, Dict, List, NamedTuple, Optional, Tuple
 
+from fzcheck.mzn.stream import Writer
+
+Object = Dict[str, Any]
 ACCEPTED, UNDECIDED = 0, 2
 
 
 class Notes(NamedTuple):
-    unchecked: List[str]  # names that are printed and can't be checked
-    missing: List[str]  # names that a solution doesn't print
-    has_bare: bool  # whether a solution prints none that is checked
-    is_strict: bool  # whether all have to be printed
+    writer: Writer
+    known: Dict[str, str]  # what known streams are called, by their paths
+    is_strict: bool  # whether all names have to be printed
 
-    def added(self, report: str, status: int) -> Tuple[str, int]:
-        """The report with these lines before its answer, and the status."""
-        *lines, answer = report.splitlines() or [""]
-        is_json = answer.startswith("{")
+    def added(self, objects: List[Object], status: int) -> Tuple[List[Object], int]:
+        """The objects of a report with these, and the status."""
+        found = [self.told(one) for one in objects]
+        if not found or "answer" not in found[-1]:
+            return found, status
         is_accepted = status == ACCEPTED
-        lines += self.in_json(is_accepted) if is_json else self.in_text(is_accepted)
+        answer = found.pop()
+        if self.writer.unchecked:
+            found.append({"not_checked": list(self.writer.unchecked)})
+        if self.writer.missing:
+            found.append({"not_printed": list(self.writer.missing), "found": is_accepted})
         why = self.reason()
         if is_accepted and why:
             status = UNDECIDED
-            answer = undecided(answer) if is_json else f"undecided: {why}"
-        return "".join(f"{line}\n" for line in (*lines, answer) if line), status
+            answer = {**answer, "answer": "undecided", "why": why}
+        return [*found, answer], status
 
-    def reason(self) -> str:
+    def reason(self) -> Optional[str]:
         """Why a plan whose blocks are all satisfied isn't accepted."""
-        if self.unchecked:
+        if self.writer.unchecked:
             return "not all that is printed is checked"
-        if self.has_bare:
+        if self.writer.bare:
             return "a solution prints nothing that is checked"
-        return "not all is printed" if self.missing and self.is_strict else ""
+        return "not all is printed" if self.writer.missing and self.is_strict else None
 
-    def in_text(self, is_accepted: bool) -> List[str]:
-        found = ", found values that fit" if is_accepted else ""
-        lines = [f"not checked: {', '.join(self.unchecked)}"] if self.unchecked else []
-        if self.missing:
-            lines.append(f"not printed: {' and '.join(self.missing)}{found}")
-        return lines
-
-    def in_json(self, is_accepted: bool) -> List[str]:
-        found: List[object] = [{"not_checked": self.unchecked}] if self.unchecked else []
-        if self.missing:
-            found.append({"not_printed": self.missing, "found": is_accepted})
-        return [json.dumps(one, ensure_ascii=False, separators=(",", ":")) for one in found]
-
-
-def undecided(answer: str) -> str:
-    """The answer in JSON, which isn't `accepted`."""
-    return json.dumps({**json.loads(answer), "answer": "undecided"}, ensure_ascii=False,
-                      separators=(",", ":"))
+    def told(self, found: Object) -> Object:
+        """An object of the report, with what it can't tell."""
+        refuted = found.get("refuted_by", {})
+        if "file" in refuted:
+            path = refuted["file"]
+            return {**found, "refuted_by": {**refuted, "file": self.known.get(path, path)}}
+        text = self.writer.differing.get(found.get("line", 0), "")
+        if "explained" in found and found["message"].startswith("printed ") and text:
+            parts = [{"kind": "words", "text": text}]
+            return {**found, "reason": text, "reason_parts": parts}
+        return found

@@ -32,6 +32,10 @@ class Printed(NamedTuple):
     line: int
     lines: List[int]
 
+    def line_of(self, element: int) -> int:
+        """The line of an element, from 0, or of the name where that isn't known."""
+        return self.lines[element] if element < len(self.lines) else self.line
+
 
 class Solution(NamedTuple):
     values: List[Printed]
@@ -53,11 +57,11 @@ Part = Union[Solution, Claim, Cut]
 
 
 class Refused(Exception):
-    """A plan that can't be checked: what is wrong with it, and in which line."""
+    """A plan that can't be checked: what is wrong with it, and in which line of which plan."""
 
-    def __init__(self, message: str, line: int) -> None:
+    def __init__(self, message: str, line: int, plan: str = "") -> None:
         super().__init__(message)
-        self.line = line
+        self.line, self.plan = line, plan
 
 
 class Plan:

@@ -1,17 +1,22 @@
 """Checks what `minizinc` printed for a model.
 
     fzcheck-mzn MODEL.mzn [DATA.dzn|DATA.json ..] [-D TEXT] [-I FOLDER] [-o|--output PLAN]
-                [--known PLAN ..] [--strict] [--keep FOLDER] [OPTION of fzcheck check ..]
+                [--known PLAN ..] [--strict] [--first] [--flatzinc] [--html FILE] [--keep FOLDER]
+                [OPTION of fzcheck check ..]
     fzcheck-mzn --help, fzcheck-mzn --version
 
 PLAN, or standard input, is what `minizinc` prints: by the default output of a model without an
 output item, with --output-mode dzn or json, or with --json-stream; or a FlatZinc stream. The model
 is compiled, the plan turned into a stream, and `fzcheck check` judges that with --complete, --cut
-and --explain: its report and its status are this program's.
+and --explain=every. The report and what fails are in the words of the model, and the status is that
+of the check.
 
   -o, --output PLAN   the plan's file, or - for standard input
   --known PLAN        another plan, which may show that a claim of this one is wrong
   --strict            status 2 where a solution doesn't print all names of the model
+  --first             stops at the first constraint that fails
+  --flatzinc          shows the FlatZinc behind each constraint that fails
+  --html FILE         writes a page of the plan
   --keep FOLDER       leaves the model, the stream and the table of names in FOLDER
 
 An example: minizinc roster.mzn roster.dzn | fzcheck-mzn roster.mzn roster.dzn
@@ -29,10 +34,11 @@ from fzcheck.mzn.command import Words, Wrong, words_of
 from fzcheck.mzn.computed import OutputModel
 from fzcheck.mzn.model import MODEL, TABLE, Failed, Model, compiled
 from fzcheck.mzn.notes import Notes
-from fzcheck.mzn.plan import Plan, Refused
+from fzcheck.mzn.page import page
+from fzcheck.mzn.plan import Plan, Refused, Solution
 from fzcheck.mzn.sources import SourceItem, declared, items_of
 from fzcheck.mzn.stream import Writer
-from fzcheck.mzn.told import Told
+from fzcheck.mzn.told import Source, Told
 
 DONE, REFUSED, WRONG_WORDS, UNREAD, INTERRUPTED = 0, 4, 5, 6, 130
 STREAM = "stream"
@@ -67,6 +73,7 @@ class Translated(NamedTuple):
     name: str
     text: str
     plan: Plan
+    solutions: List[Solution]
     writer: Writer
     path: str  # of the stream
 
@@ -83,13 +90,15 @@ class Translation:
         try:
             plan = Plan(text)
             writer = Writer(self.model, OutputModel(self.model, self.scratch), self.sources)
-            stream = writer.stream(plan.parts())
+            parts = list(plan.parts())
+            stream = writer.stream(iter(parts))
         except Refused as error:
             error.plan = name
             raise
         with open(path, "w", encoding="utf-8", errors="surrogateescape") as file:
             file.write(stream)
-        return Translated(name, text, plan, writer, path)
+        solutions = [part for part in parts if isinstance(part, Solution)]
+        return Translated(name, text, plan, solutions, writer, path)
 
     def refuse_floats(self) -> None:
         """A model with variables of floats is named by them and by their lines."""
@@ -107,8 +116,10 @@ def checked(words: Words, model: Model, stream: str,
             known: List[str]) -> "subprocess.CompletedProcess[str]":
     """Runs the program on the stream, which stands in this file."""
     others = [word for path in known for word in ("--known", path)]
+    explain = "--explain" if words.has("--first") else "--explain=every"
+    options = common.with_defaults(words.options, ("--complete", "--cut", explain, "--json"))
     return subprocess.run(
-        [common.program() or "fzcheck", "check", *common.with_defaults(words.options), *others,
+        [common.program() or "fzcheck", "check", *options, *others,
          "--names", os.path.join(model.folder, TABLE), os.path.join(model.folder, MODEL), stream],
         stdout=subprocess.PIPE, stderr=subprocess.PIPE, encoding="utf-8", errors="surrogateescape")
 
@@ -146,22 +157,29 @@ def tell(words: Words, model: Model, plan: Translated, known: List[Translated],
     """Reports what the program found, in the words of the model, and what isn't checked."""
     writer, text = plan.writer, plan.text
     cut = None if writer.cut is None else (len(encoded(text[: writer.cut])), len(encoded(text)))
-    told = Told(model, plan.path, plan.name, text.split("\n"), writer.lines, cut)
-    notes = Notes(list(writer.unchecked), list(writer.missing), writer.bare > 0, words.is_strict)
-    report, status = notes.added(told.report(ran.stdout), ran.returncode)
-    explanation = told.explanation(ran.stderr)
-    for one in known:
-        report = report.replace(one.path, one.name)
-    for number, message in enumerate(writer.differing, 1):
-        report, explanation = (differing(one, number, message) for one in (report, explanation))
-    sys.stdout.buffer.write(encoded(report))
-    sys.stdout.flush()
-    print(explanation, end="", file=sys.stderr)
+    source = Source(model, plan.name, text.split("\n"), plan.solutions, writer.lines, cut)
+    notes = Notes(writer, {one.path: one.name for one in known}, words.has("--strict"))
+    objects, status = notes.added(list(map(json.loads, ran.stdout.splitlines())), ran.returncode)
+    write(words, Told(source, objects))
+    sys.stderr.write(ran.stderr)
     for message in plan.plan.messages:
         say(f"the plan tells of an error: {message}")
     if writer.cut is not None and not writer.blocks:
         say("no line of ten dashes ends a solution: if the plan is whole, put one at its end")
     return status
+
+
+def write(words: Words, told: Told) -> None:
+    """Writes the report, what fails, and the page."""
+    in_json = words.has("--json")
+    for line in told.in_json() if in_json else told.report():
+        sys.stdout.buffer.write(encoded(f"{line}\n"))
+    sys.stdout.flush()
+    for line in () if in_json else told.explanation(words.has("--flatzinc")):
+        print(line, file=sys.stderr)
+    if words.page:
+        with open(words.page, "w", encoding="utf-8", errors="replace") as file:
+            file.write(page(told, words.inputs.files))
 
 
 def main(words: List[str]) -> int:

@@ -58,7 +58,7 @@ def declared(items: Iterable[SourceItem], name: str) -> Optional[Declared]:
     word = rf"'?{re.escape(name)}'?\s*"
     declaration = re.compile(rf"([^:]*?)\s*:\s*{word}(?:::[^=]*)?(?:=(?!=)(.*))?$", re.S)
     assignment = re.compile(rf"()(?:enum\s+)?{word}=(?!=)(.*)$", re.S)
-    found = None
+    found: Optional[Declared] = None
     for item in items:
         match = declaration.match(item.text) or assignment.match(item.text)
         if match and not NOT_DECLARED.match(item.text):

@@ -1,6 +1,6 @@
 """Turns what was printed into a FlatZinc stream."""
 import re
-from typing import Any, Dict, Iterator, List, NamedTuple, Optional, Set
+from typing import Any, Dict, Iterator, List, NamedTuple, Optional, Set, Tuple
 
 from fzcheck.mzn.computed import OutputModel, Wanted, is_close, is_same
 from fzcheck.mzn.fitting import Unfit, did_you_mean, fitted, literal, shown
@@ -33,9 +33,8 @@ class Writer:
         self.unchecked: Dict[str, None] = {}  # names, in order
         self.missing: Dict[str, None] = {}
         self.bare = 0  # how many solutions have no name that is checked
-        # What is wrong with a name that the FlatZinc hasn't; the stream gives it the number, from
-        # 1, of this, in the place of 0.
-        self.differing: List[str] = []
+        # How a name differs that the FlatZinc hasn't, by the line of the stream, from 1.
+        self.differing: Dict[int, str] = {}
         self.cut: Optional[int] = None  # the place in the plan
         self.values: Dict[str, Any] = {}  # in the block, of FlatZinc's variables
         self.placed: Set[str] = set()  # those of them that are written
@@ -91,8 +90,7 @@ class Writer:
         try:
             self.fitted(value, found, fitted(value.value, value.name, found, self.model.enums))
         except Unfit as error:
-            has_line = error.element is not None and error.element < len(value.lines)
-            line = value.lines[error.element or 0] if has_line else value.line
+            line = value.line if error.element is None else value.line_of(error.element)
             told = str(error) if error.is_named else f"{value.name}: {error}"
             raise Refused(told, line) from None
         except Unreadable as error:
@@ -134,15 +132,19 @@ class Writer:
         clashes = [self.clash(there, inner, element, found)
                    for (there, inner), element in zip(found.variables, elements)]
         names = element_names(value.name, found, self.model.enums)
-        told = [f"{name} {'is absent' if element is None else '= ' + self.shown(element, found)}"
-                f", but {clash}" for name, element, clash in zip(names, elements, clashes) if clash]
-        self.compared(value, found, told[0] if told else "")
+        told = [(f"{name} {'is absent' if element is None else '= ' + self.shown(element, found)}"
+                 f", but {clash}", place) for place, (name, element, clash)
+                in enumerate(zip(names, elements, clashes)) if clash]
+        text, place = told[0] if told else ("", 0)
+        item = self.compared(found, text, len(self.lines) + 1)
+        self.put(item, value.line_of(place) if told else value.line)
 
-    def compared(self, value: Printed, found: Name, told: str) -> None:
-        """Writes whether a value is right of which the FlatZinc only has a 0."""
+    def compared(self, found: Name, told: str, line: int) -> str:
+        """The item for a value of which the FlatZinc only has a 0; `told` is how it differs, and
+        `line` where it stands in the stream, from 1."""
         if told:
-            self.differing.append(told)
-        self.put(f"{found.flat} = {len(self.differing) if told else 0};", value.line)
+            self.differing[line] = told
+        return f"{found.flat} = {int(bool(told))};"
 
     def shown(self, value: Any, found: Name) -> str:
         return shown(value, self.model.enums.get(found.enum, []))
@@ -179,21 +181,20 @@ class Writer:
     def compute(self) -> None:
         """Fills in the lines that were kept free, or leaves them empty where nothing is known."""
         found = self.output.computed(self.blocks) if self.waiting else []
-        lines = self.lines
         for place, block, value, elements in self.waiting:
             name = self.model.names[value.name]
             told = self.difference(value, name, elements, found[block].get(value.name))
             if told is None:
                 self.unchecked[value.name] = None
-            else:
-                self.compared(value, name, told)
-                self.pieces[place] = self.pieces.pop()
-                lines.pop()
+                continue
+            text, element = told
+            self.pieces[place] = self.compared(name, text, place + 1) + "\n"
+            self.lines[place] = value.line_of(element) if text else value.line
 
     def difference(self, value: Printed, name: Name, elements: List[Any],
-                   computed: Any) -> Optional[str]:
-        """How a value differs from the one that was computed: an empty text where it doesn't, and
-        nothing where that can't be told."""
+                   computed: Any) -> Optional[Tuple[str, int]]:
+        """How a value differs from the one that was computed, and in which element: an empty text
+        where it doesn't, and nothing where that can't be told."""
         try:
             right = fitted(computed, value.name, name, self.model.enums)
         except (Unfit, Unreadable):
@@ -203,14 +204,14 @@ class Writer:
         pairs = [(normal(one), normal(other)) for one, other in zip(elements, right)]
         differing = [place for place, pair in enumerate(pairs) if not is_same(*pair)]
         if all(is_close(*pairs[place]) for place in differing):
-            return None if differing else ""
+            return None if differing else ("", 0)
         place = next(place for place in differing if not is_close(*pairs[place]))
         named = list(element_names(value.name, name, self.model.enums))
         source = declared(self.sources, value.name)
         told = f": {source.value}, {source.place}".replace(": , ", ": ") if source else ""
         return (f"{named[place] if place < len(named) else value.name} is printed as "
                 f"{self.shown(elements[place], name)} here, and is "
-                f"{self.shown(right[place], name)}{told}")
+                f"{self.shown(right[place], name)}{told}", place)
 
 
 def normal(value: Any) -> Any:

@@ -33,10 +33,9 @@ class Table:
 
     def named(self, text: str) -> str:
         """The table, with a line for each variable that has a name."""
-        lines = text.split("\n")
-        there = {line.partition("\t")[0] for line in lines}
-        more = [f"{name}\t{told}\t" for name, told in self.found.items() if name not in there]
-        return "\n".join([*map(self.line, lines[:-1]), *more, lines[-1]])
+        there = {line.partition("\t")[0] for line in text.split("\n")}
+        more = [f"{name}\t{told}\t\n" for name, told in self.found.items() if name not in there]
+        return "\n".join(map(self.line, text.split("\n"))) + "".join(more)
 
     def variables(self, name: str, found: Name) -> Iterator[Tuple[str, str]]:
         """The compiler's variables for a name, and what each is called in the model."""

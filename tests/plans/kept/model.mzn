@@ -15,6 +15,7 @@ var 1..5: left;
 var 1..5: right;
 var set of 1..6: odd;
 var int: total = sum(start);
+var int: last = max(start) + n;
 constraint start[dig] + 3 <= start[pour] /\ start[pour] + 2 <= start[build];
 constraint three = 3 /\ left = right /\ start[first] = 0 /\ card(odd) = 2;
 constraint tool != Own(dig) /\ with[1] subset with[2] /\ crew[dig, 0] != crew[build, 1];
