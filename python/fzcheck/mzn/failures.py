@@ -4,7 +4,7 @@ A failure is a constraint, a domain, a definition, a printed value or the object
 can't hold, under the values of a block, or that leaves it undecided."""
 from typing import Any, Dict, Iterator, List, NamedTuple, Optional, Tuple
 
-from fzcheck.mzn.items import Place, place_in, words, written_name
+from fzcheck.mzn.items import Place, place_in, words
 from fzcheck.mzn.plan import Solution
 from fzcheck.mzn.wording import Wording, json_text, printed_values, value_text
 
@@ -95,8 +95,7 @@ class Reader:
             return str(found["message"]).rpartition(" in block")[0].replace(" differs", "")
         if constraint:
             model = found.get("model", {})
-            return (", ".join(model.get("names", ()))
-                    or written_name(self.items.row(found["line"]).path)
+            return (", ".join(model.get("names", ())) or self.items.subject(found["line"])
                     or (NAMELESS if "place" in model else str(constraint)))
         name = self.items.row(found["line"]).name
         return f"{point} of {name}" if point in ("domain", "definition") else name

@@ -15,15 +15,21 @@ class Group(NamedTuple):
     failures: List[Failure]
 
     @property
-    def head(self) -> str:
+    def what(self) -> str:
+        """What fails, and how often."""
         first, count = self.failures[0], len(self.failures)
-        place = f"{first.place}: " if first.place else ""
         subject = "the constraint" if first.subject == NAMELESS else first.subject
-        times = TIMES.get(count, f" {count} times")
+        return f"{subject} {first.verb}{TIMES.get(count, f' {count} times')}"
+
+    @property
+    def head(self) -> str:
+        """The same with its place, and the values of loop variables with which it fails."""
+        place = self.failures[0].place
         listed = list(dict.fromkeys(", ".join(one.loops) for one in self.failures if one.loops))
         left = len(listed) - MOST_LISTED
         with_values = "; ".join(listed[:MOST_LISTED]) + (f"; and {left} more" if left > 0 else "")
-        return f"{place}{subject} {first.verb}{times}" + (with_values and f": with {with_values}")
+        front = f"{place}: " if place else ""
+        return f"{front}{self.what}" + (with_values and f": with {with_values}")
 
     def lines(self, with_flatzinc: bool) -> Iterator[str]:
         """The group with its line of the model, and the values of its first failures."""

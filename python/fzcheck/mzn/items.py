@@ -13,6 +13,7 @@ from fzcheck.mzn.stream import OF_NO_MODEL
 WORD = re.compile(r"[A-Za-z_]\w*")
 DECLARED = re.compile(r"[^:]+: (\w+)")
 DEFINES = re.compile(r"defines_var\((\w+)\)")
+NOTED = re.compile(r'mzn_constraint_name\(("(?:[^"\\]|\\.)*")\)')
 NAMED = re.compile(r'\bconstraint\s*::\s*("(?:[^"\\\n]|\\.)*")\s*$')
 
 
@@ -36,6 +37,7 @@ class Constraint(NamedTuple):
     number: int
     name: str
     arguments: str  # the text between its parentheses
+    noted: str  # its name in the model, where the compiler has it
 
     def __str__(self) -> str:
         return f"constraint {self.number} {self.name}"
@@ -68,6 +70,7 @@ class Items:
     def __init__(self, folder: str) -> None:
         self.lines = text_of(os.path.join(folder, MODEL)).split("\n")
         self.arrays: Dict[str, List[str]] = {}  # the variables in each
+        self.declared_at: Dict[str, int] = {}  # the lines of arrays
         self.definers: Dict[str, str] = {}  # of a variable, the arguments of what defines it
         self.constraints: Dict[int, Constraint] = {}  # by line, from 1
         self.rows: Dict[str, Row] = {}
@@ -76,6 +79,7 @@ class Items:
                 self.add_constraint(number, line)
             elif line.startswith("array "):
                 declared, _, value = line.partition(" = [")
+                self.declared_at[self.declared(declared)] = number
                 self.arrays[self.declared(declared)] = words(value.rpartition("]")[0])
         for line in text_of(os.path.join(folder, TABLE)).split("\n"):
             columns = line.split("\t")
@@ -86,7 +90,9 @@ class Items:
         head, _, notes = line.partition("::")
         name, _, arguments = head[len("constraint "):].partition("(")
         arguments = arguments.rpartition(")")[0]
-        self.constraints[number] = Constraint(len(self.constraints) + 1, name, arguments)
+        noted = NOTED.search(notes)
+        self.constraints[number] = Constraint(
+            len(self.constraints) + 1, name, arguments, noted[1] if noted else "")
         for variable in DEFINES.findall(notes):
             self.definers.setdefault(variable, arguments)
 
@@ -101,6 +107,10 @@ class Items:
         constraint = self.constraints.get(line)
         name = str(constraint.number - 1) if constraint else self.declared(self.lines[line - 1])
         return self.rows.get(name, Row(name, ""))
+
+    def subject(self, line: int) -> str:
+        """The model's name of the constraint in this line, in quotes."""
+        return self.constraints[line].noted or written_name(self.row(line).path)
 
     def name(self, variable: str) -> str:
         """What the model calls a variable of the FlatZinc; an empty text where it has no name."""
@@ -125,6 +135,19 @@ class Items:
             elif variable in self.definers:
                 waiting += words(self.definers[variable])[::-1]
         return list(found)
+
+
+def item_of(path: str) -> Place:
+    """The place of the model's item that a path begins with."""
+    fields = path.split(";")[0].split("|")
+    return Place(shortened(fields[0]), int(fields[1]), int(fields[2]))
+
+
+def loops_of(path: str) -> List[str]:
+    """The values of the loop variables in a path, in the file that the path begins with."""
+    segments = [segment.split("|") for segment in path.split(";")]
+    return [fields[5].replace("=", " = ", 1) for fields in segments
+            if fields[0] == segments[0][0] and len(fields) == 6 and "=" in fields[5]]
 
 
 def written_name(path: str) -> str:

@@ -92,7 +92,8 @@ class Wording:
 
     def part_name(self, part: Part) -> str:
         """The model's name of the variable, or the element, that a part is about."""
-        variable, element = str(part["variable"]), part.get("element")
+        variable = str(part["variable"])
+        element: Optional[int] = part.get("element")
         names = element_names(self.model, variable)
         if element is None or variable not in self.model.names or element > len(names):
             inner = self.items.arrays.get(variable, [])
