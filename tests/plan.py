@@ -215,7 +215,7 @@ def printed(place):
         "not printed: spare, three and right, found values that fit", NOT_ALL], ())
     wrong = ["block 1: violated: printed last", GOOD[1], "rejected: block 1"]
     checked(place, "computed otherwise", "last = 8;\n" + plan, 1, wrong,
-            ("= last is printed as 8 here, and is 7: max(start) + n, model.mzn:18\n",))
+            ("= last is printed as 8 here, and is 7: max(start) + n, model.mzn:21\n",))
     place.file("computed", "")
     unchecked = [*GOOD[:2], "not checked: last", NOT_ALL]
     checked(place, "not computed", "last = 7;\n" + plan, 2, unchecked, ())

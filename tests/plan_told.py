@@ -27,7 +27,7 @@ def verdicts(place):
     for form in FORMS:
         checked(place, form, kept(form), 0, GOOD, ())
     plan = kept("plan.dzn")
-    late = violated("constraint at model.mzn:19")
+    late = violated("constraint at model.mzn:18")
     told = ("model.mzn:18:12: the constraint fails\n   18 | constraint start[dig] + 3 <= start",
             "\n      | " + " " * 11 + "^" * 29 + "\n", "= start[dig] = 1\n", "= start[pour] = 3\n")
     checked(place, "too late", plan.replace("dig: 0", "dig: 1"), 1, late, told)
