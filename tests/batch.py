@@ -137,6 +137,7 @@ class Place:
         self.folder = pathlib.Path(folder)
         for name in ("bin", "models", "streams"):
             (self.folder / name).mkdir()
+        self.program = program
         (self.folder / "bin" / "fzcheck").symlink_to(program)
         self.variables = {"PATH": f"{self.folder}/bin:{os.environ['PATH']}",
                           "FZCHECK": f"{self.folder}/bin/fzcheck"}

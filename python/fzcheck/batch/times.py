@@ -49,8 +49,9 @@ def mapped(path: str) -> Iterator[Bytes]:
 
 
 def stamps_among(text: Bytes, blocks: Collection[int], form: bytes) -> Stamps:
-    """The stamps of one form among the lines of a stream. One inside a block is that block's, one
-    after a marker that of the block before, unless that has one."""
+    """The stamps of one form among the lines of a stream. One inside a block is that block's, and
+    a time elapsed after a marker that of the block before, unless that has one: a statistic there
+    may be of the whole search."""
     found: Dict[int, float] = {}
     ended, is_open, end = 0, False, None
     for match in re.finditer(LINES % form, text, re.M):
@@ -61,7 +62,7 @@ def stamps_among(text: Bytes, blocks: Collection[int], form: bytes) -> Stamps:
         else:
             end = float(match[2])
             block = ended + is_open
-            if block in blocks:
+            if block in blocks and (is_open or form is ELAPSED):
                 found.setdefault(block, end)
     return Stamps(found, end)
 
