@@ -32,7 +32,7 @@ static struct refused reads, writes;
 static long nothing, onward, piece;
 static int log_to = -1, each_to = -1, refuses_all;
 
-enum { DESCRIPTORS = 32, MOST_SECONDS = 60, PIECE = 65536, LINE = 64 };
+enum { DESCRIPTORS = 32, MOST_SECONDS = 600, PIECE = 65536, LINE = 64 };
 
 static long number(const char *name, long otherwise) {
     const char *text = getenv(name);
