@@ -9,41 +9,36 @@ import os
 import re
 import subprocess
 import sys
+from typing import Set
+
+from expecting import end, expect, first
 
 ROOT = os.path.dirname(os.path.dirname(os.path.abspath(__file__)))
 ASK = """source "$0"; COMP_WORDS=("$@"); COMP_CWORD=$(($# - 1)); _fzcheck
 echo "${COMPREPLY[@]}" """
-passed = failed = 0
 
 
-def expect(what, wanted, got):
-    global passed, failed
-    passed, failed = passed + (wanted == got), failed + (wanted != got)
-    if wanted != got:
-        print(f"failed: {what}: {sorted(wanted)} wanted, {sorted(got)} found")
-
-
-def read(path):
-    with open(os.path.join(ROOT, path)) as file:
+def read(path: str) -> str:
+    with open(os.path.join(ROOT, path), encoding="utf-8") as file:
         return file.read()
 
 
-def said(*words):
+def said(*words: str) -> str:
     """What a command says, on either stream."""
     return subprocess.run(words, text=True, stdin=subprocess.DEVNULL, stdout=subprocess.PIPE,
                           stderr=subprocess.STDOUT, timeout=60).stdout
 
 
-def by_bash(*words):
+def by_bash(*words: str) -> Set[str]:
     """What bash offers where the last of the words is being written."""
     file = f"{ROOT}/completions/fzcheck.bash"
     return set(said("bash", "-c", ASK, file, "fzcheck", *words).split())
 
 
-def main(program):
+def main(program: str) -> int:
     words, zsh = read("crates/fz_command/src/words.rt"), read("completions/fzcheck.zsh")
     options = set(re.findall(r'\("([a-z-]+)", Kind::', words))
-    commands = set(re.search(r"\[subcommands: (.*)\]", said(program))[1].split(", "))
+    commands = set(first(r"\[subcommands: ([^\n]*)\]", said(program)).split(", "))
     expect("commands, by bash", commands, {it for it in by_bash("") if not it.startswith("-")})
     expect("commands, by zsh", commands, set(re.findall(r"(\w+)\\:", zsh)))
     for command in commands - {"help"}:
@@ -51,24 +46,24 @@ def main(program):
                  if "unexpected argument" not in said(program, command, f"--{it}")}
         expect(f"{command}, by bash", taken | {"--help"},
                {it.split("=")[0] for it in by_bash(command, "--")})
-        branch = re.search(rf"^  {command}\)\n(.*?);;", zsh, re.M | re.S)[1]
+        branch = first(rf"^  {command}\)\n(.*?);;", zsh)
         expect(f"{command}, by zsh", taken, set(re.findall(r"(--[\w-]+)", branch)))
         expect(f"a file behind {command}", set(), by_bash(command, "m"))
-    explained = set(re.findall(r'"(\w+)"', re.search(r"EXPLAINED.*= (.*);", words)[1]))
+    explained = set(re.findall(r'"(\w+)"', first(r"EXPLAINED.*?= (.*?);", words)))
     expect("--explain=, by bash", explained, by_bash("check", "--explain", "="))
     expect("--explain=a, by bash", {it for it in explained if it.startswith("al")},
            by_bash("check", "--explain", "=", "al"))
-    expect("--explain=, by zsh", explained, set(re.search(r"what:\((.*)\)", zsh)[1].split()))
-    claimed = set(re.findall(r'"(\w+)"', re.search(r"CLAIMED.*= (.*);", words)[1]))
+    expect("--explain=, by zsh", explained, set(first(r"what:\(([^\n]*)\)", zsh).split()))
+    claimed = set(re.findall(r'"(\w+)"', first(r"CLAIMED.*?= (.*?);", words)))
     expect("--claims=, by bash", claimed, by_bash("check", "--claims", "="))
     expect("--claims=p, by bash", claimed, by_bash("check", "--claims", "=", "p"))
-    expect("--claims=, by zsh", claimed, set(re.search(r"how:\((.*)\)", zsh)[1].split()))
+    expect("--claims=, by zsh", claimed, set(first(r"how:\(([^\n]*)\)", zsh).split()))
     expect("--complete-steps=, by bash", set(), by_bash("check", "--complete-steps", "="))
     expect("a file behind --names", set(), by_bash("check", "--names", "m"))
     expect("commands behind help, by bash", commands - {"help"}, by_bash("help", ""))
     expect("options, by bash", {"-h", "--help", "-V", "--version"}, by_bash("-"))
-    print(f"{passed} passed, {failed} failed")
-    sys.exit(failed != 0)
+    return end()
 
 
-main(*sys.argv[1:])
+if __name__ == "__main__":
+    sys.exit(main(sys.argv[1]))

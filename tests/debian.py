@@ -57,7 +57,7 @@ PARTS = {
 }
 
 
-def make_root(root):
+def make_root(root: str) -> None:
     if not os.path.exists(f"{root}/is-made"):
         shutil.rmtree(root, ignore_errors=True)
         os.makedirs(root)
@@ -66,7 +66,7 @@ def make_root(root):
         open(f"{root}/is-made", "w").close()
 
 
-def main(folder, root=HERE):
+def main(folder: str, root: str = HERE) -> int:
     if not shutil.which("debootstrap") or os.geteuid() != 0:
         print("debootstrap isn't installed, or this isn't root: no Debian was tried")
         return 0

@@ -13,23 +13,25 @@ import os
 import pathlib
 import re
 import sys
+from typing import Iterator, List, Set, Tuple
 
 ROOT = pathlib.Path(os.path.abspath(__file__)).parent.parent
 CALL = re.compile(r"^(?:impl(?:<.*?>)? (\w+)|( *)pub (?:const )?fn (\w+)\b(.*?)^\2\{)", re.M | re.S)
 NAMES = re.compile(r"`([\w:]+)`")
 FOLDERS = r"crates|tests|tools|docs|python|examples|bench|minizinc|fz_\w+"
 PATH = re.compile(rf"`((?:{FOLDERS})/[\w./-]+\.\w+)`")
+Row = Tuple[Set[str], List[str], Set[str]]
 EXAMPLE = re.compile(r"FznAllEqualInt|fzn_all_equal_int|\ball_equal\b")
 HOLDS_BUILTINS = ("crates/*/src", "crates/*/specs", "crates/*/proofs", "python", "docs",
                   "minizinc", "tests/cases", "tests/minizinc")
 BELOW = dict(re.findall(r"^(fz\w+):(.*)$", (ROOT / "crates.txt").read_text(), re.M))
 
 
-def with_all_below(crate):
+def with_all_below(crate: str) -> Set[str]:
     return {crate}.union(*(with_all_below(name) for name in BELOW[crate].split() if name in BELOW))
 
 
-def contracts(crates):
+def contracts(crates: Set[str]) -> Iterator[Tuple[str, Set[str]]]:
     """The clauses of each public call, under its name and, of a method, also under TYPE::NAME."""
     for path in (path for crate in crates for path in ROOT.glob(f"crates/{crate}/src/**/*.rt")):
         owner = ""
@@ -40,14 +42,14 @@ def contracts(crates):
                 yield key, {name if word == "ensures" else word for word, name in clauses}
 
 
-def rows():
+def rows() -> Iterator[Row]:
     """Of each row the crates to look in, the calls, and the clauses that it names."""
     text = (ROOT / "docs" / "THEOREM.md").read_text().split("\n## What each crate promises\n")[1]
     for line in text.split("\n## ")[0].splitlines():
         first, *others = line.strip("|").split(" |")
-        owner, _, calls = first.rpartition(": ")
-        calls = NAMES.findall(others[1] if first == " law" else calls)
-        calls = ["::".join(NAMES.findall(owner) + [call]) for call in calls]
+        owner, _, named = first.rpartition(": ")
+        called = NAMES.findall(others[1] if first == " law" else named)
+        calls = ["::".join(NAMES.findall(owner) + [call]) for call in called]
         if first.startswith(" **"):
             crates = set().union(*map(with_all_below, NAMES.findall(first)))
         elif calls and len(others) == 2:
@@ -56,13 +58,13 @@ def rows():
             yield set(BELOW), calls, {"requires"}
 
 
-def is_so(crates, calls, clauses):
+def is_so(crates: Set[str], calls: List[str], clauses: Set[str]) -> bool:
     stated = [set().union(*(c for key, c in contracts(crates) if key == call)) for call in calls]
     each_has_one = all(found & clauses if clauses else found for found in stated)
     return each_has_one and clauses <= set().union(*stated)
 
 
-def refused():
+def refused() -> bool:
     """Whether the table has each edit of the gate and no other, each behind its crate."""
     table = (ROOT / "docs" / "TESTING.md").read_text().split("\n## What the prover refuses\n")[1]
     told = re.findall(r"^\| `(\w+)` \| `(\w+)` \|", table.split("\n## ")[0], re.M)
@@ -70,7 +72,7 @@ def refused():
     return sorted(told) == sorted((crate, edit[: -len(".edit")]) for crate, edit in edits)
 
 
-def old_texts(edit):
+def old_texts(edit: pathlib.Path) -> Iterator[Tuple[str, str]]:
     """The texts that an edit replaces, each with the file that has to have it once."""
     for line in edit.read_text().splitlines():
         word, _, rest = line.partition(": ")
@@ -80,7 +82,7 @@ def old_texts(edit):
             yield source.read_text(), rest
 
 
-def named_files():
+def named_files() -> Iterator[Tuple[str, str]]:
     """The files that documents name, by the document. That of decisions tells of old ones too."""
     for document in sorted({*ROOT.glob("*.md"), *ROOT.glob("docs/*.md")}):
         if document.name not in ("DECISIONS.md", "CHANGELOG.md"):
@@ -89,7 +91,7 @@ def named_files():
                     yield document.name, path
 
 
-def unnamed_places():
+def unnamed_places() -> List[pathlib.Path]:
     """The files in which the example of a builtin stands, and that its steps don't name."""
     steps = (ROOT / "CONTRIBUTING.md").read_text().split("\n## A builtin\n")[1].split("\n## ")[0]
     named = {ROOT / folder / path for path in PATH.findall(steps) for folder in ("", "crates")}
@@ -99,9 +101,9 @@ def unnamed_places():
     return [path.relative_to(ROOT) for path, text in texts if EXAMPLE.search(text)]
 
 
-def wrong():
-    for path in unnamed_places():
-        yield f"CONTRIBUTING.md: a builtin stands in {path} too"
+def wrong() -> Iterator[str]:
+    for place in unnamed_places():
+        yield f"CONTRIBUTING.md: a builtin stands in {place} too"
     for document, path in named_files():
         if not any((ROOT / folder / path).exists() for folder in ("", "crates")):
             yield f"{document}: there is no file {path}"

@@ -9,12 +9,13 @@ import os
 import pathlib
 import re
 import sys
+from typing import Iterator, List, Optional, Tuple
 
 ROOT = pathlib.Path(os.path.abspath(__file__)).parent.parent
 IMPORT = re.compile(r"^(?:pub )?use Rattle\.(\w+)\.specs\.([\w.]+?)(?:\.\{.*\}| as \w+)?$", re.M)
 
 
-def file_of(crate, path):
+def file_of(crate: str, path: str) -> Optional[pathlib.Path]:
     """The file of specs/ that has what an import names, through what crates pass on; none where
     that is a declared type of the code."""
     first, _, rest = path.partition(".")
@@ -30,11 +31,11 @@ def file_of(crate, path):
     return None
 
 
-def is_definition(line):
+def is_definition(line: str) -> bool:
     return not re.match(r"\s*$|\s*--|(pub )?use ", line)
 
 
-def faults(files, told):
+def faults(files: List[pathlib.Path], told: Tuple[int, ...]) -> Iterator[str]:
     lines = [line for path in files for line in path.read_text().splitlines()]
     counted = (len(files), len(lines), sum(map(is_definition, lines)))
     if told != counted:
@@ -47,9 +48,9 @@ def faults(files, told):
 
 text = (ROOT / "docs" / "THEOREM.md").read_text().split("\n## A yes is a yes\n")[1].split("\n## ")[0]
 listed = [ROOT / path for path in dict.fromkeys(re.findall(r"`(crates/\w+/specs/\w+\.antt)`", text))]
-told = re.search(
+(numbers,) = re.findall(
     r"([\d,]+)\s+files\s+with\s+([\d,]+)\s+lines,\s+([\d,]+)\s+of\s+them\s+definitions", text)
-found = list(faults(listed, tuple(int(it.replace(",", "")) for it in told.groups())))
+found = list(faults(listed, tuple(int(it.replace(",", "")) for it in numbers)))
 for fault in found:
     print(f"failed: {fault}")
 print(f"{len(listed)} passed, {len(found)} failed")

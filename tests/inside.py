@@ -15,13 +15,15 @@ import signal
 import subprocess
 import sys
 import tempfile
+from typing import Tuple
 
-from solver import ROOT, SOLVER, Place, expect
-import solver
+from expecting import end, expect
+from solver import ROOT, SOLVER, Place, line_of
 
 CONFIGURE = os.path.join(ROOT, "python", "fzcheck-configure")
 MODELS = sorted(glob.glob(os.path.join(ROOT, "tests", "inside", "*.mzn")))
 WAYS = ((), ("-a",), ("-s",), ("-t", "60000"), ("--json-stream",), ("--output-mode", "dzn"))
+Answer = Tuple[int, str, str]  # the status, the output, and what is told
 SEEDS = 4
 VIOLATED, ACCEPTED = "\nfzcheck: VIOLATED\n", "accepted\n"
 LONG = """include "alldifferent.mzn";
@@ -45,7 +47,7 @@ OTHERS = {
 }
 
 
-def add(place, name, text, library="-Ggecode"):
+def add(place: Place, name: str, text: str, library: str = "-Ggecode") -> None:
     """A solver of that name, with that library, and checked ones."""
     path = place.path(name)
     place.file(name, text)
@@ -57,7 +59,7 @@ def add(place, name, text, library="-Ggecode"):
     expect(f"configure {name}", 0, place.run(CONFIGURE, "--library", name)[0])
 
 
-def minizinc(place, *words, **variables):
+def minizinc(place: Place, *words: str, **variables: str) -> Answer:
     """Status, output and what is told: without MiniZinc's warnings, and the times it took."""
     status, out, told = place.run("minizinc", "--solver", *words, **variables)
     told = "".join(line + "\n" for line in told.splitlines() if line and "Warning: " not in line)
@@ -65,12 +67,12 @@ def minizinc(place, *words, **variables):
     return status, re.sub(r'([tT]ime"?[=:] ?|paths=)[-\d.e]+', r"\1", out), told
 
 
-def accepted(ran):
+def accepted(ran: Answer) -> Answer:
     """The same, with ACCEPTED in the place of what is told where that is the answer alone."""
     return *ran[:-1], re.sub(r"\Afzcheck: accepted: blocks \d+\n\Z", ACCEPTED, ran[-1])
 
 
-def same(place, model):
+def same(place: Place, model: str) -> None:
     """What a checked solver gives of a model is what the solver gives."""
     name = os.path.basename(model)
     for way in WAYS:
@@ -85,17 +87,17 @@ def same(place, model):
            (library[0], library[1][:-1], library[2]))
 
 
-def has_solution(place, model, values):
+def has_solution(place: Place, model: str, values: str) -> bool:
     """Whether the model has a solution with these values; none has values that it can't name."""
     first = values.split("----------")[0]
     equations = "".join(f"constraint {line}\n" for line in first.splitlines())
-    with open(model) as file:
+    with open(model, encoding="utf-8") as file:
         place.file("fixed.mzn", file.read() + equations)
     status, out, _ = minizinc(place, "gecode", place.path("fixed.mzn"))
     return status == 0 and "----------" in out
 
 
-def caught(place, model):
+def caught(place: Place, model: str) -> None:
     """A turned value is caught where it is no solution, and nowhere else."""
     wrong, short = 0, os.path.basename(model)
     for seed in range(SEEDS):
@@ -112,12 +114,12 @@ def caught(place, model):
     expect(f"{short}: a value is turned", True, wrong > 0)
 
 
-def interrupted(place):
+def interrupted(place: Place) -> None:
     """Ctrl-C, the end of MiniZinc itself, and its time limit: no process stays, and no file."""
     place.file("long.mzn", LONG)
     long = place.path("long.mzn")
-    for words in (("minizinc", "--solver", "gecode"), ("minizinc", "--solver", "gecode-checked"),
-                  (SOLVER,)):
+    for command in ("minizinc --solver gecode", "minizinc --solver gecode-checked", SOLVER):
+        words = command.split(" ") if command != SOLVER else [SOLVER]
         status, out, _ = place.run(*words, "--time-limit", "4000", "-a", long,
                                    FZCHECK_LIBRARY="1", FZCHECK_SOLVER="gecode-checked")
         expect(f"{words}, a time limit", (0, True), (status, "----------" in out))
@@ -126,7 +128,7 @@ def interrupted(place):
                          ("gecode-checked-library", "--mzn-flag", "-a", long)):
         for number in (signal.SIGINT, signal.SIGTERM, signal.SIGKILL):
             process = place.start(("minizinc", "--solver", name, *words))
-            process.stdout.readline()
+            line_of(process.stdout)
             os.killpg(process.pid, number)
             process.communicate(timeout=60)
             expect(f"{name}, signal {number}", True, process.returncode in (-number, 128 + number))
@@ -137,7 +139,7 @@ def interrupted(place):
     expect("no files stay", [], glob.glob(place.path("tmp/fzcheck*")))
 
 
-def failures(place, program):
+def failures(place: Place, program: str) -> None:
     """What MiniZinc makes of a solver that fails, it makes of a checked one."""
     queens = os.path.join(ROOT, "tests", "inside", "queens.mzn")
     for name in ("crash", "silent", "missing"):
@@ -152,7 +154,7 @@ def failures(place, program):
     os.symlink(program, place.path("bin/fzcheck"))
 
 
-def lax(place):
+def lax(place: Place) -> None:
     """A solver whose library lets queens attack one another: only our library shows it."""
     queens = os.path.join(ROOT, "tests", "inside", "queens.mzn")
     os.mkdir(place.path("library"))
@@ -165,7 +167,7 @@ def lax(place):
     expect("against ours", (True, True), (VIOLATED in ours[1], VIOLATED in ours[2]))
 
 
-def full(place):
+def full(place: Place) -> None:
     """With a temporary folder that is full MiniZinc fails, and a checked solver as it does."""
     folder, queens = place.path("full"), os.path.join(ROOT, "tests", "inside", "queens.mzn")
     os.mkdir(folder)
@@ -183,7 +185,7 @@ def full(place):
         subprocess.run(("umount", folder), check=True)
 
 
-def main():
+def main() -> int:
     program = os.path.abspath(sys.argv[1])
     if not (shutil.which("minizinc") and shutil.which("fzn-gecode")):
         print("minizinc and fzn-gecode aren't both installed: checked solvers aren't tried in it")
@@ -204,8 +206,7 @@ def main():
         failures(place, program)
         lax(place)
         full(place)
-    print(f"{solver.passed} passed, {solver.failed} failed")
-    return 1 if solver.failed else 0
+    return end()
 
 
 if __name__ == "__main__":

@@ -17,6 +17,7 @@ import shutil
 import subprocess
 import sys
 import tempfile
+from typing import Callable, Iterator, List, Sequence, Tuple
 
 ROOT = os.path.dirname(os.path.dirname(os.path.abspath(__file__)))
 OURS = ("--solver", os.path.join(ROOT, "minizinc", "fzcheck.msc"))
@@ -51,11 +52,11 @@ solve minimize column[1];
 }
 
 
-def run(*words):
+def run(*words: str) -> "subprocess.CompletedProcess[str]":
     return subprocess.run(words, capture_output=True, text=True)
 
 
-def compiled(library, model, folder):
+def compiled(library: Sequence[str], model: str, folder: str) -> str:
     """The FlatZinc of a model, or what the compiler says."""
     path = os.path.join(folder, library[-1].replace("/", "_") + ".fzn")
     ran = run("minizinc", *library, "-c", model, "--fzn", path, "--no-output-ozn")
@@ -64,19 +65,19 @@ def compiled(library, model, folder):
     return path
 
 
-def kept(model):
+def kept(model: str) -> List[str]:
     """The names that a model says are kept."""
-    with open(model) as f:
+    with open(model, encoding="utf-8") as f:
         return " ".join(re.findall(r"^% keeps: (.*)$", f.read(), re.M)).split()
 
 
-def solutions(flat):
+def solutions(flat: str) -> List[str]:
     """The blocks of solutions that the solver finds."""
     blocks = run("fzn-gecode", "-n", str(SOLUTIONS), "-a", flat).stdout.split(MARKER)
     return [block for block in blocks if block.strip() and not block.startswith("=")]
 
 
-def turn(block, rand):
+def turn(block: str, rand: random.Random) -> str:
     """The block with one value turned: in the array's elements, or a scalar's."""
     spots = [m for m in VALUE.finditer(block) if "array" not in last_line(block, m.start())]
     spots += [m for m in VALUE.finditer(block) if "[" in last_line(block, m.start())]
@@ -86,25 +87,25 @@ def turn(block, rand):
     return block[: spot.start()] + other + block[spot.end() :]
 
 
-def last_line(block, end):
+def last_line(block: str, end: int) -> str:
     """The line of this place up to it."""
     return block[:end].rsplit("\n", 1)[-1]
 
 
-def judged(program, flat, blocks, folder):
+def judged(program: str, flat: str, blocks: List[str], folder: str) -> List[str]:
     """The verdict on each block, in one word."""
     stream = os.path.join(folder, "stream")
-    with open(stream, "w") as f:
+    with open(stream, "w", encoding="utf-8") as f:
         f.write("".join(block + MARKER for block in blocks))
     ran = run(program, "check", "--complete", flat, stream)
     lines = [line.split(": ") for line in ran.stdout.splitlines()]
     return [line[1] for line in lines if line[0].startswith("block ")]
 
 
-def faults(program, model, folder):
+def faults(program: str, model: str, folder: str) -> Iterator[str]:
     """What isn't as it should be of a model."""
     ours = compiled(OURS, model, folder)
-    with open(ours) as f:
+    with open(ours, encoding="utf-8") as f:
         names = set(re.findall(r"^constraint (\w+)\(", f.read(), re.M))
     yield from (f"{name} isn't kept" for name in kept(model) if name not in names)
     if run(program, "show", ours).returncode != 0:
@@ -113,7 +114,7 @@ def faults(program, model, folder):
         yield from faults_of_streams(program, ours, compiled(STANDARD, model, folder), folder)
 
 
-def faults_of_streams(program, ours, standard, folder):
+def faults_of_streams(program: str, ours: str, standard: str, folder: str) -> Iterator[str]:
     blocks = solutions(standard)
     if not blocks:
         yield "it has no solution"
@@ -131,15 +132,15 @@ def faults_of_streams(program, ours, standard, folder):
             yield f"{verdicts[0]} against ours, {verdicts[1]} against the standard library's:\n{block}"
 
 
-def blocks(page):
+def blocks(page: str) -> List[str]:
     """A page's indented blocks; of the README, those that call MiniZinc."""
-    with open(os.path.join(ROOT, page)) as f:
+    with open(os.path.join(ROOT, page), encoding="utf-8") as f:
         found = re.findall(r"^\n((?:    .*\n)+)", f.read(), re.M)
     return [block for block in found if page != "README.md" or "    minizinc " in block
             if "    g++ " not in block or os.path.exists(GECODE)]
 
 
-def faults_of_page(program, page, folder):
+def faults_of_page(program: str, page: str, folder: str) -> Iterator[str]:
     """What goes wrong with a page's commands, in a folder that has what they name."""
     os.mkdir(os.path.join(folder, "bin"))
     os.symlink(program, os.path.join(folder, "bin", "fzcheck"))
@@ -147,10 +148,10 @@ def faults_of_page(program, page, folder):
         os.symlink(os.path.join(ROOT, "python", name), os.path.join(folder, "bin", name))
     for name in ("minizinc", "examples"):
         os.symlink(os.path.join(ROOT, name), os.path.join(folder, name))
-    with open(os.path.join(ROOT, page)) as f:
+    with open(os.path.join(ROOT, page), encoding="utf-8") as f:
         tree = "".join(re.findall(r"^```cpp\n(.*?)^```", f.read(), re.M | re.S))
     for name, text in {**FILES, "tree.cpp": tree}.items():
-        with open(os.path.join(folder, name), "w") as f:
+        with open(os.path.join(folder, name), "w", encoding="utf-8") as f:
             f.write(text)
     path = os.path.join(folder, "bin") + os.pathsep + os.environ["PATH"]
     told = ""
@@ -165,13 +166,14 @@ def faults_of_page(program, page, folder):
         yield f"{PAGES[page]} isn't printed: {told}"
 
 
-def main():
+def main() -> int:
     program = os.path.abspath(sys.argv[1])
     if not shutil.which("minizinc"):
         print("minizinc isn't installed: minizinc/ isn't tried")
         return 0
     passed = failed = 0
     models = sorted(glob.glob(os.path.join(ROOT, "tests", "minizinc", "*.mzn")))
+    tried: List[Tuple[Callable[[str, str, str], Iterator[str]], str]]
     tried = [(faults, model) for model in models]
     if shutil.which("fzn-gecode"):
         tried += [(faults_of_page, page) for page in PAGES]

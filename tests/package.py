@@ -13,6 +13,12 @@ import shutil
 import subprocess
 import sys
 import tempfile
+from typing import TYPE_CHECKING, List, Optional, Tuple
+
+from expecting import end, expect
+
+if TYPE_CHECKING:
+    Run = subprocess.CompletedProcess[str]
 
 ROOT = os.path.dirname(os.path.dirname(os.path.abspath(__file__)))
 PARTS = """Makefile README.md CHANGELOG.md CONTRIBUTING.md LICENSE crates.txt crates tools
@@ -35,30 +41,27 @@ logic=proved tests=1
 proved by rt ci
 """
 GIT = ("git", "-c", "user.name=-", "-c", "user.email=-", "-c", "commit.gpgsign=false")
-with open(f"{ROOT}/crates.txt") as listed:  # the program stands on all but fz_hostile
+with open(f"{ROOT}/crates.txt", encoding="utf-8") as listed:  # the program stands on all but fz_hostile
     CRATES = len(re.findall(r"^\w+:", listed.read(), re.M)) - 1
-passed = failed = 0
 
 
-def expect(what, wanted, got):
-    global passed, failed
-    passed, failed = passed + (wanted == got), failed + (wanted != got)
-    if wanted != got:
-        print(f"failed: {what}: {wanted!r:.900} wanted, {got!r:.900} found")
-
-
-def expect_parts(what, status, parts, ran):
+def expect_parts(what: str, status: int, parts: List[str], ran: "Run") -> None:
     """Expects a status, and parts of what is told."""
     left = [part for part in parts if part not in ran.stdout]
     expect(f"{what}\n{ran.stdout}", (status, []), (ran.returncode, left))
 
 
-def read(path, mode="r"):
-    with open(path, mode) as file:
+def read(path: str) -> str:
+    with open(path, encoding="utf-8") as file:
         return file.read()
 
 
-def run(*words, cwd=ROOT, **variables):
+def read_bytes(path: str) -> bytes:
+    with open(path, "rb") as file:
+        return file.read()
+
+
+def run(*words: str, cwd: str = ROOT, **variables: str) -> "Run":
     return subprocess.run(words, cwd=cwd, env={**os.environ, **variables}, text=True,
                           stdin=subprocess.DEVNULL, stdout=subprocess.PIPE,
                           stderr=subprocess.STDOUT, timeout=600)
@@ -67,14 +70,14 @@ def run(*words, cwd=ROOT, **variables):
 class Checkout:
     """A checkout that is packed, and where what it packed is unpacked."""
 
-    def __init__(self, folder, unpacked, **variables):
+    def __init__(self, folder: str, unpacked: str, **variables: str) -> None:
         self.folder, self.unpacked, self.variables = folder, unpacked, variables
-        self.packages = []
+        self.packages: List[str] = []
 
-    def run(self, *words):
+    def run(self, *words: str) -> "Run":
         return run(*words, cwd=self.folder, **self.variables)
 
-    def packed(self, *options):
+    def packed(self, *options: str) -> List[bytes]:
         """The bytes of both packages."""
         ran = self.run("make", *options, "dist")
         expect(f"make dist\n{ran.stdout}", 0, ran.returncode)
@@ -82,16 +85,16 @@ class Checkout:
                          for path in re.findall("^wrote (.*)$", ran.stdout, re.M)]
         expect("packages", ["-x86_64-linux.tar.gz", "_amd64.deb"],
                [re.sub(r".*/fzcheck.[\d.]+(?=[_-])", "", path) for path in self.packages])
-        return [read(path, "rb") for path in self.packages]
+        return [read_bytes(path) for path in self.packages]
 
-    def unpack(self):
+    def unpack(self) -> Tuple[str, str]:
         shutil.rmtree(self.unpacked, ignore_errors=True)
         os.makedirs(self.unpacked)
         run("tar", "-xzf", self.packages[0], "-C", self.unpacked)
         top, = glob.glob(f"{self.unpacked}/fzcheck-*-x86_64-linux")
         return top, f"{top}/share/doc/fzcheck"
 
-    def runs(self):
+    def runs(self) -> str:
         """Runs what was unpacked with an empty environment."""
         top, documents = self.unpack()
         ran = run("env", "-i", f"{top}/bin/fzcheck", "check", "first.fzn", "first.out",
@@ -108,11 +111,11 @@ class Checkout:
             expect(path, read(path), read(f"{top}/share/man/man1/{os.path.basename(path)}"))
         return f"{documents}/RECEIPT"
 
-    def compared(self, *words):
+    def compared(self, *words: str) -> "Run":
         return self.run("tools/receipt.py", *words)
 
 
-def packs_and_compares(copy, commit):
+def packs_and_compares(copy: Checkout, commit: str) -> str:
     first = copy.packed()
     log = read(f"{copy.folder}/build/log").splitlines()
     os.remove(f"{copy.folder}/build/fzcheck")
@@ -132,16 +135,16 @@ def packs_and_compares(copy, commit):
     expect_parts("no receipt", 2, ["it isn't a receipt"], copy.compared("README.md"))
     if shutil.which("dpkg-deb"):
         run("dpkg-deb", "-x", copy.packages[1], copy.unpacked)
-        expect("the program in Debian's package", read(f"{copy.folder}/build/fzcheck", "rb"),
-               read(f"{copy.unpacked}/usr/bin/fzcheck", "rb"))
+        expect("the program in Debian's package", read_bytes(f"{copy.folder}/build/fzcheck"),
+               read_bytes(f"{copy.unpacked}/usr/bin/fzcheck"))
     return receipt
 
 
-def tells_of_changes(copy, receipt, has_git):
+def tells_of_changes(copy: Checkout, receipt: str, has_git: bool) -> None:
     """Changes a source, and a line of crates.txt, and the program."""
     changes = {"crates/fz_base/specs/Lib.antt": "\n", "crates.txt": "fz_tree: fz_base\n"}
     for path, more in changes.items():
-        with open(f"{copy.folder}/{path}", "a") as file:
+        with open(f"{copy.folder}/{path}", "a", encoding="utf-8") as file:
             file.write(more)
     place = "\n    crates/fz_base/specs/Lib.antt\n" if has_git else "\n"
     expect_parts("changed sources", 1,
@@ -152,16 +155,16 @@ def tells_of_changes(copy, receipt, has_git):
                  copy.run("make", "-o", "build/fzcheck", "dist"))
     for path, more in changes.items():
         text = read(f"{copy.folder}/{path}")
-        with open(f"{copy.folder}/{path}", "w") as file:
+        with open(f"{copy.folder}/{path}", "w", encoding="utf-8") as file:
             file.write(text[: -len(more)])
-    with open(f"{copy.folder}/build/fzcheck", "a") as file:
+    with open(f"{copy.folder}/build/fzcheck", "a", encoding="utf-8") as file:
         file.write("\n")
     expect_parts("a changed program, packed", 2, ["isn't the program that the log tells of"],
                  copy.run("make", "-o", "build/fzcheck", "dist"))
 
 
-def takes_log_of_ci(copy, receipt):
-    with open(f"{copy.folder}/build/log", "w") as file:
+def takes_log_of_ci(copy: Checkout, receipt: str) -> None:
+    with open(f"{copy.folder}/build/log", "w", encoding="utf-8") as file:
         file.write(copy.run("tools/sources.py").stdout + OF_CI
                    + copy.run("sha256sum", "build/fzcheck").stdout)
     copy.packed("-o", "build/fzcheck")
@@ -176,7 +179,7 @@ def takes_log_of_ci(copy, receipt):
                  copy.compared(receipt))
 
 
-def copied(folder):
+def copied(folder: str) -> str:
     """Copies what is packed of this checkout, with few of the sources, and returns its commit."""
     os.makedirs(folder)
     for part in PARTS:
@@ -192,9 +195,9 @@ def copied(folder):
     return run("git", "rev-parse", "HEAD", cwd=folder).stdout.strip()
 
 
-def try_copy(folder, program):
+def try_copy(folder: str, program: str) -> None:
     os.makedirs(f"{folder}/bin")
-    with open(f"{folder}/bin/rt", "w") as file:
+    with open(f"{folder}/bin/rt", "w", encoding="utf-8") as file:
         file.write(RT)
     os.chmod(f"{folder}/bin/rt", 0o755)
     commit = copied(f"{folder}/copy")
@@ -205,7 +208,7 @@ def try_copy(folder, program):
     takes_log_of_ci(copy, receipt)
 
 
-def try_this(folder):
+def try_this(folder: str) -> None:
     """Packs this checkout, by the log of what was proved here; nothing is proved for that."""
     this = Checkout(ROOT, folder)
     this.packed("-o", "build/fzcheck")
@@ -217,13 +220,13 @@ def try_this(folder):
     expect("verdicts", [], strange)
 
 
-def main(program, log=None):
+def main(program: str, log: Optional[str] = None) -> int:
     with tempfile.TemporaryDirectory(prefix="fzcheck") as folder:
         try_copy(f"{folder}/one", program)
         if log:
             try_this(f"{folder}/this")
-    print(f"{passed} passed, {failed} failed")
-    sys.exit(failed != 0)
+    return end()
 
 
-main(*sys.argv[1:])
+if __name__ == "__main__":
+    sys.exit(main(*sys.argv[1:]))

@@ -15,8 +15,8 @@ import signal
 import sys
 import tempfile
 
-from solver import ROOT, Place, expect
-import solver
+from expecting import end, expect
+from solver import ROOT, Place
 
 sys.path.insert(0, os.path.join(ROOT, "python"))
 from fzcheck.mzn import model as model_module
@@ -394,8 +394,7 @@ def main():
         random_values(rand)
         random_texts(rand, model)
         compiler(place)
-    print(f"{solver.passed} passed, {solver.failed} failed")
-    return 1 if solver.failed else 0
+    return end()
 
 
 if __name__ == "__main__":

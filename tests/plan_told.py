@@ -12,8 +12,8 @@ import sys
 import tempfile
 
 from plan import COMMAND, FORMS, GOOD, KEPT, MINIZINC, checked, kept
-from solver import Place, expect
-import solver
+from expecting import end, expect
+from solver import Place
 
 REJECTED = ["claim: ========== not judged", "rejected: block 1"]
 
@@ -55,8 +55,7 @@ def main():
         for name in ("model.mzn", "data.dzn"):
             shutil.copy(os.path.join(KEPT, name), place.path(name))
         verdicts(place)
-    print(f"{solver.passed} passed, {solver.failed} failed")
-    return 1 if solver.failed else 0
+    return end()
 
 
 if __name__ == "__main__":

@@ -59,6 +59,7 @@ TESTS = [
     Test("as_json", "tests/as_json.py {fzcheck}", 10),
     Test("broken", "tests/broken/run.py {fzcheck}", 5),
     Test("completions", "tests/completions.py {fzcheck}", 2),
+    Test("typed", "tests/typed.py", 30, "mypy"),
     Test("documents", "tests/documents.py", 2),
     Test("headline", "tests/headline.py", 1),
     *WHOLE_REPORTS,

@@ -17,7 +17,9 @@ import subprocess
 import sys
 import tempfile
 import time
+from typing import IO, Any, Dict, List, Optional, Sequence, Tuple, Union
 
+from expecting import end, expect
 from minizinc import blocks
 
 ROOT = os.path.dirname(os.path.dirname(os.path.abspath(__file__)))
@@ -39,25 +41,17 @@ MINIZINC = """case $* in
   *" -c "*) shift $(($# - 1)); cp "$FOLDER/ours.fzn" "$1" ;;
   *) "${2%.msc}" "$FOLDER/model.fzn" ;;
 esac"""
-OTHER = {
+OTHER: Dict[str, Any] = {
     "id": "org.some.other", "name": "Other", "version": "2.0", "mznlib": "./lib", "tags": ["cp"],
     "stdFlags": ["-a"], "extraFlags": [["-d", "Depth", "int", "8"]], "supportsFzn": True,
-    "supportsMzn": False, "needsSolns2Out": True, "extraInfo": {"mznlib": "/usr/share/other lib"},
+    "supportsMzn": False, "needsSolns2Out": True,
 }
-passed = failed = 0
-
-
-def expect(what, wanted, got):
-    global passed, failed
-    passed, failed = passed + (wanted == got), failed + (wanted != got)
-    if wanted != got:
-        print(f"failed: {what}: {wanted!r:.400} wanted, {got!r:.400} found")
 
 
 class Place:
     """A folder with a solver, the checker, what MiniZinc is here, a model and a stream."""
 
-    def __init__(self, folder, program):
+    def __init__(self, folder: str, program: str) -> None:
         self.folder = folder
         os.makedirs(self.path("bin"))
         os.makedirs(self.path("tmp"))
@@ -70,30 +64,31 @@ class Place:
         self.script("bin/minizinc", MINIZINC)
         self.file("model.fzn", MODEL)
 
-    def path(self, name):
+    def path(self, name: str) -> str:
         return os.path.join(self.folder, name)
 
-    def file(self, name, text):
-        with open(self.path(name), "w") as file:
+    def file(self, name: str, text: str) -> None:
+        with open(self.path(name), "w", encoding="utf-8") as file:
             file.write(text)
 
-    def script(self, name, text):
+    def script(self, name: str, text: str) -> None:
         if os.path.islink(self.path(name)):
             os.remove(self.path(name))
         self.file(name, f"#!/bin/sh\n{text}\n")
         os.chmod(self.path(name), 0o755)
 
-    def start(self, words, **variables):
+    def start(self, words: Sequence[str], **variables: str) -> "subprocess.Popen[str]":
         return subprocess.Popen(words, text=True, env={**os.environ, **self.variables, **variables},
                                 stdout=subprocess.PIPE, stderr=subprocess.PIPE, cwd=self.folder,
                                 start_new_session=True)
 
-    def run(self, *words, **variables):
+    def run(self, *words: str, **variables: str) -> Tuple[int, str, str]:
         process = self.start(words or (SOLVER, self.path("model.fzn")), **variables)
         out, told = process.communicate(timeout=200)
         return process.returncode, out, told
 
-    def checked(self, what, stream, status, out, told, **variables):
+    def checked(self, what: str, stream: str, status: int, out: str,
+                told: Union[str, Sequence[str]], **variables: str) -> None:
         """What comes of a stream: the status, the output, and words that are told, or a whole."""
         self.file("stream", stream)
         got = self.run(**variables)
@@ -103,13 +98,13 @@ class Place:
         left = [word for word in told if word not in got[2]]
         expect(f"{what}, told", [], left)
 
-    def processes(self):
+    def processes(self) -> List[int]:
         """Those that have this folder in their environment."""
         paths = [path for path in glob.glob("/proc/[0-9]*/environ")
                  if self.folder.encode() in read(path)]
         return [int(path.split("/")[2]) for path in paths]
 
-    def is_deserted(self):
+    def is_deserted(self) -> bool:
         """Whether soon no process is left."""
         for _ in range(200):
             if not self.processes():
@@ -117,12 +112,17 @@ class Place:
             time.sleep(0.1)
         return False
 
-    def end_all(self):
+    def end_all(self) -> None:
         for process in self.processes():
             os.kill(process, signal.SIGKILL)
 
 
-def read(path):
+def line_of(pipe: Optional[IO[str]]) -> str:
+    """The next line that a process writes."""
+    return pipe.readline() if pipe else ""
+
+
+def read(path: str) -> bytes:
     try:
         with open(path, "rb") as file:
             return file.read()
@@ -130,7 +130,7 @@ def read(path):
         return b""
 
 
-def streams(place):
+def streams(place: Place) -> None:
     rejected = ("block 2: violated: constraint 1 int_le\n", "x = 9, printed\n",
                 "\nfzcheck: rejected: block 2\nfzcheck: VIOLATED\n")
     place.checked("all is well", GOOD + CLAIM, 0, GOOD + CLAIM, ONE)
@@ -156,9 +156,10 @@ def streams(place):
     place.script("a solver", PRINTS)
 
 
-def unproved(place):
+def unproved(place: Place) -> None:
     """What isn't accepted passes, and is told last; with FZCHECK_STRICT the status is 1."""
-    def strictly(what, stream, told, status=1, **variables):
+    def strictly(what: str, stream: str, told: str, status: int = 1,
+                 **variables: str) -> None:
         place.checked(what, stream, 0, stream, (told,), **variables)
         place.checked(f"{what}, strictly", stream, status, stream, (told,), FZCHECK_STRICT="1",
                       **variables)
@@ -189,7 +190,7 @@ def unproved(place):
     place.file("model.fzn", MODEL)
 
 
-def tables(place):
+def tables(place: Place) -> None:
     """The compiler's table, which MiniZinc names behind the model, gives names; the model's own
     file, which MiniZinc removes, is not named."""
     place.file("names", "x\ttime\t\n")
@@ -205,7 +206,7 @@ def tables(place):
     place.script("a solver", PRINTS)
 
 
-def checkers(place, program):
+def checkers(place: Place, program: str) -> None:
     """What befalls the checker doesn't befall the solver's output."""
     long = GOOD * 8000  # more than two pipes hold
     all_well = "fzcheck: accepted: blocks 8000\n"
@@ -233,20 +234,20 @@ def checkers(place, program):
     os.symlink(program, place.path("bin/fzcheck"))
 
 
-def signals(place):
+def signals(place: Place) -> None:
     """A line comes at once, a signal comes once, and nothing stays behind."""
     words = (SOLVER, place.path("model.fzn"))
     for hold in "01":
         place.script("a solver", ONE_THEN_SLEEPS)
         process = place.start(words, FZCHECK_HOLD=hold)
-        expect("a block at once", GOOD, process.stdout.readline() + process.stdout.readline())
+        expect("a block at once", GOOD, line_of(process.stdout) + line_of(process.stdout))
         process.terminate()
         rest, told = process.communicate(timeout=200)
         expect("ended alone", ("", True), (rest, told.endswith(ONE)))
         expect("ended alone, the status", 128 + signal.SIGTERM, process.returncode)
         place.script("a solver", COUNTS)
         process = place.start(words, FZCHECK_HOLD=hold)
-        process.stdout.readline()
+        line_of(process.stdout)
         os.killpg(process.pid, signal.SIGINT)
         process.communicate(timeout=200)
         expect("one signal to all", (0, b"got\n"),
@@ -254,11 +255,12 @@ def signals(place):
         os.remove(place.path("signals"))
         place.script("a solver", ONE_THEN_SLEEPS)
         process = place.start(words, FZCHECK_HOLD=hold)
-        process.stdout.readline()
-        process.stdout.close()
+        line_of(process.stdout)
+        if process.stdout:
+            process.stdout.close()
         expect("nobody reads", 128 + signal.SIGTERM, process.wait(timeout=200))
         process = place.start(words, FZCHECK_HOLD=hold)
-        process.stdout.readline()
+        line_of(process.stdout)
         os.killpg(process.pid, signal.SIGKILL)
         process.wait()
         expect("nothing stays", True, place.is_deserted())
@@ -266,24 +268,24 @@ def signals(place):
         word = "" if shutil.which("ps") else "exec"
         place.script("a solver", ONE_THEN_SLEEPS.replace("exec", word))
         process = place.start(words, FZCHECK_HOLD=hold)
-        process.stdout.readline()
+        line_of(process.stdout)
         process.kill()
         process.wait()
         expect("the script alone is killed, and nothing stays", True, place.is_deserted())
     place.script("a solver", PRINTS)
 
 
-def slow(place, program):
+def slow(place: Place, program: str) -> None:
     """A checker that a signal finds at work has said how far it came before all is killed."""
     place.script("bin/slow", "echo block 1: satisfied; exec sleep 60")
     os.remove(place.path("bin/fzcheck"))
     os.symlink(place.path("bin/slow"), place.path("bin/fzcheck"))
     place.script("a solver", ONE_THEN_SLEEPS)
     process = place.start((SOLVER, place.path("model.fzn")), FZCHECK_VERBOSE="1")
-    process.stderr.readline()
+    line_of(process.stderr)
     os.killpg(process.pid, signal.SIGTERM)
     expect("as far as it came", "fzcheck: so far: blocks 1, satisfied 1\n",
-           process.stderr.readline())
+           line_of(process.stderr))
     process.kill()
     process.communicate()
     expect("a checker at work ends too", True, place.is_deserted())
@@ -292,11 +294,12 @@ def slow(place, program):
     place.script("a solver", PRINTS)
 
 
-def configuration(place, program):
+def configuration(place: Place, program: str) -> None:
     own = place.path("own/solvers")
-    OTHER["extraInfo"]["executable"] = place.path("a solver")
+    other = {**OTHER, "extraInfo": {"mznlib": "/usr/share/other lib",
+                                    "executable": place.path("a solver")}}
     built_in = {"id": "org.built.in", "name": "BuiltIn", "supportsFzn": True, "extraInfo": {}}
-    place.file("solvers.json", json.dumps([OTHER, built_in]))
+    place.file("solvers.json", json.dumps([other, built_in]))
     for word in ("nix", "builtin", "--remove"):
         expect(f"configure {word}", (1, ""), place.run(CONFIGURE, word)[:2])
     expect("configure", 0, place.run(CONFIGURE, "--library", "other")[0])
@@ -326,7 +329,7 @@ def configuration(place, program):
     expect("another's is there", b"{}", read(f"{own}/other-checked.msc"))
 
 
-def library(place, program):
+def library(place: Place, program: str) -> None:
     """The solver's own FlatZinc allows a 9, and ours doesn't."""
     place.file("ours.fzn", MODEL)
     place.file("model.fzn", MODEL.replace(",5", ",9"))
@@ -345,7 +348,7 @@ def library(place, program):
     place.file("model.fzn", MODEL)
 
 
-def pages(place):
+def pages(place: Place) -> None:
     """What needs no MiniZinc of a page, on the examples."""
     for name in ("models", "printed", "streams"):
         os.mkdir(place.path(name))
@@ -366,13 +369,13 @@ def pages(place):
     run_blocks(place, "docs/SOLVER_AUTHORS.md", [0, 0, 0, 0])
 
 
-def keep(place, names):
+def keep(place: Place, names: str) -> None:
     for path in glob.glob(place.path("models/*.fzn")):
         if not re.search(names, path.removesuffix(".fzn")):
             os.remove(path)
 
 
-def run_blocks(place, page, statuses):
+def run_blocks(place: Place, page: str, statuses: List[int]) -> List[str]:
     """Runs a page's commands, and gives what they print."""
     needs_more = "minizinc |configure|LIBRARY|g[+][+] "  # what the test has no stand-in for
     ours = [block for block in blocks(page) if not re.search(needs_more, block)]
@@ -381,7 +384,7 @@ def run_blocks(place, page, statuses):
     return [out for _, out, _ in ran]
 
 
-def main():
+def main() -> int:
     program = os.path.abspath(sys.argv[1])
     # What a shell starts with `&` ignores this signal, and so would the scripts here.
     signal.signal(signal.SIGINT, signal.default_int_handler)
@@ -395,8 +398,7 @@ def main():
         slow(place, program)
         configuration(place, program)
         pages(place)
-    print(f"{passed} passed, {failed} failed")
-    return 1 if failed else 0
+    return end()
 
 
 if __name__ == "__main__":

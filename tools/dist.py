@@ -52,7 +52,7 @@ def fail(why: str) -> NoReturn:
 
 
 def one_line(log: str, start: str) -> str:
-    found = re.findall(rf"^{start} (.*)$", log, re.M)
+    found: List[str] = re.findall(rf"^{start} (.*)$", log, re.M)
     if len(found) != 1:
         fail("the log doesn't tell what was proved")
     return found[0]

@@ -14,8 +14,9 @@ import signal
 import subprocess
 import sys
 import time
+from typing import Callable, Dict, List, TextIO
 
-from sources import PARTS, ROOT, sum_of_sources, text_of, toolchain
+from sources import PARTS, ROOT, crate_lines, sum_of_sources, text_of, toolchain
 
 ROOM = f"{ROOT}/build/prove"
 MEMORY = 4_000_000  # kilobytes for each crate at a time
@@ -24,17 +25,17 @@ USAGE_STATUS = {"fzcheck": 5, "fz_hostile": 7}  # `rt run` runs a program, here 
 VERDICT = re.compile(r"^logic=proved ", re.M)
 
 
-def link(source, target):
+def link(source: str, target: str) -> None:
     """Links a folder's files. A proof replaces its files and never writes into old ones."""
     if os.path.isdir(source):
         shutil.copytree(source, target, copy_function=os.link)
 
 
-def die_with_parent():
+def die_with_parent() -> None:
     ctypes.CDLL(None).prctl(1, signal.SIGKILL)
 
 
-def stand_back():
+def stand_back() -> None:
     """Leaves the processors to the crates that all others wait for, wherever those can use them."""
     die_with_parent()
     os.nice(10)
@@ -43,9 +44,9 @@ def stand_back():
 class Crate:
     """A crate, the line of crates.txt that names it, and the crates that it stands on."""
 
-    def __init__(self, name, line, deps):
+    def __init__(self, name: str, line: str, deps: "List[Crate]") -> None:
         self.name, self.line, self.deps = name, line, deps
-        self.below = [*dict.fromkeys(it for dep in deps for it in (*dep.below, dep))]
+        self.below: List[Crate] = [*dict.fromkeys(it for dep in deps for it in (*dep.below, dep))]
         self.folder = f"{ROOT}/crates/{name}"
         self.tree = f"{ROOM}/{name}"
         self.room = f"{self.tree}/crates/{name}"
@@ -54,7 +55,7 @@ class Crate:
         source = "".join(map(text_of, files))
         self.functions, self.lines = len(re.findall(r"\bfn \w", source)), source.count("\n")
 
-    def start(self, jobs, begin):
+    def start(self, jobs: int, begin: Callable[[], None]) -> None:
         """Starts the proof. What earlier runs kept of the crate is moved into its tree."""
         shutil.rmtree(self.tree, ignore_errors=True)
         for it in (*self.below, self):
@@ -73,12 +74,12 @@ class Crate:
                 words, cwd=self.room, stdin=subprocess.DEVNULL, stdout=log,
                 stderr=subprocess.STDOUT, preexec_fn=begin)
 
-    def put_back(self):
+    def put_back(self) -> None:
         if os.path.isdir(f"{self.room}/out"):
             shutil.rmtree(f"{self.folder}/out", ignore_errors=True)
             os.rename(f"{self.room}/out", f"{self.folder}/out")
 
-    def said(self, prover):
+    def said(self, prover: str) -> str:
         """What `rt` said, or where it had nothing to prove any more, what it said as it proved the
         same sources: that is kept beside what it built."""
         said, kept = text_of(self.log), f"{self.folder}/out/said"
@@ -91,23 +92,22 @@ class Crate:
             said += text_of(kept)[len(head):]
         return said
 
-    def is_proved(self):
+    def is_proved(self) -> bool:
         return self.process.returncode == USAGE_STATUS.get(self.name, 0)
 
-    def share(self):
+    def share(self) -> float:
         """About which share of the functions is checked so far, as the prover tells."""
         told = re.findall(r"so far: (\d+) of (\d+) functions", text_of(self.log))
         checked, among = map(int, told[-1] if told else (0, 1))
         return checked / max(among, 1)
 
 
-def crates_of(top):
+def crates_of(top: str) -> List[Crate]:
     """A crate with all that it stands on, the lowest first."""
-    lines = dict(re.findall(r"^((\w+):.*)$", text_of(f"{ROOT}/crates.txt"), re.M))
-    lines = {name: line for line, name in lines.items()}
-    made = {}
+    lines = crate_lines()
+    made: Dict[str, Crate] = {}
 
-    def make(name):
+    def make(name: str) -> Crate:
         if name not in made:
             words = lines[name].split(":")[1].split()
             made[name] = Crate(name, lines[name], [make(it) for it in words if it in lines])
@@ -117,22 +117,24 @@ def crates_of(top):
 
 
 class Build:
-    def __init__(self, crates, jobs):
+    def __init__(self, crates: List[Crate], jobs: int) -> None:
         self.crates, self.jobs, self.toolchain = crates, jobs, toolchain()
-        self.running, self.proved, self.began = [], [], time.monotonic()
-        self.behind = {}  # the lines of the longest chain of crates that begins with a crate
+        self.running: List[Crate] = []
+        self.proved: List[Crate] = []
+        self.began = time.monotonic()
+        self.behind: Dict[Crate, int] = {}  # the lines of the longest chain of crates that begins with a crate
         for it in reversed(crates):
             above = (self.behind[other] for other in self.behind if it in other.deps)
             self.behind[it] = it.lines + max(above, default=0)
 
-    def start(self, lanes):
+    def start(self, lanes: int) -> None:
         """Starts what is ready. The crate with the most behind it gets all the processes, since
         the longest chain of crates is waited for. Each beside it gets what is left over, one at
         least, since several take a third more of the processor in all. Those with far less behind
         them stand back."""
         waiting = [it for it in self.crates if it not in (*self.proved, *self.running)]
         ready = [it for it in waiting if {*it.deps} <= {*self.proved}]
-        ready.sort(key=self.behind.get, reverse=True)
+        ready.sort(key=lambda it: self.behind[it], reverse=True)
         for crate in ready[: lanes - len(self.running)]:
             others = (self.behind[it] - it.lines * it.share() for it in self.running)
             most = max(others, default=0)
@@ -141,7 +143,7 @@ class Build:
             crate.start(self.jobs if self.behind[crate] > most else left, begin)
             self.running.append(crate)
 
-    def end(self, crate, log):
+    def end(self, crate: Crate, log: TextIO) -> None:
         self.running.remove(crate)
         crate.put_back()
         said = crate.said(self.toolchain) if crate.is_proved() else text_of(crate.log)
@@ -155,17 +157,17 @@ class Build:
             told = f"{crate.functions} functions, {time.monotonic() - crate.began:.0f} s"
             print(f"{crate.name} proved ({told}): {self.count()}", flush=True)
 
-    def stop(self):
+    def stop(self) -> None:
         for crate in self.running:
             crate.process.kill()
             crate.process.wait()
             crate.put_back()
         shutil.rmtree(ROOM, ignore_errors=True)  # `rt ci` wants no other sources in the repository
 
-    def count(self):
+    def count(self) -> str:
         return f"{len(self.proved)} of {len(self.crates)} crates"
 
-    def show(self, what, ending=""):
+    def show(self, what: str, ending: str = "") -> None:
         """Rewrites the terminal's line."""
         if sys.stderr.isatty():
             checked = sum(it.functions for it in self.proved)
@@ -176,10 +178,10 @@ class Build:
             columns = shutil.get_terminal_size().columns - 1
             print(f"\r{line[:columns]}\x1b[K", end=ending, file=sys.stderr, flush=True)
 
-    def run(self, log):
+    def run(self, log: TextIO) -> None:
         print(f"toolchain {self.toolchain}", file=log, flush=True)
-        memory = re.search(r"MemAvailable: +(\d+)", text_of("/proc/meminfo"))
-        lanes = max(min(self.jobs, int(memory[1]) // MEMORY), 1)
+        (memory,) = re.findall(r"MemAvailable: +(\d+)", text_of("/proc/meminfo"))
+        lanes = max(min(self.jobs, int(memory) // MEMORY), 1)
         while len(self.proved) < len(self.crates):
             self.start(lanes)
             self.show("proving " + ", ".join(it.name for it in self.running))
@@ -190,7 +192,9 @@ class Build:
         self.show("proved", "\n")
 
 
-def main(top, log, jobs):
+def main(top: str, log: str, jobs: str) -> None:
+    if top not in crate_lines():
+        sys.exit(f"{top} isn't a crate of crates.txt")
     crates = crates_of(top)
     for it in crates:
         it.put_back()  # where the last run was stopped at once

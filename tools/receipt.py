@@ -86,7 +86,7 @@ def proved_crates(log: str) -> Dict[str, Crate]:
 
     def verdict(name: str) -> str:
         # The last: `rt` may first have built a crate below.
-        found = VERDICT.findall(said.get(name, ""))
+        found: List[str] = VERDICT.findall(said.get(name, ""))
         return found[-1] if found else kept.get(name, SILENT)
 
     return {name: Crate(line, sums.get(name, ""), verdict(name))
@@ -136,7 +136,7 @@ def changed_files(commit: str, name: str) -> List[str]:
 def differing(receipt: Receipt) -> Iterator[str]:
     """The crates that aren't here what they are in the receipt."""
     here = crates_below("fzcheck")
-    for name in {**receipt.crates, **here}:
+    for name in [*receipt.crates, *(it for it in here if it not in receipt.crates)]:
         crate = receipt.crates.get(name)
         if crate is None:
             yield f"{name}: not in the receipt"
@@ -161,7 +161,7 @@ def told_of_verdicts(receipt: Receipt) -> Iterator[str]:
 
 
 def told_of_sources(receipt: Receipt, differ: List[str]) -> Iterator[str]:
-    count = len({**receipt.crates, **crates_below("fzcheck")})
+    count = len({*receipt.crates, *crates_below("fzcheck")})
     yield f"sources: {count - len(differ)} of {count} crates agree"
     yield from (f"  {line}" for line in differ)
 

@@ -76,7 +76,8 @@ class Model:
     def text(self) -> str:
         objective = "" if self.objective is None else f" {text_of(self.objective)}"
         solve = f"solve{notes_text(self.notes)} {self.goal}{objective};"
-        items = [it.text() for it in [*self.declarations, *self.constraints]]
+        items = [*map(Declaration.text, self.declarations),
+                 *map(Constraint.text, self.constraints)]
         return "\n".join([*self.predicates, *items, solve]) + "\n"
 
     def declared(self) -> Dict[Name, Declaration]:

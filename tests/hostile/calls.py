@@ -8,7 +8,6 @@ tests/broken, on the examples and on pairs of sets.
 
 A reader that gives single bytes or fails, a writer that fails and a splitter that is full follow.
 The last line is 'N passed, M failed'."""
-import itertools
 import json
 import os
 import re
@@ -174,26 +173,8 @@ def words_of(program, folder, call):
     return words + list(call.more)
 
 
-def refused(words, number, more={}):
-    return running.run(words, env={"REFUSE_GROWTH": str(number)} | more)
-
-
-def begun(words):
-    """The number of a growth; the one before it is for the operands, so no call is missed."""
-    before, behind = 0, 1
-    while refused(words, behind).answer == NOT_MADE:
-        before, behind = behind, behind * 2
-    while behind - before > 1:
-        middle = (before + behind) // 2
-        if refused(words, middle).answer == NOT_MADE:
-            before = middle
-        else:
-            behind = middle
-    return behind
-
-
 def each_growth(program, call):
-    """Refuses each growth of a call in turn, until a run meets no refusal."""
+    """Refuses each growth of a call in turn, and at last none."""
     tally, names = Tally(), Counter()
     with tempfile.TemporaryDirectory(dir=FOLDER) as folder:
         words = words_of(program, folder, call)
@@ -202,17 +183,16 @@ def each_growth(program, call):
             return tally, names
         told = f"{call.kind} {call.name} {call.texts}"
         tally.check(told, ample.status == 0 and not MEMORY.search(ample.out), ample)
-        for number in itertools.count(begun(words)):
-            ran = refused(words, number)
-            if not ran.met:
-                tally.expect(f"{told}, no refusal", ran.answer, ample.answer)
-                return tally, names
+        every, last = running.each_refused(words)
+        for number, ran in enumerate(every, 1):
             if ran.answer == NOT_MADE:
                 continue
             name = call.refused(ample.out, ran.out)
             fits = name is not None and ran.status == 0 and not ran.err
             tally.check(f"{told}, growth {number}", fits, (ran.answer, ample.out))
             names[name] += 1
+        tally.expect(f"{told}, no refusal", last.answer, ample.answer)
+    return tally, names
 
 
 def no_growth(program, call):
@@ -223,12 +203,11 @@ def no_growth(program, call):
         ample = running.run(words)
         if ample.answer == NOT_MADE:
             return tally, Counter()
-        for number in itertools.count(begun(words)):
-            ran = refused(words, number, {"REFUSE_ONWARD": "1"})
-            if ran.answer != NOT_MADE:
-                told = f"{call.kind} {call.name} {call.texts}, every growth"
-                tally.expect(told, ran.answer, ample.answer)
-                return tally, Counter()
+        every, last = running.each_refused(words, onward=True)
+        made = next((ran for ran in every if ran.answer != NOT_MADE), last)
+        told = f"{call.kind} {call.name} {call.texts}, every growth"
+        tally.expect(told, made.answer, ample.answer)
+    return tally, Counter()
 
 
 LINES = IMPROVING_REPORT.splitlines(True)

@@ -2,11 +2,10 @@
 
 Every run answers that memory ran out, or what it answers with ample memory; what it wrote before
 is a front of what it writes then. What explains a refusal or a verdict may be left out."""
-import itertools
 import os
 
 from beside import BY_HAND, CORPUS, FIRST_MODEL, FIRST_STREAM, content, examples, pairs
-from running import ROOT, Tally, run
+from running import ROOT, Tally, each_refused, run
 
 MEMORY = 7
 OUT_OF_MEMORY = b"refused: memory\n"
@@ -57,24 +56,22 @@ def fronts(text, is_refusal):
     return [b"".join(lines[:count]) for count in range(int(is_refusal), len(lines) + 1)]
 
 
-def each_refused(name, words, stdin, onward):
-    """Refuses the first growth, the second and so on, until a run meets no refusal."""
+def judged(name, words, stdin, onward):
+    """Refuses the first growth, the second and so on, and at last none."""
     tally = Tally()
     ample = run(words, stdin).answer
     # With `--explain=all` blocks are explained as they come.
     refused = [front + OUT_OF_MEMORY for front in fronts(ample[2], False)]
-    more = {"REFUSE_ONWARD": "1"} if onward else {}
-    for number in itertools.count(1):
-        ran = run(words, stdin, {"REFUSE_GROWTH": str(number)} | more)
-        if not ran.met:
-            tally.expect(f"{name}: no growth {number}", ran.answer, ample)
-            return tally
+    every, last = each_refused(words, stdin, onward)
+    for number, ran in enumerate(every, 1):
         wants = ran.status == MEMORY and ran.err in refused and ample[1].startswith(ran.out)
         fewer = ran.answer[:2] == ample[:2] and ran.err in fronts(ample[2], ample[0] >= REFUSED)
         tally.check(f"{name}: growth {number}", wants or fewer or ran.answer == ample, ran)
+    tally.expect(f"{name}: no growth {len(every) + 1}", last.answer, ample)
+    return tally
 
 
 def jobs(program):
     for name, words, stdin in words_of_runs():
         for onward in (False, True):
-            yield each_refused, (name, [program, *words], stdin, onward)
+            yield judged, (name, [program, *words], stdin, onward)

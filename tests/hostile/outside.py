@@ -7,7 +7,7 @@ import tempfile
 import time
 
 from beside import FIRST_MODEL, FIRST_STREAM, content, examples
-from running import FOLDER, Tally, run
+from running import FOLDER, ROOT, Tally, run
 
 ACCEPTED = 0, b"block 1: satisfied\naccepted: blocks 1\n", b""
 INPUT = "(standard input)"
@@ -15,7 +15,8 @@ WRITE = 6, b"", b"refused: write\n"
 MEMORY = 7, b"refused: memory\n"
 NOBODY = 65_534
 
-STACK = 80  # KB
+STACK, STACK_UNPROVED = 80, 160  # KB
+UNPROVED = os.path.join(ROOT, "build", "unproved", "")  # where programs without proof are
 LEAST_MEMORY, MOST_MEMORY = 4_096, 131_072  # KB of address space
 DEEP = b"solve :: " + b"a([" * 31 + b"a" + b"])" * 31 + b" satisfy;\n"
 
@@ -134,9 +135,13 @@ def no_leave(program):
 
 
 def little_stack(program):
-    """A stack of 80 KB gives what an ample one gives."""
-    tally = Tally()
-    limited = f'ulimit -s {STACK}; exec env -i "$@"'
+    """A stack of 80 KB gives what an ample one gives. A program without proof is compiled
+    otherwise, and wants more."""
+    tally, stack = Tally(), STACK
+    if program.startswith(UNPROVED):
+        stack = STACK_UNPROVED
+        print(f"outside: {stack} KB of stack, and not {STACK}, for a build without proof")
+    limited = f'ulimit -s {stack}; exec env -i "$@"'
     for name, model, stream in examples():
         for words in (
             [program, "check", model, stream],
@@ -144,10 +149,10 @@ def little_stack(program):
             [program, "show", model],
         ):
             ran = in_shell(limited, *words)
-            tally.expect(f"{STACK} KB of stack: {name}", ran.answer, run(words).answer)
+            tally.expect(f"{stack} KB of stack: {name}", ran.answer, run(words).answer)
     for words in ([program, "check", "/dev/stdin", FIRST_STREAM], [program, "show", "/dev/stdin"]):
         ran = in_shell(limited, *words, stdin=DEEP)
-        tally.expect(f"{STACK} KB of stack: 32 levels", ran.answer, run(words, DEEP).answer)
+        tally.expect(f"{stack} KB of stack: 32 levels", ran.answer, run(words, DEEP).answer)
     return tally
 
 

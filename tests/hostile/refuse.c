@@ -1,18 +1,25 @@
 // Refuses memory, reads and writes to the program that it is preloaded into (LD_PRELOAD), by the
 // environment. It is a part of the tests alone.
 //
-//   REFUSE_GROWTH=N  the Nth growth of memory, counted from 1; that one alone
+//   REFUSE_EACH=FD   each growth of memory, in a copy of the process that is made for it and goes on
+//                    to its end; what it gave is told to this descriptor, as "STATUS OUT ERR\n", with
+//                    the numbers of bytes of its two outputs, and these. The process itself goes on
+//                    with each growth granted. Its standard streams have to be files
 //   REFUSE_READ=N    the Nth read, of whatever descriptor
 //   REFUSE_WRITE=N   the Nth write to standard output
 //   REFUSE_BYTES=K   that read or write and those behind it take K bytes in all before one fails
 //   REFUSE_NOTHING=1 the read or write that fails answers 0, as if it took nothing, in place of EIO
 //   REFUSE_ONWARD=1  all later ones too
 //   REFUSE_PIECE=K   no read or write takes more than K bytes
-//   REFUSE_LOG=FD    each refusal writes one byte to this descriptor
+//   REFUSE_LOG=FD    each refused read or write writes one byte to this descriptor
 #define _GNU_SOURCE
 #include <errno.h>
+#include <stdio.h>
 #include <stdlib.h>
+#include <sys/mman.h>
+#include <sys/stat.h>
 #include <sys/syscall.h>
+#include <sys/wait.h>
 #include <unistd.h>
 
 void *__libc_malloc(size_t size);
@@ -21,9 +28,11 @@ void *__libc_realloc(void *old, size_t size);
 void *__libc_memalign(size_t align, size_t size);
 
 struct refused { long from, met, bytes; };
-static struct refused growths, reads, writes;
+static struct refused reads, writes;
 static long nothing, onward, piece;
-static int log_to = -1;
+static int log_to = -1, each_to = -1, refuses_all;
+
+enum { DESCRIPTORS = 32, MOST_SECONDS = 600, PIECE = 65536, LINE = 64 };
 
 static long number(const char *name, long otherwise) {
     const char *text = getenv(name);
@@ -32,13 +41,13 @@ static long number(const char *name, long otherwise) {
 
 __attribute__((constructor)) static void begin(void) {
     long bytes = number("REFUSE_BYTES", 0);
-    growths = (struct refused){number("REFUSE_GROWTH", 0), 0, 0};
     reads = (struct refused){number("REFUSE_READ", 0), 0, bytes};
     writes = (struct refused){number("REFUSE_WRITE", 0), 0, bytes};
     nothing = number("REFUSE_NOTHING", 0);
     onward = number("REFUSE_ONWARD", 0);
     piece = number("REFUSE_PIECE", 0);
     log_to = number("REFUSE_LOG", -1);
+    each_to = number("REFUSE_EACH", -1);
 }
 
 // Whether this call is refused, of a kind of which none is where `from` is 0.
@@ -49,8 +58,67 @@ static int is_refused(struct refused *kind) {
     return 1;
 }
 
+// Writes all that a file has to another one, whose place alone moves.
+static void copy(int from, int to) {
+    char bytes[PIECE];
+    off_t at = 0;
+    for (ssize_t n; (n = pread(from, bytes, PIECE, at)) > 0; at += n) syscall(SYS_write, to, bytes, n);
+}
+
+static long size_of(int fd) {
+    struct stat known;
+    return fstat(fd, &known) ? 0 : known.st_size;
+}
+
+// A file in memory that begins with what an output has so far.
+static int begun(int output) {
+    int made = memfd_create("output", 0);
+    copy(output, made);
+    return made;
+}
+
+// In a copy of the process: its outputs are its own from now on, and this growth is refused to it.
+static void refuse(int out, int err) {
+    dup2(out, STDOUT_FILENO);
+    dup2(err, STDERR_FILENO);
+    close(out);
+    close(err);
+    close(each_to);
+    each_to = -1;
+    refuses_all = onward;
+    alarm(MOST_SECONDS);
+}
+
+static void tell(int status, int out, int err) {
+    char line[LINE];
+    int ended = WIFSIGNALED(status) ? -WTERMSIG(status) : WEXITSTATUS(status);
+    int n = snprintf(line, LINE, "%d %ld %ld\n", ended, size_of(out), size_of(err));
+    syscall(SYS_write, each_to, line, n);
+    copy(out, each_to);
+    copy(err, each_to);
+}
+
+// Whether this is a copy of the process, to which the growth is refused. The process itself waits
+// for the copy, and then goes on where it was, in its files too.
+static int is_copy(void) {
+    off_t places[DESCRIPTORS];
+    int out = begun(STDOUT_FILENO), err = begun(STDERR_FILENO), status = 0;
+    for (int fd = 0; fd < DESCRIPTORS; fd++) places[fd] = lseek(fd, 0, SEEK_CUR);
+    pid_t made = fork();
+    if (made == 0) {
+        refuse(out, err);
+        return 1;
+    }
+    waitpid(made, &status, 0);
+    for (int fd = 0; fd < DESCRIPTORS; fd++) if (places[fd] >= 0) lseek(fd, places[fd], SEEK_SET);
+    tell(status, out, err);
+    close(out);
+    close(err);
+    return 0;
+}
+
 static int no_memory(void) {
-    int refused = is_refused(&growths);
+    int refused = refuses_all || (each_to >= 0 && is_copy());
     if (refused) errno = ENOMEM;
     return refused;
 }

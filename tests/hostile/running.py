@@ -3,14 +3,16 @@ count."""
 import os
 import signal
 import subprocess
+import tempfile
 from dataclasses import dataclass, field
 
 HERE = os.path.dirname(os.path.abspath(__file__))
 ROOT = os.path.dirname(os.path.dirname(HERE))
 FOLDER = os.path.join(ROOT, "build", "hostile")
 SHARED = os.path.join(FOLDER, "refuse.so")
-MOST_SECONDS = 60
+MOST_SECONDS = 600  # by the clock, on a machine that may have much else to do
 READ_SIZE = 65_536
+MOST_SECONDS_OF_ALL = 1_200  # of a run whose growths are refused in turn
 
 
 def build():
@@ -49,6 +51,31 @@ def run(words, stdin=b"", env=None, limit=MOST_SECONDS, shared=SHARED, **more):
         os.close(to)
     with os.fdopen(log, "rb") as log:
         return Ran(*ran, len(log.read(READ_SIZE)))
+
+
+def each_refused(words, stdin=b"", onward=False):
+    """Runs a program in which each growth of memory is refused in turn: what it gives with each
+    refused, and with none. With `onward` all that follow are refused too."""
+    files = [tempfile.TemporaryFile(dir=FOLDER) for _ in range(4)]
+    source, out, err, told = files
+    source.write(stdin)
+    source.seek(0)
+    env = os.environ | {"LD_PRELOAD": SHARED, "REFUSE_EACH": str(told.fileno())}
+    if onward:
+        env["REFUSE_ONWARD"] = "1"
+    process = subprocess.Popen(words, stdin=source, stdout=out, stderr=err, env=env,
+                               pass_fds=(told.fileno(),))
+    status = process.wait(MOST_SECONDS_OF_ALL)
+    for file in files:
+        file.seek(0)
+    ran = Ran(status, out.read(), err.read())
+    refused = []
+    while line := told.readline():
+        status, *sizes = map(int, line.split())
+        refused.append(Ran(status, *map(told.read, sizes), met=1))
+    for file in files:
+        file.close()
+    return refused, ran
 
 
 def given(words, stdin, env, limit, more):

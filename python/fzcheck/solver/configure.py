@@ -40,14 +40,14 @@ def found(name: str) -> Solver:
     solvers = [solver for solver in minizinc("--solvers-json") if name.lower() in names(solver)]
     if not solvers:
         sys.exit(f"MiniZinc has no solver {name}: see minizinc --solvers")
-    solver = solvers[0]
+    solver: Solver = solvers[0]
     if not solver["supportsFzn"] or "executable" not in solver["extraInfo"]:
         sys.exit(f"{name} is no program that takes FlatZinc, or isn't installed")
     return solver
 
 
 def write(path: str, text: str, mode: int) -> None:
-    with open(path, "w") as file:
+    with open(path, "w", encoding="utf-8") as file:
         file.write(text)
     os.chmod(path, mode)
     print(f"wrote {path}")
@@ -63,7 +63,7 @@ def configure(base: str, description: Solver, **variables: str) -> None:
 
 def is_ours(base: str) -> bool:
     try:
-        with open(base + ".msc") as file:
+        with open(f"{base}.msc", encoding="utf-8") as file:
             return MARK in file.read()
     except FileNotFoundError:
         return False
