@@ -1,10 +1,12 @@
 """Values and names in the planner's words: those of enums by their names, elements by indices."""
 import itertools
+import math
 import re
+from functools import cached_property
 from typing import Any, Dict, List, Optional
 
 from fzcheck.mzn.items import Items
-from fzcheck.mzn.model import Model, Name
+from fzcheck.mzn.model import Model
 from fzcheck.mzn.plan import Solution
 from fzcheck.mzn.values import Array, Range, SetOf
 
@@ -23,21 +25,33 @@ def name_of(enum: List[str], value: Any) -> Any:
     return enum[value - 1] if is_number and 1 <= value <= len(enum) else value
 
 
-def index_names(model: Model, found: Name) -> List[List[str]]:
-    """The names of an array's indices in each dimension."""
+def index_names(model: Model, name: str) -> List[List[str]]:
+    """The names of an array's indices in each dimension; of another value there is none."""
+    found = model.names.get(name)
+    if found is None or not found.is_array:
+        return []
     bounds = found.dimensions or [[1, found.size]]
     enums = found.index_enums if len(found.index_enums) == len(bounds) else ("",) * len(bounds)
     return [[str(name_of(model.enums.get(enum, []), index)) for index in range(low, high + 1)]
             for enum, (low, high) in zip(enums, bounds)]
 
 
-def element_names(model: Model, name: str) -> List[str]:
+def printed_indices(model: Model, name: str, value: Any) -> List[List[str]]:
+    """The same of a value that was printed, by its own indices where the model's aren't known."""
+    if not isinstance(value, Array):
+        return []
+    known = index_names(model, name)
+    if math.prod(map(len, known)) == len(value.elements) and known:
+        return known
+    if math.prod(value.lengths) != len(value.elements):
+        return [list(map(str, range(1, len(value.elements) + 1)))]
+    return [list(map(str, indices or range(1, length + 1)))
+            for indices, length in zip(value.indices, value.lengths)]
+
+
+def element_names(name: str, indices: List[List[str]]) -> List[str]:
     """The names of all elements of an array, in order, or the name of what is none."""
-    found = model.names.get(name)
-    if found is None or not found.is_array:
-        return [name]
-    return [f"{name}[{','.join(index)}]"
-            for index in itertools.product(*index_names(model, found))]
+    return [f"{name}[{','.join(one)}]" for one in itertools.product(*indices)] if indices else [name]
 
 
 def value_text(value: Any, enum: List[str]) -> str:
@@ -60,7 +74,7 @@ def printed_values(model: Model, solution: Solution) -> Dict[str, Any]:
     values: Dict[str, Any] = {}
     for name, value, _ in solution.values:
         elements = value.elements if isinstance(value, Array) else [value]
-        values.update(zip(element_names(model, name), elements))
+        values.update(zip(element_names(name, printed_indices(model, name, value)), elements))
     return values
 
 
@@ -69,6 +83,17 @@ class Wording:
 
     def __init__(self, model: Model, items: Items) -> None:
         self.model, self.items = model, items
+
+    @cached_property
+    def same(self) -> Dict[str, List[str]]:
+        """The names of elements that are one variable, by each of them."""
+        names: Dict[str, List[str]] = {}
+        for name in self.model.names:
+            elements = element_names(name, index_names(self.model, name))
+            variables = self.items.arrays.get(name, [])
+            for element, variable in zip(elements, variables if len(variables) == len(elements) else ()):
+                names.setdefault(variable, []).append(element)
+        return {name: alike for alike in names.values() if len(alike) > 1 for name in alike}
 
     def enum(self, name: str) -> List[str]:
         """The names of the values that a name of the model, or an element, can have."""
@@ -93,7 +118,7 @@ class Wording:
         """The model's name of the variable, or the element, that a part is about."""
         variable = str(part["variable"])
         element: Optional[int] = part.get("element")
-        names = element_names(self.model, variable)
+        names = element_names(variable, index_names(self.model, variable))
         if element is None or variable not in self.model.names or element > len(names):
             inner = self.items.arrays.get(variable, [])
             if element is not None and element <= len(inner):
