@@ -5,6 +5,7 @@ In a checkout the companions are in `python/`, and the library is in `minizinc/`
 """
 import os
 import shutil
+import subprocess
 from typing import Iterator, List, Optional, Sequence
 
 PROGRAMS = os.path.dirname(os.path.dirname(os.path.realpath(__file__)))  # their folder
@@ -16,6 +17,16 @@ def program() -> Optional[str]:
     """The program `fzcheck`: what FZCHECK names, or the one that was installed or built with the
     companions, or else the first on the path."""
     return os.environ.get("FZCHECK") or shutil.which("fzcheck", path=os.pathsep.join(program_places()))
+
+
+def version() -> str:
+    """The version of the program, with which its companions come."""
+    try:
+        told = subprocess.run([program() or "fzcheck", "--version"], stdout=subprocess.PIPE,
+                              encoding="utf-8", check=False).stdout
+    except OSError:
+        return "of unknown version: there is no fzcheck"
+    return told.partition(" ")[2].strip()
 
 
 def program_places() -> Iterator[str]:

@@ -10,11 +10,6 @@ from fzcheck.mzn.plan import Solution
 from fzcheck.mzn.wording import Wording, joined
 
 Object = Dict[str, Any]
-LISTED = {  # lines of the report on names
-    "not_checked": "not checked: {}",
-    "not_printed": "not printed: {}, found values that fit",
-}
-
 
 class Source(NamedTuple):
     """What is checked: the plan, its solutions, and the lines that the stream's are from."""
@@ -72,8 +67,13 @@ class Told:
             return "cut: {}..{}".format(*found["cut"])
         if "answer" in found:
             return answer_line(found)
-        return "".join(text.format(", ".join(found[key])) for key, text in LISTED.items()
-                       if key in found)
+        if "not_checked" in found:
+            return f"not checked: {', '.join(found['not_checked'])}"
+        if "not_printed" in found:
+            fit = ", found values that fit" if found["found"] else ""
+            *names, last = found["not_printed"]
+            return f"not printed: {', '.join(names)}{' and ' * bool(names)}{last}{fit}"
+        return ""
 
     def verdict(self, found: Object) -> str:
         """The line of a block."""
@@ -168,4 +168,6 @@ def answer_line(found: Object) -> str:
         return f"{answer}: claim after block {found['claim_after']}"
     if answer == "accepted":
         return f"{answer}: blocks {found['blocks']}"
+    if "why" in found:
+        return f"{answer}: {found['why']}"
     return f"{answer}: block {found['block']}" if "block" in found else answer
