@@ -32,9 +32,9 @@ class Tables:
 
     def html(self, solution: Solution) -> Iterator[str]:
         """The values that stand alone, then the arrays in their order."""
-        found = [(name, printed_indices(self.model, name, value))
-                 for name, value, _ in solution.values
-                 if name == OBJECTIVE or not OF_NO_MODEL.match(name)]
+        found = [(one.name, printed_indices(self.model, one.name, one.value))
+                 for one in solution.values
+                 if one.name == OBJECTIVE or not OF_NO_MODEL.match(one.name)]
         single = [name for name, indices in found if not indices]
         if single:
             yield table("", [], [(name.strip("_"), [self.cell(name)]) for name in single])
