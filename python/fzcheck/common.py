@@ -3,10 +3,11 @@
 In a checkout the companions are in `python/`, and the library is in `minizinc/` beside it. After
 `make install` both are in `share/fzcheck`, and `bin` has links to the companions.
 """
+import difflib
 import os
 import shutil
 import subprocess
-from typing import Iterator, List, Optional, Sequence
+from typing import Iterable, Iterator, List, Optional, Sequence
 
 PROGRAMS = os.path.dirname(os.path.dirname(os.path.realpath(__file__)))  # their folder
 LIBRARY = "fzcheck.msc"
@@ -58,3 +59,18 @@ def with_defaults(options: Sequence[str], defaults: Sequence[str] = TELLING) -> 
     """The options of `fzcheck check` that are given, behind the others that are always on."""
     names = [word.split("=")[0] for word in options]
     return [*(word for word in defaults if word not in names), *options]
+
+
+def version_words(companion: str) -> str:
+    """What a companion says of its version, which is that of the program that it would run."""
+    found = program()
+    if not found:
+        return f"{companion}: no program fzcheck was found"
+    told = subprocess.run([found, "--version"], stdout=subprocess.PIPE, check=True).stdout
+    return f"{companion} with {told.decode().strip()}"
+
+
+def meant(word: str, known: Iterable[str]) -> str:
+    """What is said of a wrong word that is nearly a right one."""
+    near = difflib.get_close_matches(word, list(known), 1)
+    return f": did you mean {near[0]}?" if near else ""
