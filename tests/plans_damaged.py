@@ -10,8 +10,8 @@ the model with the plan's values as data.
 
 Then COUNT (100) single changes are made at random, of a number, a word, or a set. No plan of which
 MiniZinc says that it is wrong may be accepted, and no other may be rejected."""
+import collections
 import glob
-import json
 import os
 import random
 import re
@@ -29,6 +29,7 @@ FOLDER = os.path.join(ROOT, "tests", "plans", "damaged")
 FORMS = ("dzn", "json", "jsonl")
 UNSATISFIABLE = "=====UNSATISFIABLE====="
 VALUE = re.compile(r"(?<![\w.])-?\d+(?![\w.:])|\b[A-Za-z]\w*\b(?!\s*[=:(])|<>")
+WORKERS = 2
 passed = failed = 0
 
 
@@ -44,6 +45,8 @@ class Model:
 
     def __init__(self, path):
         self.path, self.name = path, os.path.basename(path)[: -len(".mzn")]
+        with open(path, encoding="utf-8") as file:
+            self.text = file.read()
         with open(path[: -len(".mzn")] + ".txt", encoding="utf-8") as file:
             self.plan, *self.damages = file.read().split("\n== ")
         self.plan += "\n"
@@ -59,14 +62,31 @@ class Model:
         return what, self.plan.replace(old, new), status, parts[">"]
 
 
+def given(folder, model, plan):
+    """The files that give a model the plan's values: as data, or as constraints those of names that
+    are defined."""
+    texts = {"dzn": "", "mzn": ""}
+    for item in plan.replace("----------\n", "").split(";\n"):
+        name = item.partition("=")[0].strip()
+        is_defined = re.search(rf": {name} = ", model.text) if name else None
+        if name:
+            texts["mzn" if is_defined else "dzn"] += f"{'constraint ' * bool(is_defined)}{item};\n"
+    for ending, text in texts.items():
+        path = os.path.join(folder, f"given.{ending}")
+        with open(path, "w", encoding="utf-8") as file:
+            file.write(text)
+        yield path
+
+
+def solved(folder, model, plan, *words):
+    return run(folder, "minizinc", "--solver", "gecode", "-G", "std", *words, model.path,
+               *given(folder, model, plan))
+
+
 def truth(folder, model, plan):
     """What MiniZinc says of a plan: whether it is right, or nothing where that can't be told."""
-    data = os.path.join(folder, "plan.dzn")
-    # Definitions that it would check by equations of floats it checks by its own rounding.
-    with open(data, "w", encoding="utf-8") as file:
-        file.write(plan.replace("----------\n", ""))
-    ran = run(folder, "minizinc", "--solver", "gecode", "-G", "std", model.path, data)
-    if UNSATISFIABLE in ran.stdout or "model inconsistency" in ran.stderr.lower():
+    ran = solved(folder, model, plan)
+    if UNSATISFIABLE in ran.stdout:
         return False
     return True if "\n----------" in "\n" + ran.stdout and ran.returncode == 0 else None
 
@@ -81,16 +101,8 @@ def checked(folder, model, plan):
 def forms(folder, model):
     """The good plan in each form: MiniZinc prints it anew, from its values."""
     yield "dzn", model.plan
-    data = os.path.join(folder, "good.dzn")
-    with open(data, "w", encoding="utf-8") as file:
-        file.write(model.plan.replace("----------\n", ""))
-    names = re.findall(r"^(\w+) =", model.plan, re.M)
     for form, words in (("json", ()), ("jsonl", ("--json-stream",))):
-        ran = run(folder, "minizinc", "--solver", "gecode", "-G", "std", *words, "--output-mode",
-                  "json", model.path, data)
-        yield form, ran.stdout
-        found = re.findall(r'"(\w+)" :', ran.stdout)
-        expect(f"{model.name}: names in {form}", bool(set(found) & set(names)), ran.stdout[:300])
+        yield form, solved(folder, model, model.plan, *words, "--output-mode", "json").stdout
 
 
 def tried(folder, model):
@@ -98,7 +110,8 @@ def tried(folder, model):
         ran = checked(folder, model, plan)
         is_good = ran.returncode == 0 and "\naccepted: blocks 1\n" in "\n" + ran.stdout
         expect(f"{model.name}: good, as {form}", is_good, ran.stdout + ran.stderr)
-    expect(f"{model.name}: good", truth(folder, model, model.plan), "MiniZinc says otherwise")
+    said = truth(folder, model, model.plan)
+    expect(f"{model.name}: good, by MiniZinc", said is True, said)
     expect(f"{model.name}: damages", len(model.damages) >= 6, len(model.damages))
     for text in model.damages:
         what, plan, status, named = model.damaged(text)
@@ -109,7 +122,7 @@ def tried(folder, model):
                f"status {ran.returncode}, {left} not named in:\n{told}")
         if status == 1:
             said = truth(folder, model, plan)
-            expect(f"{model.name}: {what}, by MiniZinc", not said, "it is a plan")
+            expect(f"{model.name}: {what}, by MiniZinc", said is False, said)
 
 
 def changed(plan, rand):
@@ -124,28 +137,29 @@ def changed(plan, rand):
     return plan[: place.start()] + new + plan[place.end() :], f"{old} became {new}"
 
 
-def change(program, model, seed):
-    """Makes a change, and tells what is wrong with what is said of it, if anything."""
-    with tempfile.TemporaryDirectory() as folder:
-        prepared(folder, program)
-        plan, what = changed(model.plan, random.Random(seed))
-        ran = checked(folder, model, plan)
-        if ran.returncode == 4:  # refused: MiniZinc may take it, as it does a number for a float
-            return "refused", ""
-        is_right = truth(folder, model, plan)
-        fault = f"{model.name}, seed {seed}: {what}: status {ran.returncode}, and MiniZinc says "
-        if ran.returncode == 0 and is_right is not True or ran.returncode not in (0, 1, 2):
-            return "wrong", f"{fault}{is_right}\n{plan}{ran.stdout}{ran.stderr}"
-        if ran.returncode == 1 and is_right:
-            return "wrong", f"{fault}that it is right\n{plan}{ran.stdout}{ran.stderr}"
-        return ("accepted", "rejected", "undecided")[ran.returncode], ""
+def change(folder, model, seed):
+    """Makes a change, and tells what came of it, with what is wrong with that, if anything."""
+    plan, what = changed(model.plan, random.Random(seed))
+    ran = checked(folder, model, plan)
+    if ran.returncode == 4:  # refused, also where MiniZinc would take it, as true for a number
+        return "refused", ""
+    is_right = truth(folder, model, plan)
+    fault = f"{model.name}, {what}: status {ran.returncode}, and MiniZinc says {is_right}"
+    is_wrong = ran.returncode == 0 and is_right is not True or ran.returncode == 1 and is_right
+    if is_wrong or ran.returncode not in (0, 1, 2):
+        return "wrong", f"{fault}\n{plan}{ran.stdout}{ran.stderr}"
+    return ("accepted", "rejected", "undecided")[ran.returncode], ""
 
 
-def prepared(folder, program, cache=None):
+def changes(folder, program, models, seeds):
+    """The changes of these seeds, each in turn of another model."""
+    prepared(folder, program)
+    return [change(folder, models[seed % len(models)], seed) for seed in seeds]
+
+
+def prepared(folder, program):
     os.mkdir(os.path.join(folder, "bin"))
     os.symlink(program, os.path.join(folder, "bin", "fzcheck"))
-    if cache:
-        os.symlink(cache, os.path.join(folder, "cache"))
 
 
 def main():
@@ -158,9 +172,23 @@ def main():
         return 0
     models = [Model(path) for path in sorted(glob.glob(os.path.join(FOLDER, "*.mzn")))]
     with tempfile.TemporaryDirectory() as folder:
-        prepared(folder, program)
+        places = [os.path.join(folder, str(number)) for number in range(WORKERS)]
+        for place in places:
+            os.mkdir(place)
+        prepared(places[0], program)
         for model in models:
-            tried(folder, model)
+            tried(places[0], model)
+        seeds = [range(seed + number, seed + count, WORKERS) for number in range(WORKERS)]
+        shutil.rmtree(places[0])
+        os.mkdir(places[0])
+        with ThreadPoolExecutor(WORKERS) as pool:
+            found = pool.map(lambda place, seeds: changes(place, program, models, seeds),
+                             places, seeds)
+            came = [one for part in found for one in part]
+    for word, fault in came:
+        expect("a change", not fault, fault)
+    counts = collections.Counter(word for word, _ in came)
+    print(f"changes: {', '.join(f'{word} {number}' for word, number in sorted(counts.items()))}")
     print(f"{passed} passed, {failed} failed")
     return 1 if failed else 0
 

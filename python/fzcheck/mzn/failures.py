@@ -85,12 +85,14 @@ class Reader:
         return Place(self.plan, found["line"], 1, len(line)), line
 
     def place(self, found: Dict[str, Any]) -> Tuple[Optional[Place], str]:
-        model = found.get("model", {})
+        model: Dict[str, Any] = found.get("narrowed") or found.get("model") or {}
         if "place" not in model:
             return None, ""
         return place_in(self.items.row(found["line"]).path, model["place"]), model.get("line", "")
 
     def subject(self, found: Dict[str, Any], point: str) -> str:
+        if "narrowed" in found:
+            return str(found["narrowed"]["name"]) or NAMELESS
         constraint = self.items.constraints.get(found["line"])
         if point in ("objective", "printed"):
             return str(found["message"]).rpartition(" in block")[0].replace(" differs", "")
