@@ -30,7 +30,8 @@ class Lane(NamedTuple):
     """The tasks of one constraint."""
     label: str
     tasks: List[Task]
-    limit: Optional[int] = None  # of the resource
+    left_out: int  # of which some number isn't printed
+    limit: Optional[int]  # of the resource
 
 
 class Chart(NamedTuple):
@@ -52,10 +53,10 @@ class Values:
 
     def listed(self, argument: Argument) -> Argument:
         """The elements of an array that is named."""
-        if not isinstance(argument, Name) or argument not in self.told.items.declared_at:
+        lines = self.told.items.array_lines
+        if not isinstance(argument, Name) or argument not in lines:
             return argument
-        line = self.told.items.lines[self.told.items.declared_at[argument] - 1]
-        value = Reader(line).declaration().value
+        value = Reader(lines[argument]).declaration().value
         return argument if value is None else value
 
     def name(self, value: Scalar) -> str:
@@ -98,8 +99,9 @@ def lane_of(values: Values, constraint: Constraint, label: str) -> Lane:
         limit = values.number(lists.pop()[0])
     elif constraint.name in BOXES:
         lists = [lists[0], lists[2], lists[3], lists[1]]
-    tasks = [task_of(values, row) for row in zip(*lists)]
-    return Lane(label, renamed([task for task in tasks if task]), limit)
+    rows = list(zip(*lists))
+    tasks = [task for task in (task_of(values, row) for row in rows) if task]
+    return Lane(label, renamed(tasks), len(rows) - len(tasks), limit)
 
 
 def task_of(values: Values, row: Sequence[Scalar]) -> Optional[Task]:

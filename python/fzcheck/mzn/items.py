@@ -5,6 +5,7 @@ a constraint's number from 0, then the model's name, and the path to it, with ta
 is a list of segments `FILE|LINE|COLUMN|LINE|COLUMN|..;`."""
 import os
 import re
+from functools import cached_property
 from typing import Callable, Dict, Iterable, List, NamedTuple
 
 from fzcheck.mzn.model import MODEL, TABLE
@@ -37,7 +38,7 @@ class Constraint(NamedTuple):
     number: int
     name: str
     arguments: str  # the text between its parentheses
-    noted: str  # its name in the model, where the compiler has it
+    notes: str  # its annotations
 
     def __str__(self) -> str:
         return f"constraint {self.number} {self.name}"
@@ -67,34 +68,56 @@ def place_in(path: str, told: str) -> Place:
 
 
 class Items:
+    """Each part is read once it is asked for."""
+
     def __init__(self, folder: str) -> None:
-        self.lines = text_of(os.path.join(folder, MODEL)).split("\n")
-        self.arrays: Dict[str, List[str]] = {}  # the variables in each
-        self.declared_at: Dict[str, int] = {}  # the lines of arrays
-        self.definers: Dict[str, str] = {}  # of a variable, the arguments of what defines it
-        self.constraints: Dict[int, Constraint] = {}  # by line, from 1
-        self.rows: Dict[str, Row] = {}
-        for number, line in enumerate(self.lines, 1):
-            if line.startswith("constraint "):
-                self.add_constraint(number, line)
-            elif line.startswith("array "):
-                declared, _, value = line.partition(" = [")
-                self.declared_at[self.declared(declared)] = number
-                self.arrays[self.declared(declared)] = words(value.rpartition("]")[0])
-        for line in text_of(os.path.join(folder, TABLE)).split("\n"):
+        self.folder = folder
+
+    @cached_property
+    def lines(self) -> List[str]:
+        return text_of(os.path.join(self.folder, MODEL)).split("\n")
+
+    @cached_property
+    def rows(self) -> Dict[str, Row]:
+        """The table of names."""
+        found: Dict[str, Row] = {}
+        for line in text_of(os.path.join(self.folder, TABLE)).split("\n"):
             columns = line.split("\t")
             if len(columns) == 3:
-                self.rows.setdefault(columns[0], Row(columns[1], columns[2]))
+                found.setdefault(columns[0], Row(columns[1], columns[2]))
+        return found
 
-    def add_constraint(self, number: int, line: str) -> None:
-        head, _, notes = line.partition("::")
-        name, _, arguments = head[len("constraint "):].partition("(")
-        arguments = arguments.rpartition(")")[0]
-        noted = NOTED.search(notes)
-        self.constraints[number] = Constraint(
-            len(self.constraints) + 1, name, arguments, noted[1] if noted else "")
-        for variable in DEFINES.findall(notes):
-            self.definers.setdefault(variable, arguments)
+    @cached_property
+    def constraints(self) -> Dict[int, Constraint]:
+        """The constraints by their lines, from 1."""
+        found: Dict[int, Constraint] = {}
+        for number, line in enumerate(self.lines, 1):
+            if line.startswith("constraint "):
+                head, _, notes = line.partition("::")
+                name, _, arguments = head[len("constraint "):].partition("(")
+                arguments = arguments.rpartition(")")[0]
+                found[number] = Constraint(len(found) + 1, name, arguments, notes)
+        return found
+
+    @cached_property
+    def definers(self) -> Dict[str, str]:
+        """The arguments of what defines a variable."""
+        found: Dict[str, str] = {}
+        for constraint in self.constraints.values():
+            for variable in DEFINES.findall(constraint.notes):
+                found.setdefault(variable, constraint.arguments)
+        return found
+
+    @cached_property
+    def array_lines(self) -> Dict[str, str]:
+        """The declarations of arrays."""
+        return {self.declared(line): line for line in self.lines if line.startswith("array ")}
+
+    @cached_property
+    def arrays(self) -> Dict[str, List[str]]:
+        """The variables in each array."""
+        return {name: words(line.partition(" = [")[2].rpartition("]")[0])
+                for name, line in self.array_lines.items()}
 
     @staticmethod
     def declared(line: str) -> str:
@@ -110,12 +133,32 @@ class Items:
 
     def subject(self, line: int) -> str:
         """The model's name of the constraint in this line, in quotes."""
-        return self.constraints[line].noted or written_name(self.row(line).path)
+        noted = NOTED.search(self.constraints[line].notes)
+        return noted[1] if noted else written_name(self.row(line).path)
+
+    def head(self, line: int) -> str:
+        """What the constraint in this line is called, where it is, and with which values of loop
+        variables."""
+        path = self.row(line).path
+        if line not in self.constraints or not path:
+            return str(self.constraints.get(line, self.row(line).name))
+        place, loops = item_of(path), loops_of(path)
+        subject = self.subject(line)
+        front = f"{subject}, " if subject else "constraint at "
+        with_values = f", with {', '.join(loops)}" if loops else ""
+        return f"{front}{place.path}:{place.line}{with_values}"
 
     def name(self, variable: str) -> str:
         """What the model calls a variable of the FlatZinc; an empty text where it has no name."""
         found = self.rows[variable].name if variable in self.rows else variable
         return "" if OF_NO_MODEL.match(found) else found
+
+    def around(self, line: int) -> List[str]:
+        """The variables in all constraints that come from the same expression of the model, with
+        the same values of loop variables, as the item in this line."""
+        origin = origin_of(self.row(line).path)
+        return [word for number, constraint in self.constraints.items()
+                if self.row(number).path.startswith(origin) for word in words(constraint.arguments)]
 
     def behind(self, names: Iterable[str], is_known: Callable[[str], bool]) -> List[str]:
         """The model's names for these variables, or, of those that have none or aren't known, for
@@ -137,6 +180,18 @@ class Items:
         return list(found)
 
 
+def origin_of(path: str) -> str:
+    """The front of a path up to its last loop variable, or else its first segment."""
+    segments = path.split(";")
+    last = max((at for at, segment in enumerate(segments) if is_loop(segment.split("|"))), default=0)
+    return ";".join(segments[: last + 1]) + ";"
+
+
+def is_loop(fields: List[str]) -> bool:
+    """Whether a segment is a loop variable with its value."""
+    return len(fields) == 6 and "=" in fields[5]
+
+
 def item_of(path: str) -> Place:
     """The place of the model's item that a path begins with."""
     fields = path.split(";")[0].split("|")
@@ -147,7 +202,7 @@ def loops_of(path: str) -> List[str]:
     """The values of the loop variables in a path, in the file that the path begins with."""
     segments = [segment.split("|") for segment in path.split(";")]
     return [fields[5].replace("=", " = ", 1) for fields in segments
-            if fields[0] == segments[0][0] and len(fields) == 6 and "=" in fields[5]]
+            if fields[0] == segments[0][0] and is_loop(fields)]
 
 
 def written_name(path: str) -> str:

@@ -104,10 +104,15 @@ def compiled(inputs: Inputs, scratch: str) -> Model:
         return model
     except (OSError, ValueError, TypeError):
         pass
+    return load(keep(compiled_beside(inputs, scratch).folder, folder))
+
+
+def compiled_beside(inputs: Inputs, scratch: str) -> Model:
+    """The model as the compiler makes it now, in a folder of its own."""
     new = os.path.join(scratch, "model")
     os.mkdir(new)
-    compile_into(new, inputs, minizinc)
-    return load(keep(new, folder))
+    compile_into(new, inputs, shutil.which("minizinc") or "minizinc")
+    return load(new)
 
 
 def keep(new: str, folder: str) -> str:

@@ -42,15 +42,24 @@ class Name(NamedTuple):
 
 def element_names(name: str, found: Name, enums: Dict[str, List[str]]) -> Iterator[str]:
     """What the elements of a name are called in the model, of another than an array the name."""
-    if not found.is_array:
+    return elements_of(name, index_sets(found, enums))
+
+
+def elements_of(name: str, indices: List[List[str]]) -> Iterator[str]:
+    if not indices:
         yield name
-        return
+    for index in itertools.product(*indices) if indices else ():
+        yield f"{name}[{','.join(index)}]"
+
+
+def index_sets(found: Name, enums: Dict[str, List[str]]) -> List[List[str]]:
+    """What an array's indices are called in each dimension; of another name there are none."""
+    if not found.is_array:
+        return []
     sets = found.dimensions or [[1, found.size]]
     kinds = found.index_enums if len(found.index_enums) == len(sets) else ("",) * len(sets)
-    named = [[index_name(enums.get(kind, []), index) for index in range(low, high + 1)]
-             for kind, (low, high) in zip(kinds, sets)]
-    for indices in itertools.product(*named):
-        yield f"{name}[{','.join(indices)}]"
+    return [[index_name(enums.get(kind, []), index) for index in range(low, high + 1)]
+            for kind, (low, high) in zip(kinds, sets)]
 
 
 def index_name(enum: List[str], index: int) -> str:

@@ -1,4 +1,5 @@
 """A page of a plan, as HTML: the verdict, what fails, tables of its values, and charts."""
+import itertools
 import os
 from html import escape
 from string import Template
@@ -13,6 +14,7 @@ from fzcheck.mzn.tables import Notes, Tables
 from fzcheck.mzn.told import Told
 from fzcheck.mzn.wording import printed_values
 
+MOST_NAMED = 4  # constraints in the headline
 TEMPLATE = os.path.join(os.path.dirname(__file__), "page.html")
 
 
@@ -40,7 +42,8 @@ class Body:
         failures = [failure for group in self.groups for failure in group.failures]
         self.notes = Notes({}, [failure.head for failure in failures])
         for number, failure in enumerate(failures, 1):
-            for element in failure.clashing:
+            same = (told.wording.same.get(one, [one]) for one in failure.clashing)
+            for element in dict.fromkeys(itertools.chain.from_iterable(same)):
                 self.notes.numbers.setdefault(element, []).append(number)
         self.tables = Tables(model, self.printed, self.notes)
 
@@ -61,6 +64,9 @@ class Body:
             yield "<h2>Charts</h2>"
         for chart in found:
             yield f"<figure><h3>{escape(chart.title)}</h3>"
+            left_out = sum(lane.left_out for lane in chart.lanes)
+            if left_out:
+                yield f"<p>Left out: {left_out} of which not every number is printed.</p>"
             yield f"{drawn(chart, self.note)}</figure>"
         if self.verdict == "accepted":
             yield from self.holding()
@@ -80,7 +86,10 @@ class Body:
         names = list(dict.fromkeys(group.failures[0].subject for group in self.groups))
         if self.verdict != "rejected" or not names:
             return self.verdict.capitalize()
-        return f"Rejected: {', '.join(names)} {'fails' if len(names) == 1 else 'fail'}"
+        if len(names) == 1:
+            return f"Rejected: {names[0]} fails"
+        last = names[-1] if len(names) <= MOST_NAMED else f"{len(names) - MOST_NAMED + 1} more"
+        return f"Rejected: {', '.join(names[:-1][:MOST_NAMED - 1])} and {last} fail"
 
     def failing(self) -> Iterator[str]:
         """What fails, by groups; the failures are numbered through."""

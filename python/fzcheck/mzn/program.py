@@ -27,12 +27,13 @@ import shutil
 import subprocess
 import sys
 import tempfile
-from typing import List, NamedTuple, NoReturn, Optional
+from typing import Dict, List, NamedTuple, NoReturn, Optional
 
 from fzcheck import common
 from fzcheck.mzn.command import Words, Wrong, words_of
 from fzcheck.mzn.computed import OutputModel
 from fzcheck.mzn.model import MODEL, TABLE, Failed, Model, compiled
+from fzcheck.mzn.narrowed import Narrowing
 from fzcheck.mzn.notes import Notes
 from fzcheck.mzn.page import page
 from fzcheck.mzn.plan import Plan, Refused, Solution
@@ -100,6 +101,25 @@ class Translation:
         solutions = [part for part in parts if isinstance(part, Solution)]
         return Translated(name, text, plan, solutions, writer, path)
 
+    def violated(self, model: Model, words: Words, text: str) -> Dict[int, str]:
+        """The blocks of a plan that violate another model with the same names, and of each, where a
+        domain fails, the name that this is of."""
+        other = Translation(model, words, model.folder)
+        path = os.path.join(model.folder, STREAM)
+        try:
+            other.translated("", text, path)
+        except Refused:
+            return {}
+        found: Dict[int, str] = {}
+        for one in map(json.loads, checked(words, model, path, []).stdout.splitlines()):
+            if one.get("verdict") == "violated":
+                found[one["block"]] = ""
+            elif one.get("message", "").startswith("domain ") and one["variables"]:
+                variable = one["variables"][0]
+                found.setdefault(one["explained"], "")
+                found[one["explained"]] += f"{variable.get('element', variable['name'])};"
+        return found
+
     def refuse_floats(self) -> None:
         """A model with variables of floats is named by them and by their lines."""
         found = []
@@ -141,7 +161,9 @@ def judge(words: Words, scratch: str) -> int:
     doing("checking")
     ran = checked(words, model, stream, [one.path for one in known])
     doing("")
-    return tell(words, model, plan, known, ran)
+    narrowing = Narrowing(model, words.inputs, translation.sources, scratch,
+                          lambda alone: translation.violated(alone, words, text))
+    return tell(words, model, plan, known, narrowing, ran)
 
 
 def copied(model: Model, folder: str) -> Model:
@@ -153,14 +175,14 @@ def copied(model: Model, folder: str) -> Model:
 
 
 def tell(words: Words, model: Model, plan: Translated, known: List[Translated],
-         ran: "subprocess.CompletedProcess[str]") -> int:
+         narrowing: Narrowing, ran: "subprocess.CompletedProcess[str]") -> int:
     """Reports what the program found, in the words of the model, and what isn't checked."""
     writer, text = plan.writer, plan.text
     cut = None if writer.cut is None else (len(encoded(text[: writer.cut])), len(encoded(text)))
     source = Source(model, plan.name, text.split("\n"), plan.solutions, writer.lines, cut)
     notes = Notes(writer, {one.path: one.name for one in known}, words.has("--strict"))
     objects, status = notes.added(list(map(json.loads, ran.stdout.splitlines())), ran.returncode)
-    write(words, Told(source, objects))
+    write(words, Told(source, list(map(narrowing.told, objects))))
     sys.stderr.write(ran.stderr)
     for message in plan.plan.messages:
         say(f"the plan tells of an error: {message}")

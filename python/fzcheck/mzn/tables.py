@@ -1,11 +1,12 @@
 """The values of a plan as tables of HTML, with footnotes on the elements that clash."""
 import itertools
 from html import escape
-from typing import Any, Callable, Dict, Iterator, List, NamedTuple, Sequence, Tuple
+from typing import Any, Dict, Iterator, List, NamedTuple, Sequence, Tuple
 
 from fzcheck.mzn.model import Model
 from fzcheck.mzn.plan import Solution
-from fzcheck.mzn.wording import index_names, value_text
+from fzcheck.mzn.stream import OF_NO_MODEL
+from fzcheck.mzn.wording import printed_indices, value_text
 
 OBJECTIVE = "_objective"
 MOST_ACROSS = 12  # indices of a list that are columns; of more each is a row
@@ -31,31 +32,28 @@ class Tables:
 
     def html(self, solution: Solution) -> Iterator[str]:
         """The values that stand alone, then the arrays in their order."""
-        names = [value.name for value in solution.values]
-        single = [name for name in names if not self.indices(name)
-                  and (name == OBJECTIVE or not name.startswith("_"))]
+        found = [(one.name, printed_indices(self.model, one.name, one.value))
+                 for one in solution.values
+                 if one.name == OBJECTIVE or not OF_NO_MODEL.match(one.name)]
+        single = [name for name, indices in found if not indices]
         if single:
             yield table("", [], [(name.strip("_"), [self.cell(name)]) for name in single])
-        arrays = [name for name in names if self.indices(name)]
-        for indices, group in itertools.groupby(arrays, key=self.indices):
+        arrays = [one for one in found if one[1]]
+        for indices, group in itertools.groupby(arrays, key=lambda one: one[1]):
+            names = [name for name, _ in group]
             if len(indices) == 1:
-                yield self.lists(indices[0], list(group))
+                yield self.lists(indices[0], names)
                 continue
-            for name in group:
+            for name in names:
                 yield from self.matrices(name, indices)
-
-    def indices(self, name: str) -> List[List[str]]:
-        """The indices of an array in each dimension; of another value none."""
-        found = self.model.names.get(name)
-        return index_names(self.model, found) if found and found.is_array else []
 
     def lists(self, indices: List[str], names: List[str]) -> str:
         """Arrays of one index set."""
         if len(indices) <= MOST_ACROSS:
             rows = [(name, [self.cell(f"{name}[{index}]") for index in indices]) for name in names]
-            return table(", ".join(names), indices, rows)
+            return table("", indices, rows)
         rows = [(index, [self.cell(f"{name}[{index}]") for name in names]) for index in indices]
-        return table(", ".join(names), names, rows)
+        return table("", names, rows)
 
     def matrices(self, name: str, indices: List[List[str]]) -> Iterator[str]:
         """The last two dimensions of an array, for all indices in the others."""

@@ -1,11 +1,12 @@
 """Values and names in the planner's words: those of enums by their names, elements by indices."""
-import itertools
+import math
 import re
+from functools import cached_property
 from typing import Any, Dict, List, Optional
 
 from fzcheck.mzn.items import Items
 from fzcheck.mzn.model import Model
-from fzcheck.mzn.names import Name
+from fzcheck.mzn.names import element_names, elements_of, index_sets
 from fzcheck.mzn.plan import Solution
 from fzcheck.mzn.values import Array, Range, SetOf
 
@@ -24,21 +25,17 @@ def name_of(enum: List[str], value: Any) -> Any:
     return enum[value - 1] if is_number and 1 <= value <= len(enum) else value
 
 
-def index_names(model: Model, found: Name) -> List[List[str]]:
-    """The names of an array's indices in each dimension."""
-    bounds = found.dimensions or [[1, found.size]]
-    enums = found.index_enums if len(found.index_enums) == len(bounds) else ("",) * len(bounds)
-    return [[str(name_of(model.enums.get(enum, []), index)) for index in range(low, high + 1)]
-            for enum, (low, high) in zip(enums, bounds)]
-
-
-def element_names(model: Model, name: str) -> List[str]:
-    """The names of all elements of an array, in order, or the name of what is none."""
-    found = model.names.get(name)
-    if found is None or not found.is_array:
-        return [name]
-    return [f"{name}[{','.join(index)}]"
-            for index in itertools.product(*index_names(model, found))]
+def printed_indices(model: Model, name: str, value: Any) -> List[List[str]]:
+    """The same of a value that was printed, by its own indices where the model's aren't known."""
+    if not isinstance(value, Array):
+        return []
+    known = index_sets(model.names[name], model.enums) if name in model.names else []
+    if math.prod(map(len, known)) == len(value.elements) and known:
+        return known
+    if math.prod(value.lengths) != len(value.elements):
+        return [list(map(str, range(1, len(value.elements) + 1)))]
+    return [list(map(str, indices or range(1, length + 1)))
+            for indices, length in zip(value.indices, value.lengths)]
 
 
 def value_text(value: Any, enum: List[str]) -> str:
@@ -61,7 +58,7 @@ def printed_values(model: Model, solution: Solution) -> Dict[str, Any]:
     values: Dict[str, Any] = {}
     for name, value, *_ in solution.values:
         elements = value.elements if isinstance(value, Array) else [value]
-        values.update(zip(element_names(model, name), elements))
+        values.update(zip(elements_of(name, printed_indices(model, name, value)), elements))
     return values
 
 
@@ -71,6 +68,16 @@ class Wording:
     def __init__(self, model: Model, items: Items) -> None:
         self.model, self.items = model, items
 
+    @cached_property
+    def same(self) -> Dict[str, List[str]]:
+        """The names of elements that are one variable, by each of them."""
+        names: Dict[str, List[str]] = {}
+        for name, found in self.model.names.items():
+            elements = element_names(name, found, self.model.enums)
+            for element, variable in zip(elements, self.items.arrays.get(name, ())):
+                names.setdefault(variable, []).append(element)
+        return {name: alike for alike in names.values() if len(alike) > 1 for name in alike}
+
     def enum(self, name: str) -> List[str]:
         """The names of the values that a name of the model, or an element, can have."""
         found = self.model.names.get(base(name))
@@ -78,6 +85,10 @@ class Wording:
 
     def text(self, parts: List[Part]) -> str:
         return joined(self.parts(parts))
+
+    def is_named(self, parts: List[Part]) -> bool:
+        """Whether the model has names for all variables that a text speaks of."""
+        return all(self.part_name(part) for part in parts if "variable" in part)
 
     def parts(self, parts: List[Part]) -> List[Part]:
         """The parts of a text, each in words."""
@@ -94,13 +105,13 @@ class Wording:
         """The model's name of the variable, or the element, that a part is about."""
         variable = str(part["variable"])
         element: Optional[int] = part.get("element")
-        names = element_names(self.model, variable)
-        if element is None or variable not in self.model.names or element > len(names):
-            inner = self.items.arrays.get(variable, [])
-            if element is not None and element <= len(inner):
-                variable = inner[element - 1]
+        if element is None:
             return self.items.name(variable)
-        return names[element - 1]
+        if variable in self.model.names:
+            names = list(element_names(variable, self.model.names[variable], self.model.enums))
+        else:
+            names = list(map(self.items.name, self.items.arrays.get(variable, ())))
+        return names[element - 1] if element <= len(names) else ""
 
     def named(self, name: str, text: str) -> str:
         """The text of a value, in which numbers stand for values of an enum."""
@@ -123,6 +134,8 @@ def json_text(value: Any, left_out: Optional[int] = None) -> str:
     """The text of a value of the report's JSON."""
     if not isinstance(value, list):
         return str(value).lower() if isinstance(value, bool) else str(value)
+    if len(value) == 1 and not left_out and value[0][0] != value[0][1]:
+        return f"{value[0][0]}..{value[0][1]}"
     ranges = [f"{low}" if low == high else f"{low}..{high}" for low, high in value]
     if left_out:
         ranges.append(f"... and {left_out} more")
