@@ -20,6 +20,16 @@ def program() -> Optional[str]:
     return os.environ.get("FZCHECK") or shutil.which("fzcheck", path=os.pathsep.join(program_places()))
 
 
+def version() -> str:
+    """The version of the program, with which its companions come."""
+    try:
+        told = subprocess.run([program() or "fzcheck", "--version"], stdout=subprocess.PIPE,
+                              encoding="utf-8", check=False).stdout
+    except OSError:
+        return "of unknown version: there is no fzcheck"
+    return told.partition(" ")[2].strip()
+
+
 def program_places() -> Iterator[str]:
     """The folders where the program may be. A checkout's build without proof comes after one with
     proof."""
