@@ -76,8 +76,9 @@ class Model:
     def text(self) -> str:
         objective = "" if self.objective is None else f" {text_of(self.objective)}"
         solve = f"solve{notes_text(self.notes)} {self.goal}{objective};"
-        items = [it.text() for it in [*self.declarations, *self.constraints]]
-        return "\n".join([*self.predicates, *items, solve]) + "\n"
+        declarations = [it.text() for it in self.declarations]
+        constraints = [it.text() for it in self.constraints]
+        return "\n".join([*self.predicates, *declarations, *constraints, solve]) + "\n"
 
     def declared(self) -> Dict[Name, Declaration]:
         return {it.name: it for it in self.declarations}
