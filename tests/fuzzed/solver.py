@@ -12,7 +12,6 @@ import time
 
 SIGNAL = 11
 WRAPS_AT, SEEN, EVERY = 100, 4, 4
-LEAST, MOST = -99, 99  # of a variable without bounds
 MARKER, COMPLETE, NONE = "-" * 10, "=" * 10, "=====UNSATISFIABLE====="
 FAULTS = {
     "off-by-one": "int_lin_le lets the sum be one more",
@@ -197,9 +196,9 @@ class Solver:
     def domain(self, kind):
         if kind == "bool":
             return [False, True]
-        if kind.startswith("set"):
-            raise Refused("sets aren't known")
-        found = list(range(LEAST, MOST + 1)) if kind == "int" else sorted(parsed(kind, {}))
+        if kind == "int" or kind.startswith("set"):
+            raise Refused(f"var {kind} isn't known")
+        found = sorted(parsed(kind, {}))
         return found[:-1] if self.is_cut and len(found) > 1 else found
 
     def read_constraint(self, text):

@@ -1,7 +1,7 @@
 """Random models over the builtins of rows.py, most of them around a solution that is known."""
 import enum
 import random
-from typing import Any, Dict, List, NamedTuple, Optional, Sequence, Tuple
+from typing import Any, Dict, List, NamedTuple, Optional, Sequence, Set, Tuple
 
 from fzcheck.flatzinc import (
     Argument, Constraint, Declaration, Model, Name, Numbers, Scalar, Value, elements, text_of)
@@ -33,7 +33,7 @@ class Style(NamedTuple):
     counts: Sequence[int] = (1, 2, 3, 4)  # constraints
     lengths: Sequence[int] = (0, 1, 1, 2, 2, 2, 3, 3, 4)  # of lists
     shares: Sequence[float] = (0.0, 0.1, 0.1, 0.4)  # of literals among arguments
-    assignments: Sequence[int] = (30, 300, 300, 2000, 2000, 20_000)  # at most
+    assignments: Sequence[int] = (30, 100, 300, 300, 1000)  # at most
     reused: float = 0.45  # variables that are there already
     large: float = 0.0  # numbers near a power
     searched: float = 0.4  # a search annotation
@@ -45,10 +45,10 @@ class Shape(enum.Enum):
 
     MIXED = Style(2)
     LONG_LISTS = Style(2, (2, 2, 3), range(LONG, 31), (0.7, 0.9, 0.95), (30, 300))
-    PAIRS = Style(4, (4, 5, 6), (1, 2, 2, 3), (0.0, 0.2), (100, 300), reused=0.8)
+    PAIRS = Style(4, (6, 7, 8), (1, 2, 2, 3), (0.0, 0.2), (100, 300), reused=0.8)
     LARGE_NUMBERS = Style(2, (2, 3, 4), (1, 2, 2, 3), assignments=(100, 300), large=0.7)
     SEARCHED = Style(2, (2, 3), searched=1.0, optimised=0.4, assignments=(100, 300))
-    OPTIMISED = Style(1, searched=0.5, optimised=1.0, assignments=(300, 2000))
+    OPTIMISED = Style(1, searched=0.5, optimised=1.0, assignments=(100, 1000))
     PLAIN = Style(0, (1,), (2,), (0.0,), (300,), 0.0, 0.0, 0.0, 0.0)  # for a name that is new
 
 
@@ -74,6 +74,7 @@ class Maker:
         self.offset = rand.choice((1, 1, 1, 0, 2))
         self.channels = rand.choice((0.05, 0.1, 0.8)) if shape != Shape.PLAIN else 0.0
         self.numbers = 0
+        self.used: Set[Name] = set()  # variables that the constraint at hand has already
         powers = [it for it in POWERS if it <= taken.largest]
         self.power: int = rand.choice(powers[: len(powers) // 2] if self.chance(0.6) else powers)
 
@@ -192,10 +193,16 @@ class Maker:
     def variable(self, kind: str) -> Scalar:
         """A new variable, where the budget has room for it, or else one that is there."""
         own = self.own(kind)
-        if own and self.chance(self.style.reused):
-            return self.rand.choice(own)
-        return self.new_variable(kind) or (
-            self.rand.choice(own) if own else self.literal(kind))
+        others = [it for it in own if it not in self.used] if self.chance(0.8) else own
+        if others and self.chance(self.style.reused):
+            found = self.rand.choice(others)
+        else:
+            new = self.new_variable(kind)
+            if new is None and not own:
+                return self.literal(kind)
+            found = new or self.rand.choice(others or own)
+        self.used.add(found)
+        return found
 
     def new_variable(self, kind: str) -> Optional[Name]:
         declaration = Declaration(kind, self.fresh("x"), domain=self.domain(kind))
@@ -289,6 +296,7 @@ class Maker:
                 for it in lists}
 
     def arguments(self, name: str, row: Row) -> List[Argument]:
+        self.used = set()
         fixed, lengths = fixed_places(name), self.lengths(row)
         share = self.rand.choice(self.style.shares)
         base = base_of(name)
