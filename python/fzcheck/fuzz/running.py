@@ -10,7 +10,7 @@ import time
 from typing import Dict, List, NamedTuple, Optional, Tuple
 
 MOST_PRINTED = 32 * 2**20  # bytes of a run
-MOST_WAITED = 10  # times a run's limit, by the clock, where nothing else can be told
+MOST_WAITED = 10  # times as many seconds of the clock
 MOST_TOLD = 4096  # bytes that are kept of standard error, and of output without end
 BETWEEN_LOOKS = 0.25  # seconds
 SIGNALS = range(129, 192)  # statuses by which a shell says that a signal ended a program
@@ -28,6 +28,21 @@ class Ran(NamedTuple):
     status: int
     end: End
     model_changed: bool
+
+
+class Allowance:
+    """Seconds of the processor, for this program and what it runs, and by the clock ten times as
+    many: on a busy machine as much is done as on another."""
+
+    def __init__(self, seconds: float) -> None:
+        self.end = self.used() + seconds
+        self.latest = time.monotonic() + MOST_WAITED * seconds
+
+    def used(self) -> float:
+        return sum(os.times()[:4])
+
+    def is_over(self) -> bool:
+        return self.used() > self.end or time.monotonic() > self.latest
 
 
 def is_running(session: int) -> Optional[bool]:

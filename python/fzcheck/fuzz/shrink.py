@@ -1,7 +1,6 @@
 """Makes a model small on which a solver has a fault, while the fault stays and the model has
 sense."""
 import copy
-import time
 from dataclasses import dataclass, field
 from typing import List, NamedTuple, Optional, Sequence
 
@@ -10,6 +9,7 @@ from fzcheck.fuzz.checking import MARKER, Setting, Values
 from fzcheck.fuzz.disputed import is_bounded, is_defined, is_disputed
 from fzcheck.fuzz.faults import WANTS_SOLUTION, Fault, Kind
 from fzcheck.fuzz.judge import Case, values_of
+from fzcheck.fuzz.running import Allowance
 from fzcheck.fuzz.smaller import PASSES, Edits, without_unused
 
 TIMES = 5  # that the small model is run at the end
@@ -65,7 +65,7 @@ class Shrinker:
     folder: str
     model: Model
     fault: Fault
-    deadline: float
+    allowance: Allowance
     known: Sequence[Values] = ()
     runs: int = 1  # of each step
     sense: Sense = field(init=False)
@@ -93,14 +93,14 @@ class Shrinker:
         return None
 
     def take(self, model: Model) -> bool:
-        fault = self.fails(model) if time.monotonic() < self.deadline else None
+        fault = self.fails(model) if not self.allowance.is_over() else None
         if fault:
             self.model, self.fault = model, fault
         return fault is not None
 
     def run(self) -> None:
         before = ""
-        while before != self.model.text() and time.monotonic() < self.deadline:
+        while before != self.model.text() and not self.allowance.is_over():
             before = self.model.text()
             self.drop_constraints()
             for edits in PASSES:
@@ -121,7 +121,7 @@ class Shrinker:
     def go_through(self, edits: Edits) -> None:
         """Tries each edit; one that is taken begins the rest anew."""
         again = True
-        while again and time.monotonic() < self.deadline:
+        while again and not self.allowance.is_over():
             again = any(self.take(without_unused(model))
                         for model in edits(self.model, self.likely()))
 
@@ -152,9 +152,8 @@ def shrunk(setting: Setting, case: Case, fault: Fault, folder: str, seconds: flo
     """Makes a model small; one of whose fault comes and goes is run several times at each step."""
     own = setting_for(setting, fault.kind)
     times = len(seen(Case(own, case.model, folder, case.known), fault, TIMES))
-    deadline = time.monotonic() + seconds
-    shrinker = Shrinker(own, folder, copy.deepcopy(case.model), fault, deadline, case.known,
-                        RUNS[times])
+    shrinker = Shrinker(own, folder, copy.deepcopy(case.model), fault, Allowance(seconds),
+                        case.known, RUNS[times])
     shrinker.run()
     last = shrinker.case(shrinker.model)
     again = seen(last, shrinker.fault, TIMES)
