@@ -108,8 +108,9 @@ install:
 	for it in $(notdir $(COMPANIONS)); do \
 	  ln -sf ../share/fzcheck/$$it $(DESTDIR)$(PREFIX)/bin/$$it; done
 	install -D -m 644 -t $(SHARE)/man/man1 docs/*.1
-	install -D -m 644 completions/fzcheck.bash $(SHARE)/bash-completion/completions/fzcheck
-	install -D -m 644 completions/fzcheck.zsh $(DESTDIR)$(ZSH_FUNCTIONS)/_fzcheck
+	for it in $(notdir $(basename $(wildcard completions/*.bash))); do \
+	  install -D -m 644 completions/$$it.bash $(SHARE)/bash-completion/completions/$$it; \
+	  install -D -m 644 completions/$$it.zsh $(DESTDIR)$(ZSH_FUNCTIONS)/_$$it; done
 	install -D -m 644 -t $(SHARE)/fzcheck/minizinc minizinc/fzcheck.msc
 	install -D -m 644 -t $(SHARE)/fzcheck/minizinc/fzcheck minizinc/fzcheck/*.mzn
 	install -D -m 644 -t $(SHARE)/doc/fzcheck README.md CHANGELOG.md CONTRIBUTING.md LICENSE

@@ -268,15 +268,7 @@ def same_results(place: Place, one: str, other: str, models: Set[str]) -> List[s
 
 
 def try_shards(place: Place) -> None:
-    """Four shards side by side, in one folder, and in one each that are merged."""
-    if lacks("parallel", "shards side by side"):
-        return
-    words = place.words("all", "-j", "1", "--cut", "--shard", "{}/4")
-    words = ["parallel", "--will-cite", "-j", "2", "-q", *words, ":::", "1", "2", "3", "4"]
-    status, out, _ = place.run(*words)
-    expect("shards", (0, 120), (status, sum(map(int, re.findall(r"(\d+) pairs", out)))))
-    names = {source.name for source in sources()}
-    expect("shards agree with one run", [], same_results(place, "one", "all", names))
+    """Shards in one folder each, which are merged."""
     few(place)
     for part in ("1", "2"):
         place.run(*place.words(f"part{part}", "--models", "few", "--cut", "--shard", f"{part}/2"))
@@ -285,23 +277,70 @@ def try_shards(place: Place) -> None:
     expect("merged results", [], same_results(place, "both", "one", few(place)))
 
 
-def try_hosts(place: Place) -> None:
-    """Two hosts of the test's own, each of which takes shards by ssh."""
+def script_with(word: str) -> str:
+    """The block of the page between lines of three backquotes that has a word."""
+    page = (ROOT / "docs" / "ORGANISERS.md").read_text(encoding="utf-8")
+    return next(text for text in re.findall(r"^```\n(.*?)^```", page, re.M | re.S) if word in text)
+
+
+def season_of_few(place: Place, folder: str) -> Place:
+    """A season like the other one, of some of its models, in a folder that the page's commands
+    may have to themselves."""
+    path = place.folder / folder
+    path.mkdir()
+    other = Place(str(path), place.program)
+    for model in few(place):
+        shutil.copy(place.folder / "few" / f"{model}.fzn", path / "models")
+        for stream in (place.folder / "streams").glob(f"*/{model}.out"):
+            other.stream(stream.parent.name, model, stream.read_text())
+    (path / "bin" / "fzcheck-batch").symlink_to(COMMAND[1])
+    other.run(*other.words("alone", "--complete", "--cut", "--claims=prove"))
+    return other
+
+
+def try_parallel(place: Place) -> None:
+    """The page's command for GNU parallel as it stands: on hosts of the test's own by ssh where
+    these can be had, and else on this machine."""
+    if lacks("parallel", "the command for GNU parallel"):
+        return
+    other = season_of_few(place, "by_parallel")
+    (other.folder / ".parallel").mkdir()
+    (other.folder / ".parallel" / "will-cite").touch()
+    hosts_file = other.folder / "hosts"
+    # GNU parallel wants a shell and a home.
+    variables = {"SHELL": "/bin/sh", "HOME": str(other.folder)}
+    words = ("bash", "-ec", script_with("parallel -j 1"))
     reason = hosts.lacking()
     if reason:
         print(f"{reason}: shards over ssh aren't tried")
-        return
-    few(place)
-    with hosts.Hosts(place.folder) as made:
-        words = place.words("hosts", "--models", "few", "-j", "1", "--cut", "--shard", "{}/4")
-        status, _, told = place.run(
-            "parallel", "--will-cite", "-j", "1", "--workdir", str(place.folder), "--ssh", made.ssh,
-            "--sshlogin", ",".join(made.addresses), "-q", "env",
-            *(f"{name}={value}" for name, value in place.variables.items()), *words, ":::", "1", "2", "3", "4")
-        told = re.sub("fzcheck-batch: no model for the stream .*\n", "", told)
-        expect("shards over ssh", (0, ""), (status, told))
-        expect("both hosts took some", True, made.both_were_used())
-    expect("hosts agree with one run", [], same_results(place, "one", "hosts", few(place)))
+        hosts_file.write_text(":\n")
+        status, _, told = other.run(*words, **variables)
+    else:
+        with hosts.Hosts(other.folder, other.variables) as made:
+            hosts_file.write_text("".join(f"{address}\n" for address in made.addresses))
+            status, _, told = other.run(*words, **variables, PARALLEL_SSH=made.ssh)
+            expect("both hosts took some", True, made.both_were_used())
+    expect("the command for GNU parallel", (0, ""), (status, told))
+    expect("its results", [], same_results(other, "alone", "results", few(place)))
+
+
+def try_slurm(place: Place) -> None:
+    """The page's script for Slurm as it stands: by Slurm where it runs, and else with what Slurm
+    sets."""
+    other = season_of_few(place, "by_slurm")
+    script = other.folder / "season.sh"
+    script.write_text(script_with("#SBATCH"))
+    script.chmod(0o755)
+    if shutil.which("sinfo") and subprocess.run("sinfo", stdout=subprocess.DEVNULL).returncode == 0:
+        words = ("sbatch", "--wait", "--array=1-4", "season.sh")
+        expect("the script by Slurm", 0, other.run(*words)[0])
+    else:
+        print("Slurm isn't running: its script is run with the variables that it sets")
+        for number in range(1, 5):
+            variables = {"SLURM_ARRAY_TASK_ID": str(number), "SLURM_ARRAY_TASK_COUNT": "4"}
+            status, _, told = other.run("./season.sh", **variables)
+            expect("the script for Slurm", (0, ""), (status, told))
+    expect("its results", [], same_results(other, "alone", "results", few(place)))
 
 
 def try_page(place: Place) -> None:
@@ -315,11 +354,14 @@ def try_page(place: Place) -> None:
     (place.folder / "bin" / "fzcheck-batch").symlink_to(COMMAND[1])
     for block in minizinc.blocks("docs/ORGANISERS.md"):
         if "minizinc " not in block:
-            status, out, told = place.run("bash", "-ec", block)
-            expect(f"{block}", (0, True, ""), (status, bool(out), told))
+            status, _, told = place.run("bash", "-ec", block)
+            expect(f"{block}", (0, ""), (status, told))
     results = {kind: place.outcomes(kind) for kind in ("results", "merged")}
     expect("the page's results", {("NAME", "gecode"): ("accepted", "")}, results["results"])
     expect("the page's merged results", results["results"], results["merged"])
+    seconds = re.fullmatch(r"seconds=\d+\.\d+\n",
+                           (place.folder / "streams" / "gecode" / "NAME.status").read_text())
+    expect("the page's status of a solver", True, bool(seconds))
 
 
 def try_found(place: Place) -> None:
@@ -419,7 +461,8 @@ def main() -> int:
         place = Place(folder, program)
         try_season(place)
         try_shards(place)
-        try_hosts(place)
+        try_parallel(place)
+        try_slurm(place)
     with tempfile.TemporaryDirectory() as folder:
         try_page(Place(folder, program))
     with tempfile.TemporaryDirectory() as folder:

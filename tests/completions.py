@@ -11,8 +11,9 @@ import subprocess
 import sys
 
 ROOT = os.path.dirname(os.path.dirname(os.path.abspath(__file__)))
-ASK = """source "$0"; COMP_WORDS=("$@"); COMP_CWORD=$(($# - 1)); _fzcheck
+ASK = """source "$0"; COMP_WORDS=("$@"); COMP_CWORD=$(($# - 1)); _%s
 echo "${COMPREPLY[@]}" """
+BATCH = os.path.join(ROOT, "python", "fzcheck-batch")
 passed = failed = 0
 
 
@@ -34,10 +35,27 @@ def said(*words):
                           stderr=subprocess.STDOUT, timeout=60).stdout
 
 
-def by_bash(*words):
+def by_bash(*words, program="fzcheck"):
     """What bash offers where the last of the words is being written."""
-    file = f"{ROOT}/completions/fzcheck.bash"
-    return set(said("bash", "-c", ASK, file, "fzcheck", *words).split())
+    file = f"{ROOT}/completions/{program}.bash"
+    return set(said("bash", "-c", ASK % program.replace("-", "_"), file, program, *words).split())
+
+
+def compare_batch(check_options):
+    """The options of fzcheck-batch, of which `run` has some of check too."""
+    zsh = read("completions/fzcheck-batch.zsh")
+    both = set(re.findall(r"(--[a-z-]+)", zsh.split("_arguments")[0]))
+    for command in ("run", "report", "merge"):
+        told = re.findall(r"^  (-[a-z-]+)(?:, (--[a-z-]+))?", said(BATCH, command, "--help"), re.M)
+        own = {it for both_forms in told for it in both_forms if it} - check_options - {"-h"}
+        offered = by_bash(command, "-", program="fzcheck-batch")
+        expect(f"{command} of fzcheck-batch, by bash", own, {
+            it for it in offered if it.split("=")[0] not in check_options})
+        branch = re.search(rf"^  {command}\)(.*?);;", zsh, re.M | re.S)[1]
+        found = {it.rstrip("-") for it in re.findall(r"['\"(](--?[a-z-]+)", branch)}
+        expect(f"{command} of fzcheck-batch, by zsh", own, (found | both) - check_options)
+    expect("commands of fzcheck-batch", {"run", "report", "merge", "--help", "--version"},
+           by_bash("", program="fzcheck-batch"))
 
 
 def main(program):
@@ -67,6 +85,7 @@ def main(program):
     expect("a file behind --names", set(), by_bash("check", "--names", "m"))
     expect("commands behind help, by bash", commands - {"help"}, by_bash("help", ""))
     expect("options, by bash", {"-h", "--help", "-V", "--version"}, by_bash("-"))
+    compare_batch({f"--{it}" for it in options})
     print(f"{passed} passed, {failed} failed")
     sys.exit(failed != 0)
 

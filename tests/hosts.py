@@ -4,10 +4,10 @@ import pathlib
 import shutil
 import subprocess
 import time
-from typing import List, Tuple
+from typing import Dict, List, Tuple
 
 NAMES = ("fzcheck-one", "fzcheck-two")
-SERVER = "/usr/sbin/sshd"
+SERVER = shutil.which("sshd", path=f"{os.environ['PATH']}:/usr/sbin") or "sshd"
 CONFIGURATION = """Port 22
 HostKey {folder}/host_key
 AuthorizedKeysFile {folder}/key.pub
@@ -15,7 +15,7 @@ PidFile {folder}/{name}.pid
 StrictModes no
 PermitRootLogin yes
 UsePAM no
-ForceCommand echo {name} >> {folder}/used; eval "$SSH_ORIGINAL_COMMAND"
+ForceCommand echo {name} >> {folder}/used; export {variables}; eval "$SSH_ORIGINAL_COMMAND"
 """
 
 
@@ -23,7 +23,7 @@ def lacking() -> str:
     """What the machine lacks for them, if anything."""
     if os.geteuid() != 0:
         return "only root may make network namespaces"
-    wanted = ("ip", "ssh", "ssh-keygen", SERVER, "parallel")
+    wanted = ("ip", "ssh", "ssh-keygen", SERVER)
     missing = [name for name in wanted if not shutil.which(name)]
     if missing:
         return f"{missing[0]} isn't installed"
@@ -53,10 +53,11 @@ def run(*words: str) -> None:
 
 
 class Hosts:
-    """Within it the hosts are there."""
+    """Within it the hosts are there, where commands have some variables of the environment."""
 
-    def __init__(self, folder: pathlib.Path) -> None:
+    def __init__(self, folder: pathlib.Path, variables: Dict[str, str]) -> None:
         self.folder = folder / "hosts_of_the_test"
+        self.variables = " ".join(f"{name}='{value}'" for name, value in variables.items())
         self.addresses = [f"root@10.213.{number}.2" for number in range(len(NAMES))]
         self.servers: List["subprocess.Popen[bytes]"] = []
         self.ssh = (f"ssh -F none -i {self.folder}/key -o StrictHostKeyChecking=no "
@@ -78,7 +79,8 @@ class Hosts:
 
     def start(self, number: int, name: str) -> None:
         configuration = self.folder / f"{name}.conf"
-        configuration.write_text(CONFIGURATION.format(folder=self.folder, name=name))
+        configuration.write_text(CONFIGURATION.format(folder=self.folder, name=name,
+                                                      variables=self.variables))
         outside, inside = f"fzc{number}out", f"fzc{number}in"
         within = ("ip", "netns", "exec", name)
         run("ip", "netns", "add", name)

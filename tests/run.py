@@ -52,6 +52,7 @@ TESTS = [
     Test("plan", "tests/plan.py {fzcheck}", 25),
     Test("batch", "tests/batch.py {fzcheck}", 25),
     Test("damaged", "tests/corpus/damaged.py {fzcheck} 2000", 20),
+    Test("season", "tests/season.py {fzcheck}", 15),
     Test("program", "tests/program/run.py {fzcheck}", 5),
     Test("cases", "tests/cases/run.py {fzcheck} {fz_hostile}", 10),
     Test("solver", "tests/solver.py {fzcheck}", 10),

@@ -194,15 +194,16 @@ def process(words: List[str], reader: Reader, limits: Limits, descriptors: List[
     def give_up(*_: object) -> None:
         nonlocal is_late
         is_late = True
-        os.kill(child, signal.SIGKILL)
+        kill(child)
 
     told = emptied()
     start = time.monotonic()
     ours, theirs = os.pipe()
     for descriptor in descriptors:
         os.set_inheritable(descriptor, True)
-    # This begins a process without a copy of this one, which may take longer than a check.
-    child = os.posix_spawn(words[0], words, ENVIRONMENT, setsigdef=[signal.SIGINT], file_actions=[
+    # This begins a process without a copy of this one, which may take longer than a check. It leads
+    # a group, so that what it began itself can be ended with it, and doesn't hold the pipe.
+    child = os.posix_spawn(words[0], words, ENVIRONMENT, setpgroup=0, file_actions=[
         (os.POSIX_SPAWN_OPEN, 0, os.devnull, os.O_RDONLY, 0),
         (os.POSIX_SPAWN_DUP2, theirs, 1), (os.POSIX_SPAWN_DUP2, told, 2)])
     Running.child = child
@@ -217,10 +218,16 @@ def process(words: List[str], reader: Reader, limits: Limits, descriptors: List[
     Running.child = None
     status = -os.WTERMSIG(status) if os.WIFSIGNALED(status) else os.WEXITSTATUS(status)
     if status in (-signal.SIGINT, -signal.SIGTERM, -signal.SIGHUP):
-        time.sleep(GRACE)  # a run that is being stopped, as from a terminal, ends this process now
+        time.sleep(GRACE)  # a run that is being stopped, as by a queue, ends this process now
     usage = Usage(round(time.time(), 3), round(used.ru_utime + used.ru_stime, 3),
                   round(time.monotonic() - start, 3), used.ru_maxrss * 1024)
     return Ended(status, is_late, usage, os.pread(told, TOLD, 0).decode(errors="replace"))
+
+
+def kill(child: int) -> None:
+    """Ends a process with all that it began."""
+    with contextlib.suppress(ProcessLookupError):
+        os.killpg(child, signal.SIGKILL)
 
 
 class Running:

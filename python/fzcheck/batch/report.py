@@ -242,9 +242,9 @@ def claim_words(claim: Claim) -> str:
 
 
 def cut_words(line: Line) -> str:
-    """The byte range that was cut off, and its first line where that is told."""
-    first = f": {line['first']}" if "first" in line else ""
-    return "{}..{}".format(*line["cut"]) + first
+    """The byte range that was cut off, and the front of its text where that is told."""
+    front = f', from "{line["from"]}"' if "from" in line else ""
+    return "{}..{}".format(*line["cut"]) + front
 
 
 def refusal_words(line: Line) -> str:

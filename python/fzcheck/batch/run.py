@@ -13,7 +13,7 @@ from collections import Counter
 from multiprocessing.connection import Connection
 from typing import Any, Callable, Dict, Iterator, List, NamedTuple, Optional, Sequence, Tuple
 
-from fzcheck.batch.job import Done, Job, Running, Setting, judge
+from fzcheck.batch.job import Done, Job, Running, Setting, judge, kill
 from fzcheck.batch.results import COMPLETE, UNSATISFIABLE, Finish, Outcome, Result, finish_of
 from fzcheck.batch.season import Facts, Pair, Season, facts_of, tell
 
@@ -30,7 +30,7 @@ def work(function: Callable[[Any], Any], items: Sequence[Any], numbers: int,
     def stop(*_: object) -> None:
         try:
             if Running.child:
-                os.kill(Running.child, signal.SIGKILL)
+                kill(Running.child)
         finally:
             os._exit(1)
 

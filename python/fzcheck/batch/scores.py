@@ -6,7 +6,9 @@ from fzcheck.batch.results import COMPLETE, UNJUDGED, Finish, Result, Row
 
 COLUMNS = ("solver", "models", "wrong", "complete", "incomplete", "csp", "csp_seconds", "cop",
            "cop_seconds")
-HEADS = ("complete", "incomplete", "CSP", "COP")  # of the columns that the page has
+# The columns that the page has, with their heads there.
+HEADS = {"complete": "complete score", "incomplete": "incomplete score", "csp": "XCSP3 CSP",
+         "cop": "XCSP3 COP"}
 
 
 class Answer(NamedTuple):
@@ -140,10 +142,9 @@ class Scores:
 
     def text(self, solver: str, name: str) -> str:
         """A sum, or nothing where a wrong answer takes the solver out of the track."""
-        track = name.split("_")[0].lower()
-        if self.wrong[solver, track]:
+        if self.wrong[solver, name.split("_")[0]]:
             return ""
-        return shown(self.sums.get((solver, name.lower()), 0.0))
+        return shown(self.sums.get((solver, name), 0.0))
 
     def lines(self) -> Iterator[List[str]]:
         yield list(COLUMNS)

@@ -113,8 +113,9 @@ class Season:
     def solver_lines(self) -> List[List[str]]:
         """The table of solvers, as the page has it."""
         head, *lines = self.counts.lines()
-        return [[*head, *HEADS],
-                *([*line, *(self.scores.text(line[0], name) for name in HEADS)] for line in lines)]
+        return [[head[0], *HEADS.values(), *head[1:]],
+                *([line[0], *(self.scores.text(line[0], name) for name in HEADS), *line[1:]]
+                  for line in lines)]
 
 
 def optional(value: Optional[float]) -> str:
