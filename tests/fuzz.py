@@ -242,7 +242,7 @@ class Test:
             self.check(f"fzcheck-fuzz {words}", ran.returncode == status and told in ran.stderr
                        and len(ran.stderr.splitlines()) == 1, ran)
         for program in ("fzcheck-fuzz", "fzcheck-shrink"):
-            for word, begin in (("--help", "usage: "), ("--version", f"{program} 0")):
+            for word, begin in (("--help", "usage: "), ("--version", f"{program} with fzcheck 0")):
                 ran = self.run(program, word)
                 self.check(f"{program} {word}", ran.returncode == 0
                            and ran.stdout.startswith(begin), ran)

@@ -41,8 +41,9 @@ def part(name: str, text: str) -> str:
     return f"<{name} message={quoted(message)}>{escape(readable(text))}</{name}>"
 
 
-def write(path: str, suite: str, cases: Iterable[Case], seconds: float) -> None:
+def write(path: str, suite: str, cases: Iterable[Case]) -> None:
     own: List[Case] = list(cases)
+    seconds = sum(it.seconds for it in own)
     failures = sum(it.failure is not None for it in own)
     skipped = sum(it.failure is None and it.skipped is not None for it in own)
     head = (f'<testsuite name={quoted(suite)} errors="0" failures="{failures}" '

@@ -1,12 +1,10 @@
 """The command lines of fzcheck-fuzz and fzcheck-shrink, behind whose `--` the solver stands."""
 import argparse
-import difflib
 import re
 import shlex
 import shutil
-import subprocess
 import sys
-from typing import List, NoReturn, Optional, Sequence, Tuple
+from typing import List, NoReturn, Optional, Tuple
 
 from fzcheck import common
 
@@ -19,27 +17,21 @@ def give_up(program: str, text: str, status: int) -> NoReturn:
     sys.exit(status)
 
 
-def suggestion(word: str, near: Sequence[str]) -> str:
-    return f": did you mean {near[0]}?" if near and near[0] != word else ""
-
-
 class Parser(argparse.ArgumentParser):
     """Ends with status 5 where the words are wrong, as fzcheck does, and says what is near."""
 
     def error(self, message: str) -> NoReturn:
         found = UNRECOGNISED.search(message)
         word = found[1].partition("=")[0] if found else ""
-        near = difflib.get_close_matches(word, list(self._option_string_actions), 1)
-        give_up(self.prog, f"{message}{suggestion(word, near)} (--help tells more)", 5)
+        near = common.meant(word, self._option_string_actions) if word else ""
+        give_up(self.prog, f"{message}{near} (--help tells more)", 5)
 
 
 class Version(argparse.Action):
-    """Prints the version of the program that judges: both are installed together."""
+    """Prints the version of the program that judges."""
 
     def __call__(self, parser: argparse.ArgumentParser, *rest: object) -> None:
-        told = subprocess.run([checker(parser.prog), "--version"], stdout=subprocess.PIPE,
-                              universal_newlines=True).stdout
-        print(told.strip().replace("fzcheck", parser.prog, 1))
+        print(common.version_words(parser.prog))
         parser.exit()
 
 

@@ -1,7 +1,6 @@
 """Looks for faults of a FlatZinc solver by small random models, or by models of one's own, and
 makes small what it finds."""
 import argparse
-import difflib
 import json
 import os
 import re
@@ -10,7 +9,7 @@ import sys
 import time
 from typing import FrozenSet, List, NoReturn, Optional, Sequence
 
-from fzcheck import junit
+from fzcheck import common, junit
 from fzcheck.fuzz import findings
 from fzcheck.fuzz.checking import Setting
 from fzcheck.fuzz.faults import cause_from
@@ -21,8 +20,7 @@ from fzcheck.fuzz.own import Base, read_models
 from fzcheck.fuzz.probe import Prober, in_folder
 from fzcheck.fuzz.report import Summary, Told
 from fzcheck.fuzz.search import Found, Plan, Tally
-from fzcheck.words import (
-    Parser, add_common, checker, give_up, other_solver, parsed, suggestion)
+from fzcheck.words import Parser, add_common, checker, give_up, other_solver, parsed
 
 PROGRAM = "fzcheck-fuzz"
 LEAST_NUMBERS = 10  # between the ends of --numbers
@@ -211,7 +209,7 @@ def names_given(given: argparse.Namespace, bases: Sequence[Base]) -> Names:
         give_up(PROGRAM, f"{error.filename}: {error.strerror}", 6)
     if not names.known:
         word = next(iter(names.unknown), "")
-        near = suggestion(word, difflib.get_close_matches(word, ALL_NAMES, 1))
+        near = common.meant(word, ALL_NAMES)
         give_up(PROGRAM, f"none of the names is a builtin that is known: {word or 'no name'}{near}",
                 5)
     return names
@@ -240,7 +238,7 @@ def main(words: List[str]) -> int:
     run.go()
     print(json.dumps(run.summary.as_json()) if given.json else run.summary.as_text())
     if given.junit:
-        junit.write(given.junit, PROGRAM, run.summary.cases(), run.summary.seconds)
+        junit.write(given.junit, PROGRAM, run.summary.cases())
     for it in run.failed:
         print(f"{PROGRAM}: {it}", file=sys.stderr)
     return run.status()
