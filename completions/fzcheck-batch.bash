@@ -12,7 +12,7 @@ _fzcheck_batch() {
         offered+=' --models --streams --times --status --names --limit --shard -j'
         offered+=' --complete --complete-steps --cut --claims=prove --large'
         ;;
-      report) offered+=' --html --title --csv --scores' ;;
+      report) offered+=' --html --title --csv --scores --junit' ;;
     esac
   fi
   # shellcheck disable=SC2207

@@ -30,7 +30,8 @@ case $line[1] in
       '--html=[write a page]:page:_files' \
       "--title=[the page's title]:title: " \
       '--csv=[write a table, a line for each pair]:table:_files' \
-      '--scores=[write the scores, a line for each solver]:table:_files'
+      '--scores=[write the scores, a line for each solver]:table:_files' \
+      '--junit=[write a case for each stream in the form of JUnit]:file:_files'
     ;;
   merge) _arguments $both '*:folder:_files -/' ;;
 esac

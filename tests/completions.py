@@ -53,6 +53,17 @@ def compare_batch(check_options: Set[str]) -> None:
            by_bash("", program="fzcheck-batch"))
 
 
+def compare_fuzzer(program: str) -> None:
+    """The options of a program behind whose `--` a solver stands with options of its own."""
+    told = said(os.path.join(ROOT, "python", program), "--help")
+    own = set(re.findall(r"^  (?:-\w, )?(--[a-z-]+)", told, re.M))
+    offered = {it for it in by_bash("-", program=program) if it.startswith("--") and it != "--"}
+    expect(f"{program}, by bash", own, offered)
+    zsh = read(f"completions/{program}.zsh").split("_arguments")[1]
+    expect(f"{program}, by zsh", own, set(re.findall(r"(--[a-z][a-z-]+)", zsh)))
+    expect(f"a solver's option after {program}", set(), by_bash("--", "fzn", "-", program=program))
+
+
 def main(program: str) -> int:
     words, zsh = read("crates/fz_command/src/words.rt"), read("completions/fzcheck.zsh")
     options = set(re.findall(r'\("([a-z-]+)", Kind::', words))
@@ -81,6 +92,8 @@ def main(program: str) -> int:
     expect("commands behind help, by bash", commands - {"help"}, by_bash("help", ""))
     expect("options, by bash", {"-h", "--help", "-V", "--version"}, by_bash("-"))
     compare_batch({f"--{it}" for it in options})
+    compare_fuzzer("fzcheck-fuzz")
+    compare_fuzzer("fzcheck-shrink")
     return end()
 
 

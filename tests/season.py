@@ -18,6 +18,7 @@ import subprocess
 import sys
 import tempfile
 from typing import Any, Dict, List, Tuple
+from xml.etree import ElementTree
 
 import batch
 from batch import COMMAND, COMPLETE, MARKER, UNSATISFIABLE, Place, expect, lacks, shown
@@ -281,14 +282,20 @@ def try_scores(place: Place) -> None:
               for word in (f"--{kind}", "streams/{solver}/{model}." + kind)]
     place.run(*place.words("results", *beside))
     report = (*COMMAND, "report", "--results", "results", "--scores", "scores.csv")
-    status, out, _ = place.run(*report, "--html", "page.html")
+    status, out, _ = place.run(*report, "--html", "page.html", "--junit", "junit.xml")
+    suite = ElementTree.parse(place.folder / "junit.xml").getroot()[0]
+    table = place.table("results")
+    wrong = {pair for pair, row in table.items()
+             if row["outcome"] in ("violated", "refuted claim", "refused")}
+    expect("JUnit's cases", set(table), {(it.get("name"), it.get("classname")) for it in suite})
+    expect("JUnit's failures", wrong, {(it.get("name"), it.get("classname")) for it in suite
+                                       if it.find("failure") is not None})
     with open(place.folder / "scores.csv", encoding="utf-8", newline="") as file:
         head, *lines = list(csv.reader(file))
     expect("the scores' head", ["solver", "models", "wrong", "complete", "incomplete", "csp",
                                 "csp_seconds", "cop", "cop_seconds"], head)
     expect("scores", SCORES, {line[0]: tuple(line[1:]) for line in lines})
     expect("what isn't scored", (0, 1), (status, out.count("the model E can't be judged by: ")))
-    table = place.table("results")
     for pair, wanted in TIMES.items():
         got = [table[pair][name] for name in ("solver_seconds", "best_at", "solver_memory",
                                               "solver_status")]

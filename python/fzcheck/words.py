@@ -1,10 +1,15 @@
 """The command lines of fzcheck-fuzz and fzcheck-shrink, behind whose `--` the solver stands."""
 import argparse
+import re
+import shlex
 import shutil
 import sys
-from typing import List, NoReturn, Tuple
+from typing import List, NoReturn, Optional, Tuple
 
 from fzcheck import common
+
+UNRECOGNISED = re.compile(r"unrecognized arguments: (\S+)")
+BEFORE_DASHES = ("--all", "--numbers", "--reference")  # options whose value may begin with a dash
 
 
 def give_up(program: str, text: str, status: int) -> NoReturn:
@@ -13,10 +18,31 @@ def give_up(program: str, text: str, status: int) -> NoReturn:
 
 
 class Parser(argparse.ArgumentParser):
-    """Ends with status 5 where the words are wrong, as fzcheck does."""
+    """Ends with status 5 where the words are wrong, as fzcheck does, and says what is near."""
 
     def error(self, message: str) -> NoReturn:
-        give_up(self.prog, f"{message} (--help tells more)", 5)
+        found = UNRECOGNISED.search(message)
+        word = found[1].partition("=")[0] if found else ""
+        near = common.meant(word, self._option_string_actions) if word else ""
+        give_up(self.prog, f"{message}{near} (--help tells more)", 5)
+
+
+class Version(argparse.Action):
+    """Prints the version of the program that judges."""
+
+    def __call__(self, parser: argparse.ArgumentParser, *rest: object) -> None:
+        print(common.version_words(parser.prog))
+        parser.exit()
+
+
+def add_common(parser: Parser) -> None:
+    """The options that both programs have."""
+    add = parser.add_argument
+    add("--limit", type=int, default=10, help="seconds of a run, of the processor (10)")
+    add("--all", default="-a", help="the solver's option for all solutions (-a)")
+    add("--reference", metavar="SOLVER", help="another solver with its options, in quotes, whose "
+        "solutions are judged, and held against SOLVER where they hold")
+    add("-V", "--version", action=Version, nargs=0, help="print the version")
 
 
 def joined(words: List[str], options: Tuple[str, ...]) -> List[str]:
@@ -30,17 +56,26 @@ def joined(words: List[str], options: Tuple[str, ...]) -> List[str]:
     return found
 
 
-def solver_words(program: str, words: List[str]) -> Tuple[List[str], List[str]]:
+def parsed(parser: Parser, words: List[str]) -> Tuple[argparse.Namespace, List[str]]:
     """The program's own words, and the solver with its options, which has to be there."""
     at = words.index("--") if "--" in words else len(words)
-    own, solver = joined(words[:at], ("--all", "--numbers")), words[at + 1 :]
-    if "-h" in own or "--help" in own:
-        return own, solver
+    given, solver = parser.parse_args(joined(words[:at], BEFORE_DASHES)), words[at + 1 :]
     if not solver:
-        give_up(program, "behind -- there has to be a solver (--help tells more)", 5)
-    if not shutil.which(solver[0]):
-        give_up(program, f"{solver[0]}: there is no such program", 6)
-    return own, solver
+        give_up(parser.prog, "after -- a solver was expected (--help tells more)", 5)
+    find(parser.prog, solver[0])
+    return given, solver
+
+
+def find(program: str, name: str) -> None:
+    if not shutil.which(name):
+        give_up(program, f"{name}: there is no such program", 6)
+
+
+def other_solver(program: str, given: Optional[str]) -> List[str]:
+    words = shlex.split(given or "")
+    if words:
+        find(program, words[0])
+    return words
 
 
 def checker(program: str) -> str:

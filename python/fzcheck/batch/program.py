@@ -1,7 +1,7 @@
 """Judges a season: many models, and the streams of many solvers on them.
 
     fzcheck-batch run --models DIR --streams 'DIR/{solver}/{model}.out' --results DIR [OPTIONS]
-    fzcheck-batch report --results DIR [--html FILE] [--csv FILE] [--scores FILE]
+    fzcheck-batch report --results DIR [--html FILE] [--csv FILE] [--scores FILE] [--junit FILE]
     fzcheck-batch merge --results DIR FOLDER..
 
 docs/ORGANISERS.md tells how they are used, on one machine and on several.
@@ -43,7 +43,8 @@ COMMANDS: Dict[str, Tuple[str, Tuple[Tuple[str, str, str], ...]]] = {
         ("--html", "FILE", "writes a page"),
         ("--title", "TEXT", "the page's title"),
         ("--csv", "FILE", "writes a table, a line for each pair"),
-        ("--scores", "FILE", "writes the scores, a line for each solver"))),
+        ("--scores", "FILE", "writes the scores, a line for each solver"),
+        ("--junit", "FILE", "writes JUnit's form, a case for each stream"))),
     "merge": ("Takes over the results of other folders.", (RESULTS,)),
 }
 
@@ -115,7 +116,7 @@ def run_season(arguments: argparse.Namespace, words: List[str]) -> int:
 
 
 def report_season(arguments: argparse.Namespace) -> int:
-    files = Files(arguments.html, arguments.csv, arguments.scores)
+    files = Files(arguments.html, arguments.csv, arguments.scores, junit=arguments.junit)
     if arguments.title:
         files = files._replace(title=arguments.title)
     return report(Store(arguments.results), files)

@@ -6,6 +6,8 @@ import sys
 from collections import Counter
 from typing import Any, Dict, Iterator, List, NamedTuple, Optional, TextIO
 
+from fzcheck import junit
+from fzcheck.batch.cases import case_of
 from fzcheck.batch.page import Page
 from fzcheck.batch.report import claim_words
 from fzcheck.batch.results import Finish, Outcome, Result, Row, Store, Stored, row_of
@@ -26,6 +28,7 @@ class Files(NamedTuple):
     csv: Optional[str] = None
     scores: Optional[str] = None
     title: str = "A season, checked"
+    junit: Optional[str] = None
 
 
 class Counts:
@@ -66,6 +69,7 @@ class Season:
         self.store = store
         self.counts, self.scores = Counts(), Scores(sorted(set(names)))
         self.page = Page(len(names), files.title) if files.html else None
+        self.cases: Optional[List[junit.Case]] = [] if files.junit else None
         self.wrong: List[str] = []
         self.faults: List[str] = []
         self.not_scored: List[str] = []
@@ -101,6 +105,8 @@ class Season:
             self.not_scored.append(f"{row.model} isn't scored: {unscored(row)}")
         if self.page:
             self.page.add(row, scores)
+        if self.cases is not None:
+            self.cases += map(case_of, row.pairs)
 
     def tell(self) -> None:
         """What a reader of the tables should know of them."""
@@ -163,6 +169,8 @@ def report(store: Store, files: Files) -> int:
     if season.page and files.html:
         with opened(files.html) as file:
             file.write(season.page.text(season.solver_lines()))
+    if files.junit:
+        junit.write(files.junit, "fzcheck-batch", season.cases or [])
     if files.scores:
         with opened(files.scores) as file:
             csv.writer(file).writerows(season.scores.lines())

@@ -1,154 +1,23 @@
-"""Runs a solver on a model, and says what is wrong with what it prints."""
-import contextlib
-import enum
-import json
+"""Runs a solver on a model, and says all that is wrong with what it prints.
+
+Its claims are proved or refuted by `fzcheck` where that can; where it can't, small models are
+enumerated, and known solutions refute what they can."""
 import os
-import resource
-import select
-import signal
-import subprocess
-import time
-from dataclasses import dataclass, field
-from typing import Any, Dict, List, NamedTuple, Optional, Tuple
+from functools import cached_property
+from typing import Iterator, List, Optional, Sequence, Tuple
 
-from fzcheck.flatzinc import Argument, Model, Name, Reader, Stream, stream_of, text_of
-from fzcheck.fuzz.truth import Assignment, Truth
+from fzcheck.flatzinc import Model, Name, Stream, stream_of
+from fzcheck.fuzz.checking import (
+    Setting, Told, Values, are_solutions, block_of, checked, cleaned, in_words, printed_values,
+    violation)
+from fzcheck.fuzz.faults import Fault, Kind, Outcome, Wrong
+from fzcheck.fuzz.running import End, Ran, solve
+from fzcheck.fuzz.truth import Truth, truth_of
 
-MOST_PRINTED = 32 * 2**20  # bytes of a run
-MOST_WAITED = 10  # times a run's limit
-MOST_TOLD = 4096  # bytes that are kept of standard error, and of output without end
 COMPLETE = "=========="
 NOTHING_SAID = ("=====UNKNOWN=====", "=====ERROR=====")
-BLOCK = "-" * 10 + "\n"
-
-
-class Kind(enum.Enum):
-    """What is wrong. Two faults are of one cause where the kind and the builtins are the same."""
-
-    WRONG = "wrong solution"
-    LOST = "lost solutions"
-    TWICE = "solution twice"
-    NOT_BETTER = "no better solution"
-    OPTIMUM = "wrong optimum"
-    CLAIM = "wrong claim"
-    SILENT = "no claim"
-    CRASH = "crash"
-    STATUS = "error status"
-    SLOW = "time limit"
-    ENDLESS = "output without end"
-    UNREADABLE = "unreadable output"
-    MODEL_CHANGED = "model changed"
-
-
-class End(enum.Enum):
-    EXIT, TIME, OUTPUT = range(3)
-
-
-class Ran(NamedTuple):
-    output: str
-    errors: str
-    status: int
-    end: End
-    model_changed: bool
-
-
-@dataclass
-class Fault:
-    kind: Kind
-    text: str
-    options: List[str]  # behind the solver's own
-    ran: Ran
-    missing: List[str] = field(default_factory=list)  # blocks that the solver should have found
-
-
-@dataclass
-class Outcome:
-    """What a run shows: a fault, or why the solver refused the model, or neither."""
-
-    fault: Optional[Fault] = None
-    refused: Optional[str] = None
-    undecided: bool = False
-
-
-class Wrong(Exception):
-    """A fault, as it is found."""
-
-    def __init__(self, kind: Kind, text: str, missing: Optional[List[str]] = None) -> None:
-        super().__init__(text)
-        self.kind, self.missing = kind, missing or []
-
-
-class Setting(NamedTuple):
-    """The programs, and what a run may take."""
-
-    checker: str
-    solver: List[str]
-    all_option: str
-    limit: int  # seconds of the processor, and of the clock MOST_WAITED times as many
-
-
-def run(words: List[str], limit: int) -> Tuple[bytes, bytes, int, End]:
-    """Runs a program in a group of its own, and ends all of that group.
-
-    A busy machine must not make a fault of a solver, so its time is that of the processor."""
-    process = subprocess.Popen(
-        words, stdin=subprocess.DEVNULL, stdout=subprocess.PIPE, stderr=subprocess.PIPE,
-        start_new_session=True,
-        preexec_fn=lambda: resource.setrlimit(resource.RLIMIT_CPU, (limit, limit + 1)))
-    assert process.stdout and process.stderr
-    parts = {it.fileno(): bytearray() for it in (process.stdout, process.stderr)}
-    try:
-        end = collect(process, parts, time.monotonic() + MOST_WAITED * limit)
-    finally:
-        with contextlib.suppress(ProcessLookupError):
-            os.killpg(process.pid, signal.SIGKILL)  # what it started, too
-        process.wait()
-        output, errors = (bytes(it) for it in parts.values())
-        process.stdout.close()
-        process.stderr.close()
-    status = process.returncode
-    if 128 < status < 192:  # a script says so of a signal that ended its program
-        status = 128 - status
-    return output, errors, status, End.TIME if status == -signal.SIGXCPU else end
-
-
-def collect(process: subprocess.Popen, parts: Dict[int, bytearray], deadline: float) -> End:
-    """Takes what is printed, until the process ends, or the time, or it is too much."""
-    is_open = set(parts)
-    ended = False
-    while is_open or not ended:
-        ready = select.select(list(is_open), [], [], 0 if ended else 0.02)[0]
-        if ended and not ready:
-            break  # others of its group may hold the pipes open
-        for descriptor in ready:
-            piece = os.read(descriptor, 65536)
-            parts[descriptor] += piece
-            if not piece:
-                is_open.remove(descriptor)
-        if max(map(len, parts.values())) > MOST_PRINTED:
-            return End.OUTPUT
-        ended = ended or process.poll() is not None
-        if not ended and time.monotonic() > deadline:
-            return End.TIME
-    return End.EXIT
-
-
-def solve(setting: Setting, path: str, options: List[str]) -> Ran:
-    with open(path, "rb") as file:
-        before = file.read()
-    output, errors, status, end = run([*setting.solver, *options, path], setting.limit)
-    try:
-        with open(path, "rb") as file:
-            changed = file.read() != before
-    except OSError:
-        changed = True
-    if changed:
-        with open(path, "wb") as file:
-            file.write(before)
-    told = errors[:MOST_TOLD].decode(errors="replace").strip()
-    if end == End.OUTPUT:
-        output = output[:MOST_TOLD]
-    return Ran(output.decode(errors="replace"), told, status, end, changed)
+MOST_KNOWN, MOST_MISSING, MOST_BETTER, MOST_KEPT = 20, 3, 8, 3
+NO_BLOCK = "-" * 10 + "\n"  # any solution extends it
 
 
 def refusal(ran: Ran, stream: Stream) -> Optional[str]:
@@ -162,158 +31,269 @@ def refusal(ran: Ran, stream: Stream) -> Optional[str]:
     return next((it for it in lines if "rror" in it), lines[0]).strip()[:200]
 
 
-class Judgement:
-    """Of one run on a model. The checks raise what is wrong, the plainest first."""
+class Case:
+    """A model in a folder, with what is known of its solutions. A model of one's own may well take
+    a solver longer than the limit."""
 
-    def __init__(self, setting: Setting, model: Model, path: str, truth: Optional[Truth],
-                 options: List[str]) -> None:
-        self.setting, self.model, self.path, self.truth = setting, model, path, truth
-        self.options = options
-        self.wants_all = setting.all_option in [*setting.solver, *options]
-        self.ran = solve(setting, path, options)
+    def __init__(self, setting: Setting, model: Model, folder: str,
+                 known: Sequence[Values] = (), is_own: bool = False) -> None:
+        self.setting, self.model, self.is_own = setting, model, is_own
+        self.path = os.path.join(folder, "model.fzn")
+        self.given = known
+        self.write("", model.text())
+
+    def write(self, suffix: str, text: str) -> str:
+        path = self.path + suffix
+        with open(path, "w", encoding="utf-8") as file:
+            file.write(text)
+        return path
+
+    @cached_property
+    def truth(self) -> Optional[Truth]:
+        return truth_of(self.model)
+
+    @cached_property
+    def known(self) -> List[Values]:
+        """Values that are given, and those that the reference finds, of this model's variables."""
+        declared = {it.name for it in self.model.variables()}
+        found = [*self.given, *self.by_reference()]
+        own = [{name: it[name] for name in it if name in declared} for it in found]
+        return [it for it in own if it][-MOST_KNOWN:]
+
+    def by_reference(self) -> List[Values]:
+        if not self.setting.reference:
+            return []
+        ran = solve(self.setting.reference, self.path, self.setting.limit)
+        return values_of(self.model, stream_of(ran.output))
+
+    @cached_property
+    def known_words(self) -> List[str]:
+        if not self.known:
+            return []
+        return ["--known", self.write(".known", "".join(map(block_of, self.known)))]
+
+    def is_solution(self, block: str) -> bool:
+        told = checked(self.setting, [self.path, self.write(".block", block)])
+        return are_solutions(told)
+
+    @cached_property
+    def has_solution(self) -> bool:
+        if self.truth is not None:
+            return bool(self.truth.solutions)
+        return any(self.is_solution(block_of(it)) for it in self.known) or (
+            self.is_solution(NO_BLOCK))
+
+    def outcome(self, options: List[str]) -> Outcome:
+        return Judgement(self, options).outcome()
+
+
+def values_of(model: Model, stream: Stream) -> List[Values]:
+    found = []
+    for block in stream.blocks:
+        try:
+            found.append(printed_values(model, block))
+        except (ValueError, KeyError):
+            continue
+    return found
+
+
+class Judgement:
+    """Of one run on a model. Each of its checks gives what is wrong."""
+
+    def __init__(self, case: Case, options: List[str]) -> None:
+        self.case, self.model, self.setting, self.options = (
+            case, case.model, case.setting, options)
+        solver = [*self.setting.solver, *options]
+        self.wants_all = self.setting.all_option in solver
+        self.ran = solve(solver, case.path, self.setting.limit, self.setting.most_printed)
         self.stream = stream_of(self.ran.output)
         self.claims = [claim for claim, _ in self.stream.claims]
+        self.told: List[Told] = []
+        self.is_readable = True
 
     def outcome(self) -> Outcome:
         refused = refusal(self.ran, self.stream)
         if refused is not None:
             return Outcome(refused=refused)
-        try:
-            self.check_end()
-            undecided = self.check_stream()
-            self.check_run()
-            if self.truth is not None:
-                self.check_truth(self.truth)
-        except Wrong as it:
-            self.confirm(it.missing)
-            return Outcome(Fault(it.kind, str(it), self.options, self.ran, it.missing))
-        return Outcome(undecided=undecided)
+        found = [Fault(it, self.options, self.ran) for it in self.wrongs()]
+        verdicts = [it["verdict"] for it in self.told if "verdict" in it]
+        good = [block for block, verdict in zip(self.stream.blocks, verdicts)
+                if verdict == "satisfied"]
+        return Outcome(found, undecided="undecided" in verdicts, solutions=values_of(
+            self.model, Stream(good[-MOST_KEPT:], [])))
 
-    def confirm(self, missing: List[str]) -> None:
-        """That `fzcheck` takes for solutions what the solver is said to lack."""
-        if missing:
-            path = self.path + ".missing"
-            with open(path, "w") as file:
-                file.write("".join(missing))
-            told = checked(self.setting, [self.path, path])
-            if any(it.get("verdict", "satisfied") != "satisfied" or "refused" in it for it in told):
-                raise AssertionError(f"fzcheck and this program differ: {self.model.text()}{told}")
+    def wrongs(self) -> Iterator[Wrong]:
+        yield from self.of_end()
+        yield from self.of_stream()
+        yield from self.of_run()
+        says_all = bool(self.claims) and self.claims[-1] not in NOTHING_SAID
+        if says_all and self.is_readable and not self.is_proved():
+            yield from self.of_claim()
 
-    def check_end(self) -> None:
+    def of_end(self) -> Iterator[Wrong]:
         ran = self.ran
         if ran.model_changed:
-            raise Wrong(Kind.MODEL_CHANGED, "the solver writes to its model")
+            yield Wrong(Kind.MODEL_CHANGED, "the solver writes to its model")
         if ran.end == End.OUTPUT:
-            raise Wrong(Kind.ENDLESS, f"the solver prints more than {MOST_PRINTED} bytes")
+            yield Wrong(Kind.ENDLESS, "the solver prints more than "
+                        f"{self.setting.most_printed} bytes")
         if ran.end == End.EXIT and ran.status < 0:
-            raise Wrong(Kind.CRASH, f"the solver ends by signal {-ran.status}")
+            yield Wrong(Kind.CRASH, f"the solver ends by signal {-ran.status}")
 
-    def check_stream(self) -> bool:
-        """What `fzcheck` says of the stream; returns whether a block is undecided."""
-        stream = self.path + ".stream"
-        with open(stream, "w") as file:
-            file.write(self.ran.output)
-        cut = ["--cut"] if self.ran.end == End.TIME else []
-        told = checked(self.setting, [*cut, self.path, stream])
-        for it in told:
+    def of_stream(self) -> Iterator[Wrong]:
+        """What `fzcheck` says of the stream, and where it refuses that, of what it can read."""
+        self.told = self.judged(self.ran.output)
+        refused = next((it for it in self.told if "refused" in it), None)
+        if refused and refused["refused"] == "model":
+            raise ValueError(f"fzcheck refuses the model: {refused}")
+        if refused and self.ran.end != End.OUTPUT:
+            yield Wrong(Kind.UNREADABLE, f"fzcheck refuses the output: {refused.get('message')}",
+                        str(refused.get("fault", "")))
+            readable = cleaned(self.ran.output, self.model)
+            self.stream, self.told = stream_of(readable), self.judged(readable)
+            self.is_readable = not any("refused" in it for it in self.told)
+        for it in self.told:
             if it.get("verdict") == "violated":
                 kind = Kind.NOT_BETTER if it["point"] == "objective" else Kind.WRONG
-                raise Wrong(kind, f"block {it['block']} is violated: {violation(it)}")
-            if it.get("refused") == "model":
-                raise ValueError(f"fzcheck refuses the model: {it}")
-            if "refused" in it:
-                raise Wrong(Kind.UNREADABLE, f"fzcheck refuses the output: {it.get('message')}")
-        if self.ran.end == End.TIME:
-            raise Wrong(Kind.SLOW, f"the solver hasn't ended after {self.setting.limit} seconds")
-        return any(it.get("verdict") == "undecided" for it in told)
+                yield Wrong(kind, f"block {it['block']} is violated: {violation(it)}")
+                break
 
-    def check_run(self) -> None:
-        blocks, claims = self.stream.blocks, self.stream.claims
-        if self.ran.status > 0:
-            raise Wrong(Kind.STATUS, f"the solver prints, and ends with status {self.ran.status}")
-        for claim, before in claims:
-            if before < len(blocks):
-                raise Wrong(Kind.CLAIM, f"{claim} stands before block {before + 1}")
-            if claim != COMPLETE and claim not in NOTHING_SAID and blocks:
-                raise Wrong(Kind.CLAIM, f"{claim} stands behind a solution")
-            if claim == COMPLETE and not blocks and not (self.truth and self.truth.solutions):
-                raise Wrong(Kind.CLAIM, f"{claim} stands behind no solution")
-        if not claims and not blocks:
-            raise Wrong(Kind.SILENT, "the solver ends with neither a solution nor a claim")
-        if not claims and (self.wants_all or self.model.objective is not None):
-            raise Wrong(Kind.SILENT, f"the solver ends without {COMPLETE}")
+    def judged(self, output: str) -> List[Told]:
+        stream = self.case.write(".stream", output)
+        is_whole = self.ran.end == End.EXIT and self.ran.status == 0
+        return checked(self.setting, [*([] if is_whole else ["--cut"]), *self.case.known_words,
+                                      self.case.path, stream])
 
-    def check_truth(self, truth: Truth) -> None:
-        says_all = bool(self.claims) and self.claims[-1] not in NOTHING_SAID
+    def of_run(self) -> Iterator[Wrong]:
+        ran, blocks = self.ran, self.stream.blocks
+        if ran.end == End.TIME and not self.case.is_own:
+            yield Wrong(Kind.SLOW, f"the solver hasn't ended after {self.setting.limit} seconds")
+        if ran.end == End.EXIT and ran.status > 0:
+            yield Wrong(Kind.STATUS, f"the solver prints, and ends with status {ran.status}",
+                        f"status {ran.status}")
+        yield from self.of_claims_place()
+        if ran.end != End.EXIT or ran.status != 0 or self.claims:
+            return
+        if not blocks:
+            yield Wrong(Kind.SILENT, "the solver ends with neither a solution nor a claim",
+                        "neither a solution nor a claim")
+        elif self.wants_all or self.model.objective is not None:
+            yield Wrong(Kind.SILENT, f"the solver ends without {COMPLETE}", f"no {COMPLETE}")
+
+    def of_claims_place(self) -> Iterator[Wrong]:
         blocks = self.stream.blocks
-        if says_all and not blocks and truth.solutions:
-            raise Wrong(Kind.LOST, f"{self.claims[-1]}, and there is a solution",
-                        [block_of(self.model, truth, truth.solutions[0])])
-        if says_all and blocks and self.model.objective is not None:
-            self.check_optimum(truth)
-        elif blocks and self.wants_all:
-            self.check_all(truth, says_all)
+        for claim, before in self.stream.claims:
+            form = ""
+            if before < len(blocks):
+                form = f"{claim} stands before a block"
+            elif claim != COMPLETE and claim not in NOTHING_SAID and blocks:
+                form = f"{claim} stands after a solution"
+            elif claim == COMPLETE and not blocks:
+                form = f"{claim} stands after no solution"
+            if form:
+                yield Wrong(Kind.CLAIM, form, form)
 
-    def check_optimum(self, truth: Truth) -> None:
-        places = {name: place for place, name in enumerate(truth.names)}
+    def is_proved(self) -> bool:
+        """Whether `fzcheck` proves the last claim. It proves none that is on all solutions."""
+        claims = [it for it in self.told if "claim" in it]
+        return bool(claims) and "proved" in claims[-1]
+
+    def of_claim(self) -> Iterator[Wrong]:
+        refuted = self.refuted()
+        if refuted:
+            yield refuted
+        elif not self.stream.blocks:
+            yield from self.of_none()
+        elif self.model.objective is not None:
+            yield from self.of_optimum()
+        elif self.wants_all:
+            yield from self.of_all()
+
+    def refuted(self) -> Optional[Wrong]:
+        """A claim that a known solution refutes."""
+        for it in self.told:
+            by = it.get("refuted_by", {})
+            if "file" not in by:
+                continue
+            values = self.case.known[by["block"] - 1]
+            kind = Kind.OPTIMUM if self.stream.blocks else Kind.LOST
+            better = "a better solution" if self.stream.blocks else "a solution"
+            return Wrong(kind, f"{it['claim']}, and there is {better}: {in_words(values)}",
+                         missing=(block_of(values),))
+        return None
+
+    def of_none(self) -> Iterator[Wrong]:
+        """That there is no solution."""
+        truth, claim = self.case.truth, self.claims[-1]
+        if truth is not None and truth.solutions:
+            values = dict(zip(truth.names, truth.solutions[0]))
+            yield self.confirmed(Wrong(Kind.LOST, f"{claim}, and there is a solution: "
+                                       f"{in_words(values)}", missing=(block_of(values),)))
+        elif truth is None and self.case.is_solution(NO_BLOCK):
+            yield Wrong(Kind.LOST, f"{claim}, and fzcheck finds a solution", missing=(NO_BLOCK,))
+
+    def of_optimum(self) -> Iterator[Wrong]:
         goal, sign = self.model.objective, -1 if self.model.goal == "minimize" else 1
-        if not isinstance(goal, Name) or goal not in places:
+        declared = self.model.declared()
+        if not isinstance(goal, Name) or goal not in declared:
             return
         printed = printed_values(self.model, self.stream.blocks[-1]).get(goal)
-        best = max(truth.solutions, key=lambda it: sign * it[places[goal]], default=None)
-        if printed is None or best is None or sign * best[places[goal]] <= sign * printed:
+        if not isinstance(printed, int):
             return
-        raise Wrong(Kind.OPTIMUM, f"{self.claims[-1]} behind {goal} = {printed}, and there is "
-                    f"{best[places[goal]]}", [block_of(self.model, truth, best)])
+        better = self.better(goal, printed, sign)
+        if better is not None:
+            yield self.confirmed(Wrong(
+                Kind.OPTIMUM, f"{self.claims[-1]} after {goal} = {printed}, and there is "
+                f"{in_words(better)}", missing=(block_of(better),)))
 
-    def check_all(self, truth: Truth, says_all: bool) -> None:
+    def better(self, goal: Name, printed: int, sign: int) -> Optional[Values]:
+        """A solution that is better than what was printed last."""
+        truth = self.case.truth
+        if truth is not None:
+            place = truth.names.index(goal)
+            best = max(truth.solutions, key=lambda it: sign * number(it[place]), default=None)
+            is_better = best is not None and sign * number(best[place]) > sign * printed
+            return dict(zip(truth.names, best)) if best is not None and is_better else None
+        tried = (printed + sign * it for it in range(1, MOST_BETTER + 1))
+        values: Iterator[Values] = ({goal: it} for it in tried)
+        return next((it for it in values if self.case.is_solution(block_of(it))), None)
+
+    def of_all(self) -> Iterator[Wrong]:
         """That all solutions are there, once each, as far as the solver prints variables."""
         found = [printed_values(self.model, it) for it in self.stream.blocks]
-        shown = [name for name in truth.names if all(name in it for it in found)]
+        truth = self.case.truth
+        names = [it.name for it in self.model.variables()]
+        shown = [name for name in names if all(name in it for it in found)]
         printed = [tuple(it[name] for name in shown) for it in found]
-        places = [truth.names.index(name) for name in shown]
-        if len(shown) == len(truth.names) and len(set(printed)) < len(printed):
+        if len(shown) == len(names) and len(set(printed)) < len(printed):
             twice = next(it for place, it in enumerate(printed) if it in printed[:place])
-            values = ", ".join(f"{name} = {text_of(it)}" for name, it in zip(shown, twice))
-            raise Wrong(Kind.TWICE, f"printed twice: {values}")
+            yield Wrong(Kind.TWICE, f"printed twice: {in_words(dict(zip(shown, twice)))}")
         there = set(printed)
-        solutions = truth.solutions
-        missing = [it for it in solutions if tuple(it[place] for place in places) not in there]
-        if says_all and missing:
-            raise Wrong(Kind.LOST, f"{len(missing)} of {len(solutions)} solutions are missing",
-                        [block_of(self.model, truth, it) for it in missing[:3]])
+        everything = self.case.known if truth is None else [
+            dict(zip(truth.names, it)) for it in truth.solutions]
+        missing = [it for it in everything if all(name in it for name in shown)
+                   and tuple(it[name] for name in shown) not in there]
+        if truth is None:  # what is given needn't be a solution
+            missing = [it for it in missing if self.case.is_solution(block_of(it))]
+        if missing:
+            most = "some" if truth is None else f"{len(missing)} of {len(everything)}"
+            yield self.confirmed(Wrong(
+                Kind.LOST, f"{most} solutions are missing, as {in_words(missing[0])}",
+                missing=tuple(map(block_of, missing[:MOST_MISSING]))))
+
+    def confirmed(self, wrong: Wrong) -> Wrong:
+        """That `fzcheck` takes for solutions what the solver is said to lack."""
+        if not all(map(self.case.is_solution, wrong.missing)):
+            raise AssertionError(f"fzcheck and this program differ: {self.model.text()}{wrong}")
+        return wrong
 
 
-def checked(setting: Setting, words: List[str]) -> List[Dict[str, Any]]:
-    """What `fzcheck check` says, line by line."""
-    command = [setting.checker, "check", "--complete", "--claims", "--json", *words]
-    ran = subprocess.run(command, stdout=subprocess.PIPE, stderr=subprocess.PIPE, timeout=600)
-    if ran.returncode not in (0, 1, 2, 3, 4):
-        raise OSError(f"{' '.join(command)}: {ran.stderr.decode(errors='replace').strip()}")
-    return [json.loads(line) for line in ran.stdout.splitlines()]
+def number(value: object) -> int:
+    assert isinstance(value, int)
+    return value
 
 
-def violation(told: Dict[str, Any]) -> str:
-    if told["point"] == "objective":
-        return f"objective {told['now']} behind {told['before']}"
-    number = f" {told['number']}" if "number" in told else ""
-    return f"{told['point']}{number} {told['name']}"
-
-
-def printed_values(model: Model, block: str) -> Dict[Name, Any]:
-    """The values of the variables that a block prints, or elements of arrays that it prints."""
-    found: Dict[Name, Any] = {}
-    declared = model.declared()
-    for name, value in Reader(block).items():
-        pairs: List[Tuple[Argument, Argument]] = [(name, value)]
-        if isinstance(value, list):
-            pairs = list(zip(declared[name].value or [], value))  # type: ignore
-        for own, it in pairs:
-            if isinstance(own, Name):
-                found[own] = frozenset(it) if isinstance(it, range) else it
-    return found
-
-
-def block_of(model: Model, truth: Truth, solution: Assignment) -> str:
-    values = (f"{name} = {text_of(value)};\n" for name, value in zip(truth.names, solution))
-    return "".join(values) + BLOCK
+def outcomes(case: Case, ways: List[List[str]]) -> Iterator[Tuple[List[str], Outcome]]:
+    """What the solver shows on the model, asked in each of these ways."""
+    for options in ways:
+        yield options, case.outcome(options)

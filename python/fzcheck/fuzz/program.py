@@ -1,226 +1,247 @@
-"""Looks for faults of a FlatZinc solver by small random models, and makes small what it finds."""
+"""Looks for faults of a FlatZinc solver by small random models, or by models of one's own, and
+makes small what it finds."""
+import argparse
 import json
-import multiprocessing
 import os
-import queue
 import re
 import signal
 import sys
 import time
-from typing import Any, Dict, List, NoReturn, Optional, Set, Tuple
+from typing import FrozenSet, List, NoReturn, Optional, Sequence
 
+from fzcheck import common, junit
 from fzcheck.fuzz import findings
-from fzcheck.fuzz.search import Cause, Found, Message, Plan, Tally, worker
-from fzcheck.fuzz.make import ALL_NAMES, Limits
-from fzcheck.fuzz.judge import Setting
-from fzcheck.words import Parser, checker, solver_words
+from fzcheck.fuzz.checking import Setting
+from fzcheck.fuzz.faults import cause_from
+from fzcheck.fuzz.features import ALL_NAMES, Limits, Taken, families
+from fzcheck.fuzz.jobs import FAILED, Asking, Looking, Message, Team
+from fzcheck.fuzz.names import Names, names_of
+from fzcheck.fuzz.own import Base, read_models
+from fzcheck.fuzz.probe import Prober, in_folder
+from fzcheck.fuzz.report import Summary, Told
+from fzcheck.fuzz.search import Found, Plan, Tally
+from fzcheck.words import Parser, add_common, checker, give_up, other_solver, parsed
 
-STANDARD = ("int_", "bool_", "set_", "array_bool_", "array_int_", "array_set_", "array_var_",
-            "bool2int")
-PREDICATE = re.compile(r"^\s*predicate\s+(\w+)\s*\(([^;]*?)\)\s*(=|;)", re.MULTILINE)
-WIDTH = 100
+PROGRAM = "fzcheck-fuzz"
+LEAST_NUMBERS = 10  # between the ends of --numbers
+NONE_TAKEN = 3  # the status where nothing could be tried
+SHARE_OF_ASKING = 0.5  # of the time
+MOST_SHRINKING = 120.0  # seconds for each fault
 
 
 def parser() -> Parser:
     it = Parser(
-        prog="fzcheck-fuzz", usage="fzcheck-fuzz [OPTION..] -- SOLVER [SOLVER'S OPTION..]",
-        description="Runs SOLVER on small random models, judges what it prints, and makes small "
-        "what shows a fault. Status 0: no fault; 1: some; 5: wrong words; 6: a program is missing.")
+        prog=PROGRAM, usage=f"{PROGRAM} [OPTION..] -- SOLVER [SOLVER'S OPTION..]",
+        description="Asks SOLVER what it takes, runs it on random models of that, judges what it "
+        "prints, and makes small what shows a fault. Status 0: no fault but known ones; 1: some; "
+        "3: SOLVER takes none of the names; 5: wrong words; 6: a program or a file is missing.")
     add = it.add_argument
     add("--seconds", type=float, default=60, help="how long (60)")
     add("--models", type=int, help="end after so many models of each job")
     add("--faults", type=int, help="end after so many causes of faults")
     add("--seed", help="the same seed gives the same models (the time)")
-    add("--names", help="builtins: a list with commas, a file of names, or a solver's library")
+    add("--names", help="builtins: a list with commas, or a file of names (all that are known)")
+    add("--names-from", metavar="FILE.mzn", nargs="+", default=[],
+        help="the builtins that these files, or those of a folder, declare without a body")
+    add("--from", dest="folder", metavar="FOLDER",
+        help="change the FlatZinc models in FOLDER, in the place of random ones")
+    add("--known", metavar="FOLDER", action="append", default=[],
+        help="faults found before, an --output or a file `known`: counted, and not told")
     add("--jobs", type=int, default=1, help="solvers at once (1)")
-    add("--limit", type=int, default=10, help="seconds of a run, of the processor (10)")
     add("--numbers", help="LOW..HIGH: the solver's numbers, near which some are chosen")
-    add("--all", default="-a", help="the solver's option for all solutions (-a)")
     add("--output", default="fzcheck-fuzz-found", help="the folder of what is found")
     add("--json", action="store_true", help="the report as a JSON object")
+    add("--junit", metavar="FILE", help="also a report in JUnit's form, a case for each name")
+    add_common(it)
     return it
-
-
-def names_of(given: Optional[str]) -> Tuple[List[str], List[str]]:
-    """The builtins to try, and those that a library declares and the table hasn't."""
-    if given is None:
-        return ALL_NAMES, []
-    if os.path.isdir(given) or given.endswith(".mzn"):
-        return names_of_library(given)
-    words = given.split(",")
-    if os.path.exists(given):
-        with open(given) as file:
-            words = file.read().replace(",", " ").split()
-    unknown = [word for word in words if word not in ALL_NAMES]
-    return [word for word in words if word in ALL_NAMES], unknown
-
-
-def names_of_library(given: str) -> Tuple[List[str], List[str]]:
-    """Those that a library declares without a body, and the standard ones that it gives none."""
-    paths = [given]
-    if os.path.isdir(given):
-        paths = [os.path.join(given, it) for it in os.listdir(given) if it.endswith(".mzn")]
-    declared: Set[str] = set()
-    defined: Set[str] = set()
-    for path in sorted(paths):
-        with open(path, encoding="utf-8", errors="replace") as file:
-            text = re.sub(r"%[^\n]*", "", file.read())
-        for name, _, sign in PREDICATE.findall(text):
-            (declared if sign == ";" else defined).add(name)
-    standard = {it for it in ALL_NAMES if it.startswith(STANDARD)} - defined
-    return [it for it in ALL_NAMES if it in declared | standard], sorted(declared - {*ALL_NAMES})
 
 
 def limits_of(given: Optional[str]) -> Optional[Limits]:
     if given is None:
         return None
     found = re.fullmatch(r"(-?\d+)\.\.(-?\d+)", given)
-    if not found or int(found[2]) - int(found[1]) < 10:
-        raise SystemExit(wrong("--numbers wants LOW..HIGH"))
+    if not found or int(found[2]) - int(found[1]) < LEAST_NUMBERS:
+        give_up(PROGRAM, f"--numbers {given}: LOW..HIGH was expected, {LEAST_NUMBERS} apart or "
+                "more", 5)
     return Limits(int(found[1]), int(found[2]))
 
 
-def wrong(text: str) -> int:
-    print(f"fzcheck-fuzz: {text}", file=sys.stderr)
-    return 5
+def known_keys(paths: Sequence[str]) -> FrozenSet[str]:
+    """The causes in folders of what was found, or in files with one in each line."""
+    lines: List[str] = []
+    for path in paths:
+        try:
+            for file_path in files_of_causes(path):
+                with open(file_path, encoding="utf-8") as file:
+                    lines += file.read().splitlines()
+        except OSError as error:
+            give_up(PROGRAM, f"--known {path}: {error.strerror}", 6)
+    keys = set()
+    for line in lines:
+        text = line.partition("#")[0].strip()
+        try:
+            keys.update({cause_from(text).key} if text else set())
+        except ValueError:
+            give_up(PROGRAM, f"--known: {text}: a cause was expected, as `wrong solution: int_div`",
+                    5)
+    return frozenset(keys)
+
+
+def files_of_causes(path: str) -> List[str]:
+    if not os.path.isdir(path):
+        return [path]
+    there = sorted(os.listdir(path))
+    own = [os.path.join(path, it, "cause") for it in there]
+    return [it for it in [os.path.join(path, "known"), *own] if os.path.exists(it)]
 
 
 class Run:
-    """The jobs of a run, and what they tell."""
+    """Asks and looks, by several jobs, and keeps what they tell."""
 
-    def __init__(self, plan: Plan, jobs: int, output: str) -> None:
-        self.plan, self.output = plan, output
-        self.messages: "multiprocessing.Queue[Message]" = multiprocessing.Queue()
-        self.tally = Tally()
-        self.found: Dict[Cause, str] = {}
+    def __init__(self, given: argparse.Namespace, setting: Setting, names: Names,
+                 bases: List[Base]) -> None:
+        self.given, self.setting, self.names, self.bases = given, setting, names, bases
+        self.summary = Summary(given.seed or str(int(time.time())), names.known, names.unknown)
+        self.limits, self.known = limits_of(given.numbers), known_keys(given.known)
+        self.jobs = max(1, given.jobs)
         self.failed: List[str] = []
-        self.started = self.told = time.monotonic()
-        self.models = 0
-        self.left = jobs
-        self.stop = multiprocessing.Event()
-        self.workers = [multiprocessing.Process(
-            target=worker, args=(plan, f"{plan.seed}-{number}", self.messages, self.stop))
-            for number in range(jobs)]
+        self.steps = 0
+        self.started = self.shown = time.monotonic()
+        self.versions: Optional[findings.Versions] = None
+        self.team: Optional[Team] = None
 
     def go(self) -> None:
         signal.signal(signal.SIGTERM, signal.default_int_handler)
-        for it in self.workers:
-            it.start()
         try:
-            self.listen()
+            is_whole = self.ask()
         except KeyboardInterrupt:
-            for it in self.workers:
-                it.terminate()
-            self.listen()
-        for it in self.workers:
-            it.join()
+            is_whole = False
+        self.progress("")
+        if not self.given.json:
+            print(self.first_line(), flush=True)
+        if is_whole and self.summary.taken.names and not self.failed:
+            self.look()
+        self.summary.seconds = time.monotonic() - self.started
         self.progress("")
 
-    def listen(self) -> None:
-        while self.left:
-            try:
-                message = self.messages.get(timeout=1)
-            except queue.Empty:
-                if not any(it.is_alive() for it in self.workers):
-                    break
-                continue
-            if isinstance(message, Found):
-                self.keep(message)
-            elif isinstance(message, Tally):
-                self.tally.add(message)
-                self.left -= 1
-            elif message.startswith("failed: "):
-                self.failed.append(message)
-            else:
-                self.models += 1
-            self.progress(f"{self.models} models, {len(self.found)} causes of faults")
+    def ask(self) -> bool:
+        """Whether the solver takes each name."""
+        seed = self.summary.seed
+        taken = in_folder(lambda folder: Prober(self.setting, seed, folder).declarations())
+        parts = families(self.names.known)
+        self.summary.taken = taken
+        self.team = Team([Asking(self.setting, seed, taken, parts[job :: self.jobs])
+                          for job in range(self.jobs)],
+                         self.started + SHARE_OF_ASKING * self.given.seconds)
+        is_whole = self.team.go(self.hear)
+        for names in (taken.names, taken.refused, taken.unasked):
+            names.sort()
+        return is_whole
+
+    def look(self) -> None:
+        self.steps = 0
+        plan = Plan(self.setting, self.summary.seed, self.given.models, self.summary.taken,
+                    self.limits, self.given.faults, self.known, self.bases,
+                    min(MOST_SHRINKING, self.given.seconds))
+        faulty = sorted(plan.taken.faulty)
+        self.team = Team([Looking(plan, f"{plan.seed}-{job}", faulty[job :: self.jobs])
+                          for job in range(self.jobs)],
+                         self.started + self.given.seconds)
+        self.team.go(self.hear)
+
+    def first_line(self) -> str:
+        taken, every = self.summary.taken, len(self.names.known)
+        text = f"{len(taken.names)} of {every} names taken"
+        if not taken.names:
+            return (f"{text}: nothing can be tried; {self.setting.solver[0]} is no FlatZinc "
+                    "solver, or give --names")
+        is_default = not (self.given.names or self.given.names_from or self.bases)
+        if is_default and len(taken.names) < every:
+            return f"{text}: give --names, or --names-from FILE.mzn.. to ask for these alone"
+        return text
+
+    def hear(self, message: Message) -> None:
+        if isinstance(message, Found):
+            self.keep(message)
+        elif isinstance(message, Tally):
+            self.summary.tally.add(message)
+        elif isinstance(message, Taken):
+            self.summary.taken.add(message)
+        elif message.startswith(FAILED):
+            self.failed.append(message)
+        self.steps += message != ""
+        what = "models" if self.summary.taken.names else "names asked for"
+        self.progress(f"{self.steps} {what}, {len(self.summary.found)} causes of faults")
 
     def keep(self, found: Found) -> None:
         """Writes the folder of a cause that no other job found before."""
-        if found.cause in self.found:
+        if any(it.cause.key == found.cause.key for it in self.summary.found):
             return
-        setting = self.plan.setting
-        name = findings.folder_name(found.model, found.cause[0])
-        folder = os.path.join(self.output, name)
-        self.found[found.cause] = folder
-        findings.write(folder, setting, found.model, found.fault, [found.origin])
-        if self.plan.faults is not None and len(self.found) >= self.plan.faults:
-            self.stop.set()
-        with open(os.path.join(folder, "before.fzn"), "w") as file:
-            file.write(found.before.text())
+        self.versions = self.versions or findings.versions_of(self.setting)
+        origin = f"{PROGRAM} --seed {self.summary.seed}, {found.origin}"
+        finding = findings.Finding(self.setting, found.cause, found.small, self.versions, origin)
+        name = os.path.join(self.given.output, findings.folder_name(found.cause))
+        folder = finding.write(name, found.before)
+        self.summary.found.append(Told(found.cause, found.small, folder))
+        most = self.given.faults
+        if self.team and most is not None and len(self.summary.found) >= most:
+            self.team.stop.set()
 
     def progress(self, text: str) -> None:
-        if sys.stderr.isatty() and (not text or time.monotonic() - self.told > 0.5):
-            self.told = time.monotonic()
-            seconds = int(self.told - self.started)
+        if sys.stderr.isatty() and (not text or time.monotonic() - self.shown > 0.5):
+            self.shown = time.monotonic()
+            seconds = int(self.shown - self.started)
             print(f"\r\033[K{f'{seconds} s: {text}' if text else ''}", end="", file=sys.stderr)
             sys.stderr.flush()
 
-
-def as_json(run: Run, unknown: List[str]) -> Dict[str, Any]:
-    tally = run.tally
-    return {
-        "seed": run.plan.seed,
-        "seconds": round(time.monotonic() - run.started, 1),
-        "models": tally.models,
-        "runs": tally.runs,
-        "undecided": tally.undecided,
-        "faults": [{"kind": kind.value, "builtins": list(names), "times": tally.causes[kind, names],
-                    "folder": run.found.get((kind, names))} for kind, names in run.found],
-        "taken": {name: tally.taken[name] for name in run.plan.names if tally.taken[name]},
-        "refused": sorted(name for name, it in tally.refused.items() if not tally.taken[name]),
-        "not_known": unknown,
-        "messages": dict(tally.messages.most_common()),
-    }
+    def status(self) -> int:
+        if self.failed:
+            return 6
+        if not self.summary.taken.names:
+            return NONE_TAKEN
+        return 1 if self.summary.found else 0
 
 
-def wrapped(words: List[str]) -> str:
-    lines = [""]
-    for word in words:
-        if len(lines[-1]) + len(word) + 1 > WIDTH:
-            lines.append("")
-        lines[-1] += f" {word}"
-    return "\n".join(f" {line}" for line in lines)
+def names_given(given: argparse.Namespace, bases: Sequence[Base]) -> Names:
+    try:
+        names = names_of(given.names, given.names_from, bases)
+    except OSError as error:
+        give_up(PROGRAM, f"{error.filename}: {error.strerror}", 6)
+    if not names.known:
+        word = next(iter(names.unknown), "")
+        near = common.meant(word, ALL_NAMES)
+        give_up(PROGRAM, f"none of the names is a builtin that is known: {word or 'no name'}{near}",
+                5)
+    return names
 
 
-def as_text(told: Dict[str, Any], names: List[str]) -> str:
-    faults, taken, refused = told["faults"], told["taken"], told["refused"]
-    lines = [f"seed {told['seed']}: {told['models']} models, {told['runs']} runs in "
-             f"{told['seconds']} seconds; {told['undecided']} runs undecided"]
-    lines.append(f"taken by the solver, and in how many models: {len(taken)} of {len(names)} names")
-    lines.append(wrapped([f"{name} {it}" for name, it in taken.items()]))
-    if refused:
-        lines += [f"refused wherever they stood alone: {len(refused)} names", wrapped(refused)]
-    if told["not_known"]:
-        lines += ["not known to fzcheck, and not tried:", wrapped(told["not_known"])]
-    if told["messages"]:
-        lines.append("models that the solver refused, by its words:")
-        lines += [f"  {count} {it}" for it, count in list(told["messages"].items())[:12]]
-    if not faults:
-        return "\n".join([*lines, "no faults"])
-    lines.append(f"faults: {len(faults)} causes, {sum(it['times'] for it in faults)} models")
-    for it in faults:
-        builtins = ", ".join(it["builtins"]) or "no constraint"
-        lines.append(f"  {it['kind']}: {builtins}; {it['times']} times, see {it['folder']}")
-    return "\n".join(lines)
+def bases_given(given: argparse.Namespace) -> List[Base]:
+    if given.folder is None:
+        return []
+    if not os.path.exists(given.folder):
+        give_up(PROGRAM, f"--from {given.folder}: there is no such folder", 6)
+    bases, left_out = read_models(given.folder)
+    for it in left_out:
+        print(f"{PROGRAM}: left out: {it}", file=sys.stderr)
+    if not bases:
+        give_up(PROGRAM, f"--from {given.folder}: there is no FlatZinc model without floats", 6)
+    return bases
 
 
 def main(words: List[str]) -> int:
-    own, solver = solver_words("fzcheck-fuzz", words)
-    given = parser().parse_args(own)
-    names, unknown = names_of(given.names)
-    if not names:
-        return wrong(f"--names {given.names}: none of these is a builtin that is known")
-    setting = Setting(checker("fzcheck-fuzz"), solver, given.all, given.limit)
-    plan = Plan(setting, given.seed or str(int(time.time())), given.seconds, given.models, names,
-                limits_of(given.numbers), given.faults)
-    run = Run(plan, max(1, given.jobs), given.output)
+    given, solver = parsed(parser(), words)
+    bases = bases_given(given)
+    names = names_given(given, bases)
+    setting = Setting(checker(PROGRAM), solver, given.all, given.limit,
+                      other_solver(PROGRAM, given.reference))
+    run = Run(given, setting, names, bases)
     run.go()
-    told = as_json(run, unknown)
-    print(json.dumps(told) if given.json else as_text(told, names))
+    print(json.dumps(run.summary.as_json()) if given.json else run.summary.as_text())
+    if given.junit:
+        junit.write(given.junit, PROGRAM, run.summary.cases())
     for it in run.failed:
-        print(f"fzcheck-fuzz: {it}", file=sys.stderr)
-    return 6 if run.failed else 1 if run.found else 0
+        print(f"{PROGRAM}: {it}", file=sys.stderr)
+    return run.status()
 
 
 def program() -> NoReturn:

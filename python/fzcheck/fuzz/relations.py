@@ -8,6 +8,7 @@ from typing import Any, Callable, Dict, FrozenSet, List, Optional, Tuple
 
 Numbers = List[int]
 Set = FrozenSet[int]
+Shape = Tuple[str, Any]  # whether a scalar is fixed, and its value
 
 
 def count(x: Numbers, v: int) -> int:
@@ -126,22 +127,22 @@ def inverse(f: Numbers, fo: int, g: Numbers, go: int) -> bool:
     return leads_back(f, g) and leads_back(g, f)
 
 
-def has_rows(x: list, t: list) -> bool:
+def has_rows(x: List[Any], t: List[Any]) -> bool:
     """So many whole rows, each as long as x, which has an element. Each argument is its term, or
     the list of its terms."""
     return len(x) > 0 and len(t) % len(x) == 0
 
 
-def is_row(x: list, t: list) -> bool:
+def is_row(x: List[Any], t: List[Any]) -> bool:
     n = len(x)
     return has_rows(x, t) and any(t[i : i + n] == x for i in range(0, len(t), n))
 
 
 def has_transitions(
-    x: list, states: tuple, symbols: tuple, d: list, q: tuple, final: tuple
+    x: List[Any], states: Shape, symbols: Shape, d: List[Any], q: Shape, final: Shape
 ) -> bool:
     """One for each state and symbol, whose numbers are fixed."""
-    return states[0] == symbols[0] == "fixed" and states[1] * symbols[1] == len(d)
+    return states[0] == symbols[0] == "fixed" and bool(states[1] * symbols[1] == len(d))
 
 
 def regular(x: Numbers, states: int, symbols: int, d: Numbers, q: int, final: Set) -> bool:
@@ -204,7 +205,7 @@ def partition(parts: List[Set], whole: Set) -> bool:
 
 
 I, C, L = "[I]", "[I] I I", "[I] [I]"
-TESTS: Dict[str, Tuple[str, Callable[..., bool], str]] = {
+TESTS: Dict[str, Tuple[str, Callable[..., Any], str]] = {
     "fzn_all_different_int": (I, all_different, ""),
     "fzn_alldifferent_except_0": (I, lambda x: all_different([v for v in x if v]), ""),
     "fzn_all_equal_int": (I, lambda x: len(set(x)) <= 1, ""),
@@ -233,8 +234,12 @@ TESTS: Dict[str, Tuple[str, Callable[..., bool], str]] = {
     "fzn_disjunctive": (L, lambda s, d: disjunctive(s, d, False), "01"),
     "fzn_disjunctive_strict": (L, lambda s, d: disjunctive(s, d, True), "01"),
     "gecode_schedule_unary": (L, lambda s, d: in_turn(list(zip(s, d))), "01"),
-    "fzn_diffn": ("[I] [I] [I] [I]", lambda *a: apart(*a, True), "0123"),
-    "fzn_diffn_nonstrict": ("[I] [I] [I] [I]", lambda *a: apart(*a, False), "0123"),
+    "fzn_diffn": ("[I] [I] [I] [I]", lambda x, y, dx, dy: apart(x, y, dx, dy, True), "0123"),
+    "fzn_diffn_nonstrict": (
+        "[I] [I] [I] [I]",
+        lambda x, y, dx, dy: apart(x, y, dx, dy, False),
+        "0123",
+    ),
     "gecode_nooverlap": (
         "[I] [I] [I] [I]",
         lambda x, dx, y, dy: apart(x, y, dx, dy, True),
@@ -256,11 +261,11 @@ TESTS: Dict[str, Tuple[str, Callable[..., bool], str]] = {
     "fzn_lex_lesseq_int": (L, lambda x, y: x <= y, ""),
     "fzn_lex_less_bool": ("[B] [B]", lambda x, y: x < y, ""),
     "fzn_lex_lesseq_bool": ("[B] [B]", lambda x, y: x <= y, ""),
-    "fzn_increasing_int": (I, lambda x: neighbours(lambda a, b: a <= b, x), ""),
-    "fzn_increasing_bool": ("[B]", lambda x: neighbours(lambda a, b: a <= b, x), ""),
-    "fzn_decreasing_int": (I, lambda x: neighbours(lambda a, b: a >= b, x), ""),
-    "fzn_decreasing_bool": ("[B]", lambda x: neighbours(lambda a, b: a >= b, x), ""),
-    "fzn_strictly_increasing_int": (I, lambda x: neighbours(lambda a, b: a < b, x), ""),
+    "fzn_increasing_int": (I, lambda x: neighbours(lambda a, b: bool(a <= b), x), ""),
+    "fzn_increasing_bool": ("[B]", lambda x: neighbours(lambda a, b: bool(a <= b), x), ""),
+    "fzn_decreasing_int": (I, lambda x: neighbours(lambda a, b: bool(a >= b), x), ""),
+    "fzn_decreasing_bool": ("[B]", lambda x: neighbours(lambda a, b: bool(a >= b), x), ""),
+    "fzn_strictly_increasing_int": (I, lambda x: neighbours(lambda a, b: bool(a < b), x), ""),
     "fzn_value_precede_int": ("I I [I]", precede, ""),
     "gecode_precede": (C, lambda x, s, t: precede(s, t, x), ""),
     "gecode_precede_set": ("[S] I I", precede_sets, ""),
@@ -301,7 +306,7 @@ RESULTS: Dict[str, Tuple[str, int, Callable[..., Any]]] = {
     "gecode_set_weights": ("[I] [I] S I", 3, weight),
     "gecode_range": ("[I] I S S", 3, values_at),
 }
-WHOLE_ROWS: Dict[str, Callable[..., bool]] = {
+WHOLE_ROWS: Dict[str, Callable[..., Any]] = {
     "fzn_table_int": has_rows,
     "fzn_table_bool": has_rows,
     "fzn_regular": has_transitions,

@@ -2,7 +2,7 @@
 
 It shares nothing with the checker, so that the second checker of the tests can work out reports by
 it, and a fuzzer can look for what a solver lost."""
-from typing import Any, Callable, Dict, List, Tuple
+from typing import Any, Callable, Dict, List, Set, Tuple
 
 from fzcheck.fuzz import relations
 
@@ -38,7 +38,7 @@ def power(a: int, b: int) -> int:
         raise OverflowError
     if not -(2**127) <= a**b < 2**127:
         raise OverflowError
-    return a**b
+    return int(a**b)
 
 
 def where(a: List[int], b: List[bool]) -> int:
@@ -46,11 +46,11 @@ def where(a: List[int], b: List[bool]) -> int:
     return sum(x for x, y in zip(a, b) if y)
 
 
-def element(a: int, b: list) -> Any:
+def element(a: int, b: List[Any]) -> Any:
     return b[a - 1] if 1 <= a <= len(b) else None
 
 
-TESTS: Dict[str, Tuple[str, Callable[..., bool]]] = {
+TESTS: Dict[str, Tuple[str, Callable[..., Any]]] = {
     "int_eq": ("I I", lambda a, b: a == b),
     "int_ne": ("I I", lambda a, b: a != b),
     "int_le": ("I I", lambda a, b: a <= b),
@@ -79,7 +79,7 @@ TESTS: Dict[str, Tuple[str, Callable[..., bool]]] = {
     "bool_lin_gt": ("[I] [B] I", lambda a, b, c: where(a, b) > c),
     **{name: row[:2] for name, row in relations.TESTS.items()},
 }
-OTHER_TESTS: Dict[str, Tuple[str, Callable[..., bool]]] = {
+OTHER_TESTS: Dict[str, Tuple[str, Callable[..., Any]]] = {
     "bool_and_imp": ("B B B", lambda a, b, c: not c or (a and b)),
     "bool_or_imp": ("B B B", lambda a, b, c: not c or a or b),
     "bool_xor_imp": ("B B B", lambda a, b, c: not c or a != b),
@@ -135,12 +135,22 @@ FORMS = {*TESTS, *relations.RESULTS, "bool_lin_eq", "bool_not", "bool_ne"}
 
 def same(a: Any, b: Any) -> bool:
     """Equal, and of one kind."""
-    return isinstance(a, bool) == isinstance(b, bool) and a == b
+    return isinstance(a, bool) == isinstance(b, bool) and bool(a == b)
+
+
+def without_last(test: Callable[..., Any]) -> Callable[..., Any]:
+    """Of a reified form, whose last argument is its Boolean."""
+    return lambda *terms: test(*terms[:-1])
 
 
 class Row:
     """A row: the kinds, the places that may be filled, whether it holds, and the value of a
     place."""
+
+    kinds: List[str]
+    results: Set[int]
+    test: Callable[..., Any]
+    value: Callable[..., Any]
 
     def __init__(self, name: str) -> None:
         self.known = True
@@ -166,27 +176,29 @@ class Row:
 
     def be_form(self, row: "Row", form: str) -> None:
         self.kinds, self.together = row.kinds + ["B"], row.together
-        if row.has_whole_rows:
-            self.has_whole_rows = lambda *terms: row.has_whole_rows(*terms[:-1])
+        of_plain = row.has_whole_rows
+        if of_plain:
+            self.has_whole_rows = without_last(of_plain)
         if form == "imp":
             self.results = set()
-            self.test = lambda *args: row.holds(args[:-1]) or not args[-1]
+            self.test = lambda *args: row.holds([*args[:-1]]) or not args[-1]
         else:
             self.results = {len(row.kinds)}
-            self.value = lambda *args: row.holds(args)
+            self.value = lambda *args: row.holds([*args])
 
-    def value_at(self, place: int, args: list) -> Any:
+    def value_at(self, place: int, args: List[Any]) -> Any:
         """The one value of a result place, or none."""
         if self.either:
-            return self.either[1 + place](args[1 - place])
+            _, first, second = self.either
+            return (second if place else first)(args[1 - place])
         return self.value(*(a for i, a in enumerate(args) if i != place))
 
-    def holds(self, args: list) -> bool:
+    def holds(self, args: List[Any]) -> bool:
         if self.either:
             wanted = self.either[2](args[0])
             return same(wanted, args[1])
         if not self.results:
-            return self.test(*args)
+            return bool(self.test(*args))
         place = min(self.results)
         value = self.value_at(place, args)
         return value is not None and same(value, args[place])

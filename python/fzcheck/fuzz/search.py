@@ -1,28 +1,27 @@
 """The work of fzcheck-fuzz: models are made, the solver is run, what is found is made small."""
 import copy
-import multiprocessing
 import random
 import re
-import signal
-import sys
-import tempfile
-import time
 from collections import Counter
 from dataclasses import dataclass, field
-from multiprocessing.synchronize import Event
-from typing import Counter as CounterOf, List, NamedTuple, Optional, Tuple, Union
+from typing import (
+    Counter as CounterOf, FrozenSet, List, NamedTuple, Optional, Sequence, Set, Tuple)
 
 from fzcheck.flatzinc import Model
-from fzcheck.fuzz.make import Limits, Maker
-from fzcheck.fuzz.judge import Fault, Kind, Outcome, Setting
-from fzcheck.fuzz.shrink import cause, outcomes, shrunk, without_unused
-from fzcheck.fuzz.truth import truth_of
+from fzcheck.fuzz.checking import Setting
+from fzcheck.fuzz.faults import PROTOCOL, Cause, Fault, Outcome, cause_from, cause_of
+from fzcheck.fuzz.features import Feature, Limits, Taken
+from fzcheck.fuzz.judge import Case
+from fzcheck.fuzz.make import Maker, Shape, fits
+from fzcheck.fuzz.own import Base, Changer
+from fzcheck.fuzz.probe import made_for
+from fzcheck.fuzz.shrink import TIMES, Small, seen, setting_for, shrunk
+from fzcheck.fuzz.smaller import without_unused
+from fzcheck.fuzz.truth import MOST_TRIED, size
 
-Cause = Tuple[Kind, Tuple[str, ...]]
-COUNTS = (1, 1, 1, 1, 1, 2, 2, 2, 3, 3, 4, 5)  # constraints of a model
-MOST_ANEW = 3  # times that a model without solutions is made anew
-MOST_REFUSALS = 12  # of a name that was never taken
-MOST_SHRINKING = 120.0  # seconds
+CANDIDATES = 6  # from which the name is taken that came least
+FAVOUR = 3  # times as often comes what found something
+DIGITS = re.compile(r"\d+")
 
 
 class Plan(NamedTuple):
@@ -30,158 +29,230 @@ class Plan(NamedTuple):
 
     setting: Setting
     seed: str
-    seconds: float
-    models: Optional[int]
-    names: List[str]
+    models: Optional[int]  # of each job
+    taken: Taken
     limits: Optional[Limits]
     faults: Optional[int]  # causes after which it ends
+    known: FrozenSet[str]  # keys of causes that aren't told
+    bases: List[Base]  # models of one's own
+    shrinking: float  # seconds for each fault
 
 
 class Found(NamedTuple):
     """A cause as it is met for the first time."""
 
     cause: Cause
-    fault: Fault
-    model: Model
+    small: Small
     before: Model  # as it was made
-    origin: str  # the seed and the number of the model
+    origin: str  # which model it was
 
 
 @dataclass
 class Tally:
+    """What was done; of a cause how often it was met."""
+
     models: int = 0
     runs: int = 0
     undecided: int = 0
-    taken: CounterOf[str] = field(default_factory=Counter)  # models that the solver ran, by name
-    refused: CounterOf[str] = field(default_factory=Counter)  # models of a name alone
+    used: CounterOf[str] = field(default_factory=Counter)  # models that the solver ran, by name
     messages: CounterOf[str] = field(default_factory=Counter)
     causes: CounterOf[Cause] = field(default_factory=Counter)
+    known: CounterOf[str] = field(default_factory=Counter)
 
     def add(self, other: "Tally") -> None:
         self.models += other.models
         self.runs += other.runs
         self.undecided += other.undecided
-        for own, its in ((self.taken, other.taken), (self.refused, other.refused),
-                         (self.messages, other.messages), (self.causes, other.causes)):
-            own.update(its)  # type: ignore
+        self.used.update(other.used)
+        self.messages.update(other.messages)
+        self.causes.update(other.causes)
+        self.known.update(other.known)
+
+
+class Chooser:
+    """Which builtins a model of a shape has: those that came seldom in that, and pairs that weren't
+    together."""
+
+    def __init__(self, taken: Taken) -> None:
+        self.favoured = set(taken.faulty)
+        self.names = {shape: [it for it in taken.names if fits(shape, it)] or taken.names
+                      for shape in Shape}
+        self.times: CounterOf[Tuple[Shape, str]] = Counter()
+        self.pairs: CounterOf[Tuple[str, str]] = Counter()
+
+    def choose(self, rand: random.Random, shape: Shape) -> List[str]:
+        found: List[str] = []
+        for _ in range(rand.choice(shape.value.counts)):
+            candidates = rand.choices(self.names[shape], k=CANDIDATES)
+            found.append(min(candidates, key=lambda it: self.weight(shape, found, it)))
+        self.times.update((shape, it) for it in found)
+        self.pairs.update((one, other) for one in found for other in found if one < other)
+        return found
+
+    def weight(self, shape: Shape, found: List[str], name: str) -> Tuple[int, float]:
+        """By pairs first where these are what the shape is for."""
+        together = sum(self.pairs[min(it, name), max(it, name)] for it in found)
+        times = self.times[shape, name] / (FAVOUR if name in self.favoured else 1)
+        return together if shape == Shape.PAIRS else 0, times
+
+
+class Next(NamedTuple):
+    """A model, how the solver is asked, and whose it is, where it is made of one's own."""
+
+    case: Case
+    names: List[str]
+    ways: List[List[str]]
+    base: Optional[Base]
 
 
 class Fuzzer:
     """Makes models one after another, and knows what was found before."""
 
-    def __init__(self, plan: Plan, seed: str, folder: str) -> None:
-        self.plan, self.seed, self.folder = plan, seed, folder
+    def __init__(self, plan: Plan, seed: str, folder: str, faulty: Sequence[str] = ()) -> None:
+        self.plan, self.seed, self.folder, self.faulty = plan, seed, folder, faulty
         self.tally = Tally()
-        self.names = list(plan.names)
+        self.chooser = Chooser(plan.taken)
+        self.searches = (plan.taken.selects, plan.taken.choices)
         self.number = 0
 
-    def model(self) -> Tuple[Model, List[str], List[List[str]]]:
-        """The next model, its names, and how the solver is asked: always for all solutions, or
-        for the optimum, and sometimes in the other way too. A name that the solver hasn't taken
-        yet stands alone."""
+    def next(self) -> Next:
         rand = random.Random(f"{self.seed} {self.number}")
         self.number += 1
-        names = [rand.choice(self.names)]
-        known = [name for name in self.names if self.tally.taken[name]]
-        if names[0] in known:
-            names += rand.choices(known, k=rand.choice(COUNTS) - 1)
-        model = Maker(rand, self.plan.limits).make(names)
-        for _ in range(MOST_ANEW):  # most models should have a solution
-            truth = truth_of(model)
-            if truth is None or truth.solutions or rand.random() < 0.2:
-                break
-            model = Maker(rand, self.plan.limits).make(names)
-        ways = [[self.plan.setting.all_option], []]
-        if model.objective is not None:
-            ways.reverse()
-        return model, names, ways[: 2 if rand.random() < 0.3 else 1]
+        if self.number <= len(self.faulty):
+            return self.asked(self.faulty[self.number - 1], rand)
+        return self.own(rand) if self.plan.bases else self.made(rand)
+
+    def asked(self, name: str, rand: random.Random) -> Next:
+        """The model of a name that showed a fault when it was asked for."""
+        maker = made_for(name, self.plan.seed, self.plan.taken)
+        assert maker is not None
+        case = Case(self.plan.setting, maker.model, self.folder, maker.known)
+        return Next(case, [name], self.ways(rand, maker.model, True), None)
+
+    def made(self, rand: random.Random) -> Next:
+        """A model of a shape, with what the solver takes."""
+        taken = self.plan.taken
+        shapes = [it for it in Shape if it != Shape.SEARCHED or Feature.SEARCH in taken.features]
+        shape = rand.choices(shapes, [it.value.weight for it in shapes])[0]
+        names = self.chooser.choose(rand, shape)
+        maker = Maker(rand, shape, taken, self.plan.limits)
+        model = maker.make(names)
+        case = Case(self.plan.setting, model, self.folder, maker.known)
+        return Next(case, names, self.ways(rand, model, rand.random() < 0.3), None)
+
+    def own(self, rand: random.Random) -> Next:
+        """Each model as it is first, and then with changes."""
+        bases = self.plan.bases
+        changer = Changer(rand, bases, set(self.plan.taken.names), self.searches)
+        base, model = changer.base, changer.model
+        number = self.number - len(self.faulty)
+        if number <= len(bases):
+            base = bases[number - 1]
+            model = base.model
+        elif rand.random() < 0.9:
+            model = changer.change()
+        case = Case(self.plan.setting, model, self.folder, base.known, is_own=True)
+        whole = size(model)
+        is_small = model.objective is None and whole is not None and whole <= MOST_TRIED
+        return Next(case, [], self.ways(rand, model, False, is_small), base)
+
+    def ways(self, rand: random.Random, model: Model, both: bool, wants_all: bool = True
+             ) -> List[List[str]]:
+        """For all solutions, or for the optimum, and sometimes in the other way too."""
+        found: List[List[str]] = [[]]
+        if wants_all and self.plan.taken.takes_all:
+            found.append([self.plan.setting.all_option])
+        if model.objective is None:
+            found.reverse()
+        return found[: 2 if both else 1]
 
     def step(self) -> Optional[Found]:
-        model, names, ways = self.model()
+        it = self.next()
         self.tally.models += 1
-        for outcome in outcomes(self.plan.setting, model, self.folder, ways):
+        for options in it.ways:
+            outcome = it.case.outcome(options)
             self.tally.runs += 1
             self.tally.undecided += outcome.undecided
             if outcome.refused is not None:
-                self.refuse(names, outcome.refused)
+                self.tally.messages[DIGITS.sub("N", outcome.refused)] += 1
                 return None
-            if outcome.fault is not None:
-                self.take(model)
-                return self.find(model, outcome.fault)
-        self.take(model)
+            if it.base:
+                it.base.learn(outcome.solutions)
+            found = self.find(it.case, outcome)
+            if found:
+                self.tally.used.update({one.name for one in it.case.model.constraints})
+                return found
+        self.tally.used.update({one.name for one in it.case.model.constraints})
         return None
 
-    def take(self, model: Model) -> None:
-        self.tally.taken.update({it.name for it in model.constraints})
-
-    def refuse(self, names: List[str], message: str) -> None:
-        """Counts a refusal; a name that the solver never takes isn't asked for again."""
-        self.tally.messages[re.sub(r"\d+", "N", message)] += 1
-        if len(names) == 1 and not self.tally.taken[names[0]]:
-            name = names[0]
-            is_named = re.search(rf"\b{name}\b", message) is not None
-            self.tally.refused[name] += MOST_REFUSALS if is_named else 1
-            if self.tally.refused[name] >= MOST_REFUSALS and len(self.names) > 1:
-                self.names.remove(name)
-
-    def find(self, model: Model, fault: Fault) -> Optional[Found]:
-        known = self.known_cause(model, fault)
-        if known is None:
-            small, smaller_fault = shrunk(
-                self.plan.setting, model, fault, self.folder, MOST_SHRINKING)
-            known = cause(small, fault.kind)
-            if known not in self.tally.causes:
-                self.tally.causes[known] += 1
-                origin = f"seed {self.seed}, model {self.number}"
-                return Found(known, smaller_fault, small, model, origin)
-        self.tally.causes[known] += 1
+    def find(self, case: Case, outcome: Outcome) -> Optional[Found]:
+        """The first fault whose cause wasn't met before: the search goes on around others."""
+        for fault in outcome.faults:
+            known = self.cause_before(case, fault)
+            if known is not None:
+                self.count(known)
+                continue
+            small = shrunk(self.plan.setting, case, fault, self.folder, self.plan.shrinking)
+            names = [it.name for it in small.model.constraints]
+            cause = cause_of(fault, names, small.varies)
+            self.chooser.favoured.update(names)
+            is_new = cause.key not in self.keys() and cause.key not in self.plan.known
+            self.count(cause)
+            if is_new:
+                return Found(cause, small, case.model, self.origin)
         return None
 
-    def known_cause(self, model: Model, fault: Fault) -> Optional[Cause]:
-        """The cause from before whose constraints alone show the fault."""
-        for known in self.tally.causes:
-            kind, names = known
-            if kind == fault.kind and set(names) <= {it.name for it in model.constraints}:
-                rest = copy.deepcopy(model)
-                rest.constraints = [it for it in rest.constraints if it.name in names]
-                outcome = self.again(rest, fault.options)
-                if outcome and outcome.fault and outcome.fault.kind == kind:
-                    return known
-        return None
+    @property
+    def origin(self) -> str:
+        return f"job {self.seed.rpartition('-')[2]}, model {self.number}"
 
-    def again(self, model: Model, options: List[str]) -> Optional[Outcome]:
-        try:
-            rest = without_unused(model)
-            return next(outcomes(self.plan.setting, rest, self.folder, [options]))
-        except (ValueError, KeyError):
+    def keys(self) -> Set[str]:
+        return {it.key for it in self.tally.causes}
+
+    def count(self, cause: Cause) -> None:
+        if cause.key in self.plan.known:
+            self.tally.known[cause.key] += 1
+        else:
+            own = next((it for it in self.tally.causes if it.key == cause.key), cause)
+            self.tally.causes[own] += 1
+
+    def cause_before(self, case: Case, fault: Fault) -> Optional[Cause]:
+        """The cause from before that this fault shows."""
+        before = self.keys() | self.plan.known
+        cause = cause_of(fault, [])
+        if fault.kind in PROTOCOL and cause.key in before:
+            return cause
+        varying = cause_of(fault, [], varies=True)
+        if fault.kind not in PROTOCOL and varying.key in before:
+            own = setting_for(self.plan.setting, fault.kind)
+            times = len(seen(Case(own, case.model, self.folder, case.known), fault, TIMES))
+            if times < TIMES:
+                return varying
+        return self.cause_by_names(case, fault, before)
+
+    def cause_by_names(self, case: Case, fault: Fault, before: Set[str]) -> Optional[Cause]:
+        """The cause whose constraints alone show the fault."""
+        if fault.kind in PROTOCOL:
             return None
+        there = {it.name for it in case.model.constraints}
+        subsets = {names_of_key(key) for key in before}
+        for names in sorted(it for it in subsets if it is not None and set(it) <= there):
+            cause = cause_of(fault, names)
+            if cause.key in before and self.is_shown(case, fault, names):
+                return cause
+        return None
+
+    def is_shown(self, case: Case, fault: Fault, names: Tuple[str, ...]) -> bool:
+        rest = copy.deepcopy(case.model)
+        rest.constraints = [it for it in rest.constraints if it.name in names]
+        try:
+            own = Case(self.plan.setting, without_unused(rest), self.folder, case.known)
+            return own.outcome(fault.options).like(fault) is not None
+        except (ValueError, KeyError):
+            return False
 
 
-Message = Union[Found, Tally, str]
-
-
-def end_once(number: int, frame: object) -> None:
-    """Ends a job; a second signal doesn't disturb that."""
-    signal.signal(signal.SIGTERM, signal.SIG_IGN)
-    sys.exit(0)
-
-
-def worker(plan: Plan, seed: str, messages: "multiprocessing.Queue[Message]", stop: Event) -> None:
-    """Goes on until the time is over, and tells what it finds, and at the end what it counted."""
-    signal.signal(signal.SIGINT, signal.SIG_IGN)
-    signal.signal(signal.SIGTERM, end_once)
-    deadline = time.monotonic() + plan.seconds
-    fuzzer = None
-    try:
-        with tempfile.TemporaryDirectory(prefix="fzcheck-fuzz-") as folder:
-            fuzzer = Fuzzer(plan, seed, folder)
-            while time.monotonic() < deadline and not stop.is_set() and (
-                    plan.models is None or fuzzer.tally.models < plan.models):
-                found = fuzzer.step()
-                messages.put(found if found else f"{fuzzer.tally.models}")
-                if plan.faults is not None and len(fuzzer.tally.causes) >= plan.faults:
-                    break
-    except (OSError, AssertionError, ValueError) as error:
-        messages.put(f"failed: {error}")
-    finally:
-        messages.put(fuzzer.tally if fuzzer else Tally())
+def names_of_key(key: str) -> Optional[Tuple[str, ...]]:
+    """The builtins of a cause that is told apart by them."""
+    cause = cause_from(key)
+    return None if cause.kind in PROTOCOL or cause.varies else cause.names

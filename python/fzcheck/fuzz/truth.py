@@ -1,7 +1,8 @@
 """The solutions of a small model, found by trying all values, with the table of rows.py."""
 from typing import Any, Callable, Dict, List, NamedTuple, Optional, Tuple
 
-from fzcheck.flatzinc import Argument, Constraint, Declaration, Model, Name, Scalar, Value, elements
+from fzcheck.flatzinc import (
+    Argument, Constraint, Declaration, Model, Name, Numbers, Scalar, Value, elements)
 from fzcheck.fuzz.rows import NotKnown, Row
 
 MOST_TRIED = 100_000  # assignments
@@ -36,6 +37,13 @@ class Term(NamedTuple):
 Check = Tuple[int, Callable[[List[Value]], bool]]  # the last variable that it needs
 
 
+def inside(domain: Numbers, kind: str, term: Term) -> Callable[[List[Value]], bool]:
+    """That an element is in its array's domain."""
+    if kind == "I":
+        return lambda values: term.of(values) in domain
+    return lambda values: bool(term.of(values) <= frozenset(domain))
+
+
 class Search:
     """Tries all values of the variables in their order, and leaves those out early that no
     constraint lets pass."""
@@ -56,7 +64,10 @@ class Search:
             return Term(None, frozenset(scalar) if isinstance(scalar, range) else scalar)
         if scalar in self.numbers:
             return Term(self.numbers[scalar])
-        return self.term(self.declared[scalar].value)  # a parameter
+        value = self.declared[scalar].value  # of a parameter
+        if value is None or isinstance(value, list):
+            raise ValueError(f"{scalar} has no value")
+        return self.term(value)
 
     def terms(self, argument: Argument) -> Any:
         """The term of a scalar, or those of an array."""
@@ -77,21 +88,17 @@ class Search:
         terms = [self.term(it) for it in elements(declaration.value or [])]
         if declaration.length is None:
             own, other = self.numbers[declaration.name], terms[0]
-            return [(max(own, other.last), lambda values: values[own] == other.of(values))]
+            return [(max(own, other.last), lambda values: bool(values[own] == other.of(values)))]
         domain = declaration.domain
         if domain is None:
             return []
-
-        def inside(values: List[Value], term: Term) -> bool:
-            value = term.of(values)
-            return value in domain if declaration.kind == "I" else value <= frozenset(domain)
-
-        return [(it.last, lambda values, it=it: inside(values, it)) for it in terms]
+        return [(it.last, inside(domain, declaration.kind, it)) for it in terms]
 
     def of_constraint(self, constraint: Constraint) -> Check:
-        row = fitting_row(constraint.name, self.model, constraint.arguments)
-        if row is None:
+        fitting = fitting_row(constraint.name, self.model, constraint.arguments)
+        if fitting is None:
             raise ValueError(f"{constraint.name} isn't known")
+        row = fitting
         found = [self.terms(it) for it in constraint.arguments]
         flat = [term for it in found for term in (it if isinstance(it, list) else [it])]
         last = max((it.last for it in flat), default=-1)

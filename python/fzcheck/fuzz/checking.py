@@ -1,0 +1,88 @@
+"""What `fzcheck check` says of a stream, and blocks as values."""
+import json
+import re
+import subprocess
+from typing import Any, Dict, Iterable, List, NamedTuple, Tuple
+
+from fzcheck.fuzz.running import MOST_PRINTED
+from fzcheck.flatzinc import Argument, Model, Name, Reader, Value, text_of
+
+MARKER = "-" * 10
+STEPS = "200000"  # of the checker's searches: a fuzzer asks for many
+MOST_SECONDS = 600
+ANSWERED = (0, 1, 2, 3, 4)
+ITEM = re.compile(r"\s*(\w+)\s*=.*;\s*$")
+OTHER_LINE = re.compile(r"\s*(%.*|-{10}|=====([A-Za-z]+)?=====)?\s*$")
+
+Values = Dict[Name, Value]
+Told = Dict[str, Any]
+
+
+class Setting(NamedTuple):
+    """The programs, and what a run may take."""
+
+    checker: str
+    solver: List[str]
+    all_option: str
+    limit: int  # seconds of the processor
+    reference: List[str] = []  # another solver, whose solutions are judged as well
+    most_printed: int = MOST_PRINTED  # bytes of a run
+
+
+def checked(setting: Setting, words: List[str]) -> List[Told]:
+    """What `fzcheck check` says, line by line."""
+    command = [setting.checker, "check", "--complete", "--complete-steps", STEPS,
+               "--claims=prove", "--json", *words]
+    ran = subprocess.run(command, stdout=subprocess.PIPE, stderr=subprocess.PIPE,
+                         timeout=MOST_SECONDS)
+    if ran.returncode not in ANSWERED:
+        raise OSError(f"{' '.join(command)}: {ran.stderr.decode(errors='replace').strip()}")
+    return [json.loads(line) for line in ran.stdout.splitlines()]
+
+
+def are_solutions(told: List[Told]) -> bool:
+    return all(it.get("verdict", "satisfied") == "satisfied" and "refused" not in it
+               for it in told)
+
+
+def violation(told: Told) -> str:
+    if told["point"] == "objective":
+        return f"objective {told['now']} after {told['before']}"
+    number = f" {told['number']}" if "number" in told else ""
+    return f"{told['point']}{number} {told['name']}"
+
+
+def cleaned(text: str, model: Model) -> str:
+    """The lines of a stream that can be read: others must not hide a solver's blocks."""
+    declared = model.declared()
+    lines = []
+    for line in text.splitlines():
+        item = ITEM.match(line)
+        if OTHER_LINE.match(line) or (item and item[1] in declared):
+            lines.append(line + "\n")
+    return "".join(lines)
+
+
+def printed_values(model: Model, block: str) -> Values:
+    """The values of the variables that a block prints, or elements of arrays that it prints."""
+    found: Values = {}
+    declared = model.declared()
+    for name, value in Reader(block).items():
+        pairs: Iterable[Tuple[Argument, Argument]] = [(name, value)]
+        if isinstance(value, list):
+            whole = declared[name].value
+            pairs = zip(whole if isinstance(whole, list) else [], value)
+        for own, it in pairs:
+            if isinstance(own, Name) and not isinstance(it, (list, Name)):
+                found[own] = frozenset(it) if isinstance(it, range) else it
+    return found
+
+
+def block_of(values: Values) -> str:
+    items = (f"{name} = {text_of(value)};\n" for name, value in values.items())
+    return "".join(items) + MARKER + "\n"
+
+
+def in_words(values: Values) -> str:
+    words = ", ".join(f"{name} = {text_of(value)}" for name, value in values.items())
+    return words or "the empty one, as there is no variable"
