@@ -101,7 +101,6 @@ impl<'a> Model<'a> {
     }
 
     /// Whether a declared name begins with these bytes. It goes over all names, and takes no memory.
-    #[tactic(auto, using(crate::proofs::Finds::begins))]
     pub fn begins_name(&self, front: &[u8]) -> bool
         ensures { result ≡ begins_name self.now front.now }
     {

@@ -219,6 +219,13 @@ fn found<'t, 'a>(
     }
 }
 
+/// Whether a name begins with these bytes.
+fn has_front(listed: &[Kept<'_>], front: &[u8]) -> bool
+    ensures { result ≡ list_any (λ k. starts_with nat_eq k.bytes.now front.now) listed.now }
+{
+    listed.iter().any(|kept| kept.bytes.starts_with(front))
+}
+
 impl<'a> Names<'a> {
     /// No names, with room for this many.
     pub fn with_capacity(alloc: Global, count: usize) -> Result<Names<'a>, AllocError>
@@ -273,7 +280,7 @@ impl<'a> Names<'a> {
     pub fn begins(&self, front: &[u8]) -> bool
         ensures { result ≡ list_any (λ n. starts_with nat_eq n.0 front.now) self.now }
     {
-        self.listed.iter().any(|kept| kept.bytes.starts_with(front))
+        has_front(&self.listed, front)
     }
 
     /// Appends the name of a variable.
