@@ -93,14 +93,14 @@ expect 'the first model, by --' 0 "$accepted" '' "$program" check -- examples/fi
 expect 'standard input without a block' 3 'no blocks' '' "$program" check examples/first.fzn
 expect 'a violated block' 1 $'block 1: violated: constraint 1 int_le\nrejected: block 1' '' "$program" check examples/first.fzn "$folder/wrong.out"
 expect 'an open block' 4 '' 'refused: stream: Unfinished at 0..7' "$program" check examples/first.fzn "$folder/open.out"
-expect 'an open block, cut off' 3 $'cut: 0..7\nno blocks' '' "$program" check --cut examples/first.fzn "$folder/open.out"
+expect 'an open block, cut off' 3 $'cut: 0..7, from "x = 4;"\nno blocks' '' "$program" check --cut examples/first.fzn "$folder/open.out"
 cat "$folder/wrong.out" "$folder/open.out" >"$folder/killed.out"
-expect 'a killed solver' 1 $'block 1: violated: constraint 1 int_le\ncut: 18..25\nrejected: block 1' \
+expect 'a killed solver' 1 $'block 1: violated: constraint 1 int_le\ncut: 18..25, from "x = 4;"\nrejected: block 1' \
   "$(printf '%s\n' 'examples/first.fzn:2:12: constraint 1 int_le fails in block 1' '   2 | constraint int_le(2,x);' \
     '     |            ^^^^^^' '     = 2, not ≤ 1 (x)' '     = x = 1, printed')" \
   "$program" check --complete --cut --explain=all examples/first.fzn "$folder/killed.out"
 expect 'a killed solver, as JSON' 1 '{"block":1,"verdict":"violated","point":"constraint","number":1,"name":"int_le","line":2,"column":12}
-{"cut":[18,25]}
+{"cut":[18,25],"from":"x = 4;"}
 {"answer":"rejected","block":1,"blocks":1,"satisfied":0,"violated":1,"undecided":0}' '' \
   "$program" check --json --cut examples/first.fzn "$folder/killed.out"
 printf 'var 0..9: x;\nvar 0..9: y;\nconstraint int_mod(x,3,y);\nsolve satisfy;\n' >"$folder/left.fzn"

@@ -11,7 +11,7 @@ use Rattle.fz_check.specs.declared.options.Ending.{Ending}
 use Rattle.fz_check.specs.declared.options.Ending.TheVariants.{Whole, Cut}
 use Rattle.fz_check.specs.Report.{Event}
 use Rattle.fz_check.specs.Report.Event.{CutOff}
-use Rattle.fz_check.specs.Short.{IsShort}
+use Rattle.fz_cutting.specs.Short.{IsShort}
 
 -- The bytes are broken at their end, since a block with this byte range is unfinished. The front is
 -- all that comes before the block, and the text is the rest: only its end is missing.

@@ -2,7 +2,6 @@ pub mod Report
 pub mod Reported
 pub mod Claims
 pub mod Headline
-pub mod Short
 pub mod Cutting
 pub mod Refused
 pub mod Writing

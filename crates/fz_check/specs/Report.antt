@@ -1,6 +1,6 @@
 -- What a check tells of a stream: the events of a report, and the line of each (this project's
 -- profile).
-use Rattle.std.specs.Prelude.{◌≡◌, ℕ, ◌+◌, Bool, ◌&&◌, ◌||◌, List, [], ◌∷◌, ◌++◌, cond, length, take, drop, map, nat_eq, nat_le, codes, decimal, flat_map}
+use Rattle.std.specs.Prelude.{◌≡◌, ℕ, ◌+◌, Bool, ◌&&◌, List, [], ◌∷◌, ◌++◌, cond, take, map, nat_eq, nat_le, codes, decimal, flat_map}
 use Rattle.std.specs.List.{take_while}
 use Rattle.std.specs.Fmt.{signed_decimal}
 use Rattle.fz_filling.specs.of_syntax.Span.{Span}
@@ -105,8 +105,8 @@ place_text after _ = codes "claim: "
 abbrev pub nodes_text : ℕ → List ℕ
 nodes_text nodes = decimal nodes ++ cond (nat_eq nodes 1) (codes " node") (codes " nodes")
 
--- What is shown of a text: at most 60 bytes of its first line, up to one that can't be shown, which is
--- one that isn't of ASCII or is a control character.
+-- what is shown of a text: its first 60 bytes, up to one that is a control character, such as the end
+-- of the line, or isn't of ASCII
 abbrev pub most_shown : ℕ
 most_shown = 60
 
@@ -116,11 +116,6 @@ is_shown b = nat_le 32 b && nat_le b 126
 abbrev pub shown_front : List ℕ → List ℕ
 shown_front text = take_while is_shown (take most_shown text)
 
--- dots, where what comes behind isn't the end of the line
-abbrev pub dots : List ℕ → List ℕ
-dots [] = []
-dots (b ∷ rest) = cond (nat_eq b 10 || nat_eq b 13) [] (codes "...")
-
 abbrev pub event_text : Event → List ℕ
 event_text (Judged n v) = codes "block " ++ decimal n ++ codes ": " ++ verdict_text v
 event_text (Claimed k) = codes "claim: " ++ claim_text k ++ codes " not judged"
@@ -129,7 +124,7 @@ event_text (Proved s nodes) =
 event_text (Refuted r) = place_text r.claim.after r.by ++ claim_text r.claim.kind
     ++ codes " refuted by " ++ refuter_text r.by
 event_text (CutOff span text) = codes "cut: " ++ decimal span.start ++ codes ".." ++ decimal span.end
-    ++ codes ", from \"" ++ shown_front text ++ codes "\"" ++ dots (drop (length (shown_front text)) text)
+    ++ codes ", from \"" ++ shown_front text ++ codes "\""
 event_text (Answered a) = answer_text a
 
 -- the line of an event, with its LF

@@ -18,6 +18,7 @@ WHOLE = re.compile(r"-?\d+")
 ONLY = re.compile(r"\belement 1 of (\w+)")
 QUOTED = re.compile(r" *(?:= +)?\d+ \| ")  # a line of the FlatZinc, or of the model
 MOST_COLUMNS = 120
+SHOWN = re.compile(rb"[ -~]{0,60}")  # of what is cut off
 
 
 class Told(NamedTuple):
@@ -31,14 +32,20 @@ class Told(NamedTuple):
     def report(self, text: str) -> str:
         return "".join(map(self.report_line, text.splitlines(keepends=True)))
 
+    def cut_front(self) -> str:
+        """What is shown of the plan's text that is cut off."""
+        text = "\n".join(self.text).encode("utf-8", "surrogateescape")
+        shown = SHOWN.match(text, self.cut[0] if self.cut else 0)
+        return shown[0].decode() if shown else ""
+
     def report_line(self, line: str) -> str:
         if line.startswith("cut: ") and self.cut:
-            return f"cut: {self.cut[0]}..{self.cut[1]}\n"
+            return f'cut: {self.cut[0]}..{self.cut[1]}, from "{self.cut_front()}"\n'
         if not line.startswith("{"):
             return line
         found = json.loads(line)
         if "cut" in found and self.cut:
-            found["cut"] = list(self.cut)
+            found["cut"], found["from"] = list(self.cut), self.cut_front()
         for variable in found.get("variables", ()):
             self.name_variable(variable)
         if "explained" in found:

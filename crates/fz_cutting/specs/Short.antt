@@ -1,10 +1,10 @@
 -- Texts of printed items whose end is missing (this project's profile).
-use Rattle.std.specs.Prelude.{◌≡◌, ℕ, Bool, if◌then◌else◌, ◌==◌, List, [], ◌∷◌, ◌++◌, length, drop, reverse, map, flat_map, codes, Any, is_some, nat_eq, ◌⊎◌}
+use Rattle.std.specs.Prelude.{◌≡◌, ℕ, Bool, if◌then◌else◌, ◌==◌, List, [], ◌∷◌, ◌++◌, length, drop, reverse, map, flat_map, codes, true, Any, is_some, nat_eq, ◌⊎◌}
 use Rattle.std.specs.List.{list_all, list_any, starts_with}
-use Rattle.fz_filling.specs.of_syntax.Limits.{Limits}
-use Rattle.fz_filling.specs.of_syntax.Text.{IsTextOfItemsWithin}
-use Rattle.fz_filling.specs.of_syntax.Tree.{Printed}
-use Rattle.fz_search.specs.of_model.Meaning.{Model, begins_name, find_name}
+use Rattle.fz_syntax.specs.Limits.{Limits}
+use Rattle.fz_syntax.specs.Text.{IsTextOfItemsWithin}
+use Rattle.fz_syntax.specs.Tree.{Printed}
+use Rattle.fz_store.specs.of_meaning.Meaning.{Model, begins_name, find_name}
 
 abbrev pub are_declared : Model → List Printed → Bool
 are_declared m items = list_all (λ i. is_some (find_name m i.name)) items
@@ -15,15 +15,17 @@ pub record AreItems (limits : Limits) (m : Model) (text : List ℕ) : Type 0 whe
   pub text_of : IsTextOfItemsWithin limits text items
   pub declared : are_declared m items ≡ true
 
--- The same, where the last name, but for its last byte, `_`, is the front of a declared one.
+-- the name, but for its last byte, `_`, is the front of a declared one
+abbrev pub IsHalf : Model → List ℕ → Type 0
+IsHalf m name = (half : List ℕ) × (name ≡ half ++ codes "_") × (begins_name m half ≡ true)
+
+-- The same, where the last name is half of a declared one.
 pub record AreItemsToName (limits : Limits) (m : Model) (text : List ℕ) : Type 0 where
   pub items : List Printed
   pub last : Printed
   pub text_of : IsTextOfItemsWithin limits text (items ++ last ∷ [])
   pub declared : are_declared m items ≡ true
-  pub half : List ℕ
-  pub name_is : last.name ≡ half ++ codes "_"
-  pub begins : begins_name m half ≡ true
+  pub is_half : IsHalf m last.name
 
 -- ---- the end of an item
 
@@ -38,7 +40,7 @@ literal_ends = map codes ("" ∷ "1" ∷ "}" ∷ "1}" ∷ ".1" ∷ "rue" ∷ "ue
 
 -- behind the front of an index set, which may be empty, up to its comma
 abbrev pub index_ends : List (List ℕ)
-index_ends = map codes ("," ∷ "1," ∷ "..1," ∷ ".1," ∷ "{}," ∷ "}," ∷ "1}," ∷ [])
+index_ends = map codes ("," ∷ "1," ∷ "..1," ∷ ".1," ∷ "1..1," ∷ "}," ∷ "1}," ∷ [])
 
 -- the elements, behind the index sets that are missing before them: none to five
 abbrev pub element_ends : List (List ℕ)
