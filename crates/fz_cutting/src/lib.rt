@@ -4,8 +4,9 @@
 //! Worked cases are in `tests/cases` (`reports.txt`).
 #![tactic(auto)]
 
-ghost use Rattle.std.specs.Prelude.{◌≡◌, ◌≢◌, ◌↔◌, ◌++◌, ◌∷◌, [], Any, IfErr, IfOk, IsTrue, List, MatchOption, codes, drop, length, map, nat_eq};
-ghost use Rattle.std.specs.List.{list_any, starts_with};
+ghost use Rattle.std.specs.Prelude.{◌≡◌, ◌≢◌, ◌↔◌, ◌++◌, ◌∷◌, [], Any, IfErr, IfOk, IsTrue, List, MatchOption, is_some, codes, drop, length, map, nat_eq};
+ghost use Rattle.std.specs.List.{list_all, list_any, starts_with};
+ghost use Rattle.fz_store.specs.of_meaning.Meaning.{find_name};
 ghost use Rattle.fz_syntax.specs.Text.{IsTextOfItemsWithin};
 ghost use Rattle.fz_syntax.specs.Tree.{Printed as PlainPrinted};
 ghost use Rattle.fz_syntax.specs.View.{bare_items};
@@ -75,10 +76,22 @@ fn items_of<'t>(
     }
 }
 
+fn is_declared(model: &Model<'_>, name: &[u8]) -> bool
+    ensures { result ≡ is_some (find_name model.now name.now) }
+{
+    model.find(name).is_some()
+}
+
+fn have_declared(model: &Model<'_>, items: &[Printed<'_>]) -> bool
+    ensures { result ≡ list_all (λ i. is_some (find_name model.now i.name.text.now)) items.now }
+{
+    items.iter().all(|item| is_declared(model, item.name.text))
+}
+
 fn are_declared(model: &Model<'_>, items: &[Printed<'_>]) -> bool
     ensures { result ≡ are_declared model.now (bare_items items.now) }
 {
-    items.iter().all(|item| model.find(item.name.text).is_some())
+    have_declared(model, items)
 }
 
 /// Whether a text is one of items whose names are declared.
@@ -167,10 +180,16 @@ fn whole_lines(text: &[u8]) -> &[u8]
     whole
 }
 
+fn begins_any(signs: &[&[u8]], line: &[u8]) -> bool
+    ensures { result ≡ list_any (λ s. starts_with nat_eq s.now line.now) signs.now }
+{
+    signs.iter().any(|sign| sign.starts_with(line))
+}
+
 fn is_front_of_sign(line: &[u8]) -> bool
     ensures { result ≡ is_front_of_sign line.now }
 {
-    signs().iter().any(|sign| sign.starts_with(line))
+    begins_any(signs(), line)
 }
 
 /// Whether only the end of a text is missing, of which more is the text of a block up to its marker.
