@@ -1,5 +1,5 @@
 -- Whether a text is one of items whose names are declared, from the items that it is one of.
-use Rattle.std.proofs.Common.{◌≡◌, ◌↔◌, Bool, true, List, [], ◌∷◌, ◌++◌, ap, sym, ◌∙◌, subst, subst₂, IsTrue}
+use Rattle.std.proofs.Common.{◌≡◌, ◌↔◌, ℕ, Bool, true, List, [], ◌∷◌, ◌++◌, ap, sym, ◌∙◌, subst, subst₂, IsTrue}
 use Rattle.fz_syntax.specs.Limits.{Limits}
 use Rattle.fz_syntax.specs.Text.{IsTextOfItemsWithin}
 use Rattle.fz_syntax.specs.Tree.{Printed}

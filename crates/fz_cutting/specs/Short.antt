@@ -77,9 +77,13 @@ signs = map codes ("----------" ∷ "==========" ∷ "=====UNSATISFIABLE=====" �
 abbrev pub is_front_of_sign : List ℕ → Bool
 is_front_of_sign line = list_any (λ sign. starts_with nat_eq sign line) signs
 
+-- the whole lines are items whose names are declared, and the last line is the front of a sign
+abbrev pub EndsInSign : Limits → Model → List ℕ → Type 0
+EndsInSign limits m text =
+    AreItems limits m (whole_lines text) × (is_front_of_sign (last_line text) ≡ true)
+
 -- The text is a front of one of items whose names are declared, which is no longer than the limits
 -- allow; or its whole lines are such items, and its last line is the front of a marker or a claim.
 abbrev pub IsShort : Limits → Model → List ℕ → Type 0
 IsShort limits m text = Any (λ ending. AreItems limits m (text ++ ending)) endings
-    ⊎ (AreItemsToName limits m (text ++ codes "_=1;")
-    ⊎ (AreItems limits m (whole_lines text) × (is_front_of_sign (last_line text) ≡ true)))
+    ⊎ (AreItemsToName limits m (text ++ codes "_=1;") ⊎ EndsInSign limits m text)

@@ -4,13 +4,13 @@
 //! Worked cases are in `tests/cases` (`reports.txt`).
 #![tactic(auto)]
 
-ghost use Rattle.std.specs.Prelude.{◌≡◌, ◌≢◌, ◌↔◌, ◌++◌, ◌∷◌, [], Any, IfErr, IfOk, IsTrue, List, MatchOption, is_some, codes, drop, length, map, nat_eq};
+ghost use Rattle.std.specs.Prelude.{◌≡◌, ◌↔◌, ◌≤◌, ◌++◌, Any, IfOk, IsTrue, List, MatchOption, codes, is_some, length, map, nat_eq};
 ghost use Rattle.std.specs.List.{list_all, list_any, starts_with};
 ghost use Rattle.fz_store.specs.of_meaning.Meaning.{find_name};
 ghost use Rattle.fz_syntax.specs.Text.{IsTextOfItemsWithin};
 ghost use Rattle.fz_syntax.specs.Tree.{Printed as PlainPrinted};
 ghost use Rattle.fz_syntax.specs.View.{bare_items};
-ghost use Rattle.fz_cutting.specs.Short.{AreItems, AreItemsToName, IsHalf, IsShort, are_declared, endings, is_front_of_sign, signs, whole_lines};
+ghost use Rattle.fz_cutting.specs.Short.{AreItems, AreItemsToName, EndsInSign, IsHalf, IsShort, are_declared, endings, is_front_of_sign, signs, whole_lines};
 
 use fz_store::Model;
 use fz_syntax::{Limits, Printed, SyntaxError, read_items_within};
@@ -168,7 +168,8 @@ fn has_ending(
 
 /// The text up to its last LF.
 fn whole_lines(text: &[u8]) -> &[u8]
-    ensures { result.now ≡ whole_lines text.now }
+    ensures lines { result.now ≡ whole_lines text.now }
+    ensures within { length result.now ≤ length text.now }
 {
     let mut whole = text;
     while let Some((last, others)) = whole.split_last() {
@@ -192,7 +193,38 @@ fn is_front_of_sign(line: &[u8]) -> bool
     begins_any(signs(), line)
 }
 
-/// Whether only the end of a text is missing, of which more is the text of a block up to its marker.
+/// Whether the whole lines are items whose names are declared, and the last line is the front of a
+/// marker or a claim.
+fn ends_in_sign(
+    alloc: Global,
+    model: &Model<'_>,
+    limits: Limits,
+    text: &[u8],
+) -> Result<bool, AllocError>
+    ensures { IfOk result (λ b. IsTrue b ↔ EndsInSign limits model.now text.now) }
+{
+    let whole = whole_lines(text);
+    if !is_front_of_sign(&text[whole.len()..]) {
+        return Ok(false);
+    }
+    are_items(alloc, model, limits, whole)
+}
+
+/// Whether a text is one of items whose names are declared, up to half of a last name.
+fn ends_in_name(
+    alloc: Global,
+    model: &Model<'_>,
+    limits: Limits,
+    text: &[u8],
+) -> Result<bool, AllocError>
+    ensures { IfOk result (λ b. IsTrue b
+        ↔ AreItemsToName limits model.now (text.now ++ codes "_=1;")) }
+{
+    let whole = with_end(alloc, text, b"_=1;")?;
+    are_items_to_name(alloc, model, limits, &whole)
+}
+
+/// Whether a text is short of its end alone, of which more is the text of a block.
 ///
 /// # Errors
 ///
@@ -205,12 +237,10 @@ pub fn is_short(
 ) -> Result<bool, AllocError>
     ensures { IfOk result (λ b. IsTrue b ↔ IsShort limits model.now text.now) }
 {
-    let whole = whole_lines(text);
-    if is_front_of_sign(&text[whole.len()..]) && are_items(alloc, model, limits, whole)? {
+    if ends_in_sign(alloc, model, limits, text)? {
         return Ok(true);
     }
-    let named = with_end(alloc, text, b"_=1;")?;
-    if are_items_to_name(alloc, model, limits, &named)? {
+    if ends_in_name(alloc, model, limits, text)? {
         return Ok(true);
     }
     has_ending(alloc, model, limits, text)

@@ -1,5 +1,5 @@
-use Rattle.std.proofs.Common.{◌≡◌, ◌∷◌, ◌++◌, [], ◌∙◌, ap, sym, false, true, map-append}
-use Rattle.std.proofs.lemmas.List.{nil_from_length}
+use Rattle.std.proofs.Common.{◌≡◌, ◌∷◌, ◌++◌, [], ◌∙◌, ap, sym, false, true}
+use Rattle.std.proofs.lemmas.List.{map-append, nil_from_length}
 use Rattle.fz_syntax.specs.View.{bare_items, bare_printed}
 use Rattle.fz_cutting.specs.Short.{are_declared}
 use Rattle.fz_cutting.proofs.Decided.{no_name, of_name, to_name}
@@ -22,7 +22,7 @@ returns-in-Some-split_last c =
           (λ a. w.result-is ∙ w.is_half.ensures.1 (of_name c.args.limits m c.args.text.now items is others last split a).1)
         )
       | else-are_declared w ↦ (
-          (λ t. absurd (let no : false ≡ true = sym w.result-is ∙ t in cc)),
+          (λ t. absurd (let no : false ≡ true = sym w.if-are_declared.false ∙ sym w.result-is ∙ t in cc)),
           (λ a. absurd (let no : false ≡ true = sym w.if-are_declared.false ∙ c.are_declared.ensures ∙ (of_name c.args.limits m c.args.text.now items is others last split a).0 in cc))
         )
     ]
