@@ -42,7 +42,7 @@ pub(crate) fn row_of(
           target = t;
         }) }
 {
-    let known = Known::find(name)?;
+    let known = Known::find(name, arguments.len())?;
     if fits(known, arguments, cited, store) {
         Some(known)
     } else {

@@ -7,7 +7,7 @@ use Rattle.std.proofs.lemmas.Bool.{and_parts}
 use Rattle.std.proofs.lemmas.Grind.{common_steps}
 use Rattle.fz_meaning.specs.Builtins.{Row, base_rows, builtins, is_named, row_at, rows_with_forms}
 use Rattle.fz_meaning.specs.Results.{first_name}
-use Rattle.fz_meaning.specs.Meaning.{Posted, fits, row_of}
+use Rattle.fz_meaning.specs.Meaning.{Posted, fits, row_of, table_name}
 use Rattle.fz_meaning.specs.declared.builtin.Builtin.{Builtin}
 use Rattle.fz_meaning.specs.declared.builtin.Builtin.TheVariants.{IntEq}
 use Rattle.fz_meaning.specs.declared.known.Form.{Form}
@@ -139,9 +139,11 @@ if_none (Some a) P p = tt
 
 -- ---- the row of a constraint
 
-pub row_of_known : (p : Posted) (k : Known) → row_named p.name ≡ Some (known_row k)
+pub row_of_known : (p : Posted) (k : Known)
+    → row_named (table_name p.name (length p.arguments)) ≡ Some (known_row k)
     → row_of p ≡ cond (fits (known_row k) p.arguments) (Some (known_row k)) None
 row_of_known p k h = row_of_is p ∙ ap (option_and_then (λ r. cond (fits r p.arguments) (Some r) None)) h
 
-pub row_of_unknown : (p : Posted) → row_named p.name ≡ None → row_of p ≡ None
+pub row_of_unknown : (p : Posted) → row_named (table_name p.name (length p.arguments)) ≡ None
+    → row_of p ≡ None
 row_of_unknown p h = row_of_is p ∙ ap (option_and_then (λ r. cond (fits r p.arguments) (Some r) None)) h

@@ -12,7 +12,7 @@ use Rattle.std.proofs.lemmas.Bool.{and_parts, not-true}
 use Rattle.fz_meaning.specs.Builtins.{Row, base_rows, builtins, implied, is_named, reified, row_at, rows, rows_with_forms}
 use Rattle.fz_meaning.specs.declared.known.Form.{Form}
 use Rattle.fz_meaning.specs.declared.known.Form.TheVariants.{Base, Reified, Implied}
-use Rattle.fz_meaning.specs.Meaning.{Posted, fits, row_of}
+use Rattle.fz_meaning.specs.Meaning.{Posted, fits, row_of, table_name}
 use Rattle.fz_meaning.specs.Known.{HasTruth, form_at, row_named, suffix_of}
 
 -- ---- a row's names are compared
@@ -121,9 +121,10 @@ rows_apart = refl
 
 -- the row that a constraint fits is the one of its name, where it fits that
 pub row_of_is : (p : Posted) → row_of p
-    ≡ option_and_then (λ r. cond (fits r p.arguments) (Some r) None) (row_named p.name)
+    ≡ option_and_then (λ r. cond (fits r p.arguments) (Some r) None)
+    (row_named (table_name p.name (length p.arguments)))
 unfolding row_named
-row_of_is p = find_apart p.name (λ r. fits r p.arguments) rows rows_apart
+row_of_is p = find_apart (table_name p.name (length p.arguments)) (λ r. fits r p.arguments) rows rows_apart
 
 -- ---- the reified forms
 

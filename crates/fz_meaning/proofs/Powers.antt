@@ -1,6 +1,6 @@
 -- Where a constraint is unknown by the values of its arguments: the exponent of its power is
 -- negative.
-use Rattle.std.proofs.Common.{◌≡◌, ◌↔◌, ◌⊎◌, inl, inr, ℕ, zero, suc, Bool, true, false, cond, ◌&&◌, ◌||◌, List, [], ◌∷◌, ◌++◌, map, filter, flat_map, Option, Some, None, refl, sym, ap, subst, ◌∙◌, slice_get, int_lt, pos, is_none, IsSomeAnd, Contains, option_map, option_and_then, arith}
+use Rattle.std.proofs.Common.{◌≡◌, ◌↔◌, ◌⊎◌, inl, inr, ℕ, zero, suc, Bool, true, false, cond, ◌&&◌, ◌||◌, List, [], ◌∷◌, ◌++◌, map, filter, flat_map, Option, Some, None, refl, sym, ap, subst, ◌∙◌, slice_get, int_lt, pos, is_none, IsSomeAnd, Contains, option_map, option_and_then, arith, length}
 use Rattle.std.specs.Prelude.{IsSome}
 use Rattle.std.specs.List.{AllByRecursion, list_all, list_any}
 use Rattle.std.specs.Option.{option_map_or}
@@ -20,7 +20,7 @@ use Rattle.fz_meaning.specs.Builtins.ArgValue.{OneValue}
 use Rattle.fz_meaning.specs.Builtins.{I, Row, ArgValue, base_rows, builtins, implied, is_named, reified, row_at, rows, rows_with_forms}
 use Rattle.fz_meaning.specs.Known.{form_at, known_row}
 use Rattle.fz_meaning.specs.Laws.{IsUnknownFor}
-use Rattle.fz_meaning.specs.Meaning.{Argument, Partial, Posted, argument_value, argument_values, fits, has_shape, have_shapes, row_holds, row_of, terms_in, value, value_at}
+use Rattle.fz_meaning.specs.Meaning.{Argument, Partial, Posted, argument_value, argument_values, fits, has_shape, have_shapes, row_holds, row_of, table_name, terms_in, value, value_at}
 use Rattle.fz_meaning.specs.Meaning.Argument.{One, ListOf}
 use Rattle.fz_meaning.specs.Meaning.Place.{Scalar, Array}
 use Rattle.fz_meaning.specs.Results.{result_of}
@@ -162,7 +162,7 @@ row_powers =
     (all_append HasNoOtherPower (map reified rows_with_forms) (map implied rows_with_forms) (form_powers reified (λ _. refl) rows_with_forms forms_are_sums) (form_powers implied (λ _. refl) rows_with_forms forms_are_sums))
 
 pub row_power : (p : Posted) (r : Row) → row_of p ≡ Some r → HasNoOtherPower r
-row_power p r e = at_found HasNoOtherPower (λ r. is_named p.name r && fits r p.arguments) rows r row_powers e
+row_power p r e = at_found HasNoOtherPower (λ r. is_named (table_name p.name (length p.arguments)) r && fits r p.arguments) rows r row_powers e
 
 sums_known : (K : Partial) (xs : List Argument) (ws : List Wide) → list_all is_sum ws ≡ true
     → list_any (is_unknown K xs) ws ≡ false

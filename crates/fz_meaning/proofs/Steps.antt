@@ -11,7 +11,7 @@ use Rattle.fz_meaning.specs.Builtins.Shape.{ScalarOf, ArrayOf}
 use Rattle.fz_meaning.specs.Builtins.ArgValue.{OneValue}
 use Rattle.fz_meaning.specs.Results.{Result, result_of}
 use Rattle.fz_meaning.specs.Results.Result.{NoResult, Places, UnitTerm}
-use Rattle.fz_meaning.specs.Meaning.{Argument, Variable, Model, Point, Partial, value, values, value_at, terms_in, argument_value, argument_values, row_of, row_holds, HoldsUnder, fits as fits_row}
+use Rattle.fz_meaning.specs.Meaning.{Argument, Variable, Model, Point, Partial, value, values, value_at, terms_in, argument_value, argument_values, row_of, row_holds, HoldsUnder, table_name, fits as fits_row}
 use Rattle.fz_meaning.specs.declared.term.Term.{Term}
 use Rattle.fz_meaning.specs.declared.term.Term.TheVariants.{Var, Fixed}
 use Rattle.fz_meaning.specs.Meaning.Place.{Scalar}
@@ -480,5 +480,5 @@ only_value m K (ConstraintPoint k p) n v w fits g same q =
       | None ↦ λ _ is. absurd is
       | Some r ↦ λ found is d e.
           result_determined K n (only_open_none K n (flat_map terms_in p.arguments) g.only_open) v w r.shapes r.holds p.arguments (result_of r)
-          (at_found RowDetermines (λ r. is_named p.name r && fits_row r p.arguments) rows r rows_determine found) is g.only_open (row_passes (give K n v) p.arguments r d) (row_passes (give K n w) p.arguments r e)
+          (at_found RowDetermines (λ r. is_named (table_name p.name (length p.arguments)) r && fits_row r p.arguments) rows r rows_determine found) is g.only_open (row_passes (give K n v) p.arguments r d) (row_passes (give K n w) p.arguments r e)
     ]) refl g.target.1 g.then_holds q

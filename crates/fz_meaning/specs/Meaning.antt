@@ -1,8 +1,8 @@
 -- What a model means, once its names are numbered: assignments, the value of an expression, the
 -- domains, the points, solutions and the objective (MiniZinc Handbook, FlatZinc, "variable
 -- declarations" and "constraint items"; the points and their order are this project's profile).
-use Rattle.std.specs.Prelude.{◌≡◌, ℕ, zero, suc, ◌%◌, nat_eq, ℤ, pos, ◌*ℤ◌, Bool, true, false, cond, ◌&&◌, List, [], ◌∷◌, ◌++◌, length, map, ◌==◌, int_le, Option, Some, None, bytes_eq, option_map, option_and_then, slice_get, IsTrue, IsSomeAnd, IfSome, ⊤, flat_map, find}
-use Rattle.std.specs.List.{list_all, AllByRecursion}
+use Rattle.std.specs.Prelude.{◌≡◌, ℕ, zero, suc, ◌%◌, nat_eq, ℤ, pos, ◌*ℤ◌, Bool, true, false, cond, ◌&&◌, List, [], ◌∷◌, ◌++◌, length, map, ◌==◌, int_le, Option, Some, None, bytes_eq, option_map, option_and_then, slice_get, IsTrue, IsSomeAnd, IfSome, ⊤, flat_map, find, codes}
+use Rattle.std.specs.List.{list_all, list_any, starts_with, AllByRecursion}
 use Rattle.std.specs.Option.{option_map_or, option_flatten, option_or}
 use Rattle.std.specs.FinSet as sets
 use Rattle.fz_base.specs.declared.value.Value.{Value}
@@ -102,6 +102,10 @@ place_if_named x (n, d) = cond (bytes_eq (name_of d) x) (Some (place_named n d))
 
 abbrev pub find_name : Model → List ℕ → Option Place
 find_name m x = first_some (place_if_named x) (numbered m)
+
+-- a declared name begins with these bytes
+abbrev pub begins_name : Model → List ℕ → Bool
+begins_name m front = list_any (λ d. starts_with nat_eq (name_of d.1) front) (numbered m)
 
 -- ---- assignments
 
@@ -240,10 +244,17 @@ has_whole_rows (RowsBy q s d) xs =
 abbrev pub fits : Row → List Argument → Bool
 fits r xs = have_shapes r.shapes xs && (equally_long r.together xs && has_whole_rows r.matrix xs)
 
+-- The name under which the table has a constraint of this name and so many arguments: one name has
+-- one row, and `bool_xor` of two arguments is `bool_ne`.
+unfoldable pub table_name : List ℕ → ℕ → List ℕ
+table_name name count =
+    cond (count == 2 && bytes_eq name (codes "bool_xor")) (codes "bool_ne") name
+
 -- the row that a constraint fits; a constraint is known where there is one, but for a power whose
 -- exponent is negative
 abbrev pub row_of : Posted → Option Row
-row_of p = find (λ r. is_named p.name r && fits r p.arguments) rows
+row_of p =
+    find (λ r. is_named (table_name p.name (length p.arguments)) r && fits r p.arguments) rows
 
 -- the row's relation holds of the values
 abbrev pub row_holds : Row → List ArgValue → Bool

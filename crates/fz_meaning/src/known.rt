@@ -3,6 +3,7 @@
 ghost use Rattle.std.specs.Prelude.{◌≡◌, ◌++◌, IfNone, IfSome, List, MatchOption, None, Some, ℕ, find, map};
 ghost use Rattle.fz_meaning.specs.Builtins.{base_rows, is_named};
 ghost use Rattle.fz_meaning.specs.Known.{HasTruth, as_result, known_row, row_named, shape_of, suffix_of};
+ghost use Rattle.fz_meaning.specs.Meaning.{table_name};
 ghost use Rattle.fz_meaning.specs.Results.{result_of};
 
 use crate::builtin::Builtin;
@@ -45,9 +46,30 @@ fn without<'n>(name: &'n [u8], suffix: &[u8]) -> Option<&'n [u8]>
     }
 }
 
+/// The name under which the table has a constraint of this name and so many arguments.
+#[inline]
+fn table_name(name: &[u8], count: usize) -> &[u8]
+    ensures { result.now ≡ table_name name.now count }
+{
+    if count == 2 && same_text(name, b"bool_xor") {
+        b"bool_ne"
+    } else {
+        name
+    }
+}
+
 impl Known {
-    /// The row of the table that has a constraint's name, if there is one.
-    pub fn find(name: &[u8]) -> Option<Known>
+    /// The row of the table that has a constraint's name, with so many arguments, if there is one.
+    pub fn find(name: &[u8], count: usize) -> Option<Known>
+        ensures has_row { IfSome result
+            (λ k. row_named (table_name name.now count) ≡ Some (known_row k)) }
+        ensures none { IfNone result (row_named (table_name name.now count) ≡ None) }
+    {
+        Known::called(table_name(name, count))
+    }
+
+    // The row of the table that has this name, if there is one.
+    fn called(name: &[u8]) -> Option<Known>
         ensures has_row { IfSome result (λ k. row_named name.now ≡ Some (known_row k)) }
         ensures none { IfNone result (row_named name.now ≡ None) }
     {

@@ -1,12 +1,12 @@
 -- From readiness and outcome to the state of a constraint.
-use Rattle.std.proofs.Common.{◌≡◌, Bool, true, false, ◌&&◌, ◌||◌, List, map, [], ◌∷◌, Option, Some, None, cond, refl, sym, ap, ◌∙◌}
+use Rattle.std.proofs.Common.{◌≡◌, Bool, true, false, ◌&&◌, ◌||◌, List, length, map, [], ◌∷◌, Option, Some, None, cond, refl, sym, ap, ◌∙◌}
 use Rattle.std.specs.Prelude.{is_some, find}
 use Rattle.std.specs.List.{list_all, list_any}
 use Rattle.fz_builtins.specs.of_meaning.declared.state.State.{State}
 use Rattle.fz_builtins.specs.of_meaning.declared.term.Term.{Term}
 use Rattle.fz_builtins.specs.of_meaning.declared.state.State.TheVariants.{Holds, Fails, NoValue, TooLarge, Unknown}
 use Rattle.fz_builtins.specs.of_meaning.Builtins.{Row, ArgValue, builtins, is_named, row_at, rows}
-use Rattle.fz_builtins.specs.of_meaning.Meaning.{Argument, Partial, Posted, argument_values, fits, have_shapes, row_holds, row_of, values}
+use Rattle.fz_builtins.specs.of_meaning.Meaning.{Argument, Partial, Posted, argument_values, fits, have_shapes, row_holds, row_of, table_name, values}
 use Rattle.fz_builtins.specs.of_meaning.States.{is_beyond, is_unknown, judged, judged_by, state_of_row, state_of_values}
 use Rattle.fz_builtins.proofs.of_meaning.Values.{no, no', and_first, and_second}
 use Rattle.fz_builtins.specs.of_meaning.declared.known.Form.{Form}
@@ -112,8 +112,8 @@ found_passes p (z ∷ ys) y e =
 
 pub row_fits : (p : Posted) (r : Row) → row_of p ≡ Some r → have_shapes r.shapes p.arguments ≡ true
 row_fits p r e =
-    let both = found_passes (λ r. is_named p.name r && fits r p.arguments) rows r e in
-    and_first (have_shapes r.shapes p.arguments) _ (and_second (is_named p.name r) (fits r p.arguments) both)
+    let both = found_passes (λ r. is_named (table_name p.name (length p.arguments)) r && fits r p.arguments) rows r e in
+    and_first (have_shapes r.shapes p.arguments) _ (and_second (is_named (table_name p.name (length p.arguments)) r) (fits r p.arguments) both)
 
 -- the state under the row that the constraint fits
 pub same_state : (K L : Partial) (xs ys : List Argument) (r : Row) (o : Option Row) → K ≡ L

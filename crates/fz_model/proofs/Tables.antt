@@ -1,12 +1,12 @@
 -- What the rows of the table have in common: with what they compute, and which one fills an element.
-use Rattle.std.proofs.Common.{◌≡◌, Bool, true, false, cond, ◌&&◌, List, [], ◌∷◌, find, Some, refl, sym, ap, subst, ◌∙◌}
+use Rattle.std.proofs.Common.{◌≡◌, Bool, true, false, cond, ◌&&◌, List, length, [], ◌∷◌, find, Some, refl, sym, ap, subst, ◌∙◌}
 use Rattle.std.specs.List.{list_all}
 use Rattle.fz_builtins.specs.of_meaning.declared.kind.Kind.TheVariants.{Int as IntKind}
 use Rattle.fz_builtins.specs.of_meaning.Builtins.{Row, builtins, is_named, row_at, rows}
 use Rattle.fz_builtins.specs.of_meaning.Results.{Result, result_of}
 use Rattle.fz_builtins.specs.of_meaning.Builtins.Shape.{ScalarOf, ArrayOf}
 use Rattle.fz_builtins.specs.of_meaning.Results.Result.{UnitTerm}
-use Rattle.fz_builtins.specs.of_meaning.Meaning.{Argument, Partial, fits, have_shapes}
+use Rattle.fz_builtins.specs.of_meaning.Meaning.{Argument, Partial, fits, have_shapes, table_name}
 use Rattle.fz_builtins.specs.of_meaning.States.{is_beyond}
 use Rattle.fz_builtins.proofs.of_meaning.Values.{and_first, and_second}
 use Rattle.fz_builtins.specs.of_meaning.declared.builtin.Builtin.{Builtin}
@@ -31,7 +31,7 @@ found_all q t (y ∷ ys) x h e =
     ] e
 
 of_row : (q : Row → Bool) → list_all q rows ≡ true → (r : Row) → IsRow r → q r ≡ true
-of_row q h r (p, e) = found_all q (λ r. is_named p.name r && fits r p.arguments) rows r h e
+of_row q h r (p, e) = found_all q (λ r. is_named (table_name p.name (length p.arguments)) r && fits r p.arguments) rows r h e
 
 -- ---- a row computes with numbers
 

@@ -1,5 +1,6 @@
 -- What a look-up among the names finds.
-use Rattle.std.proofs.Common.{◌≡◌, ℕ, List, [], ◌∷◌, map, Option, Some, None, option_map, slice_get, refl, sym, ap, ◌∙◌, subst, cond, Bool, true, false}
+use Rattle.std.proofs.Common.{◌≡◌, ℕ, List, [], ◌∷◌, map, Option, Some, None, option_map, slice_get, refl, sym, ap, ◌∙◌, subst, cond, Bool, true, false, ◌||◌, nat_eq}
+use Rattle.std.specs.List.{list_any, starts_with}
 use Rattle.std.specs.Option.{option_map_or, option_or}
 use Rattle.std.specs.Str.{bytes_eq}
 use Rattle.std.specs.Map.{lookup}
@@ -7,7 +8,7 @@ use Rattle.std.specs.Cmp.{both_ways}
 use Rattle.std.proofs.lemmas.Slice.Eq.{bytes_eq-Decides}
 use Rattle.std.proofs.lemmas.Option.{slice_get-map, same_Some}
 use Rattle.fz_meaning.specs.Meaning as meaning
-use Rattle.fz_meaning.specs.Meaning.{find_name, first_some, place_if_named, numbered, variables_of}
+use Rattle.fz_meaning.specs.Meaning.{begins_name, find_name, first_some, name_of, place_if_named, numbered, variables_of}
 use Rattle.fz_meaning.specs.declared.kind.Kind.TheVariants.{Int as IntKind}
 use Rattle.fz_meaning.specs.declared.term.Term.{Term}
 use Rattle.fz_meaning.specs.declared.term.Term.TheVariants.{Var, Fixed}
@@ -15,6 +16,8 @@ use Rattle.fz_meaning.proofs.ScanSteps.{first_map}
 use Rattle.fz_store.specs.declared.model.Model.TheInside.{Inside}
 use Rattle.fz_store.specs.declared.parts.Variable.{Variable}
 use Rattle.fz_store.specs.declared.parts.Array.{Array}
+use Rattle.fz_store.specs.declared.names.Kept.{Kept}
+use Rattle.fz_store.specs.Names.{citation_stands}
 use Rattle.fz_store.specs.Naming.{Declared, has_text}
 use Rattle.fz_store.specs.Naming.{Declared as declarations}
 use Rattle.fz_store.specs.Parts.{variable_view, no_variable, kind_of_term, array_view, no_array, elements_of}
@@ -105,3 +108,37 @@ module _ (m : Inside) (laid : IsLaidOut m) (now : meaning.Model) (view_is : mode
         let same : a.name.now ≡ x = same_Some _ _ (ap (option_map (λ (b : Array). b.name.now)) (sym at) ∙ named) in
         ap (λ y. Some (meaning.Place.Array y a.kind (elements_of a))) (sym same) ∙ ap (λ o. Some (option_map_or array_view o no_array)) (sym at)
         ∙ ap (λ w. Some (declared_place m.variables.items m.arrays.items w)) (sym is) ∙ found_some d e
+
+-- ---- fronts of names
+
+any_mapped : {A B : Type 0} (p : B → Bool) (f : A → B) (xs : List A)
+    → list_any p (map f xs) ≡ list_any (λ x. p (f x)) xs
+any_mapped p f [] = refl
+any_mapped p f (x ∷ xs) = ap (λ b. p (f x) || b) (any_mapped p f xs)
+
+pub begins_any : (front : List ℕ) (ts : List Term) (ks : List Kept)
+    → list_any (λ k. starts_with nat_eq k.bytes.now front) ks
+    ≡ list_any (λ n. starts_with nat_eq n.0 front) (map (citation_stands ts) ks)
+begins_any front ts ks = sym (any_mapped (λ n. starts_with nat_eq n.0 front) (citation_stands ts) ks)
+
+abbrev pub begins_place : List ℕ → (List ℕ × meaning.Place) → Bool
+begins_place front p = starts_with nat_eq p.0 front
+
+begins_of : (front : List ℕ) (d : ℕ × meaning.Declared)
+    → begins_place front (named_place d) ≡ starts_with nat_eq (name_of d.1) front
+begins_of front (n, d) = refl
+
+any-same : {A : Type 0} (p q : A → Bool) → ((x : A) → p x ≡ q x) → (xs : List A)
+    → list_any p xs ≡ list_any q xs
+any-same p q same [] = refl
+any-same p q same (x ∷ xs) = λ i. same x i || any-same p q same xs i
+
+pub begins : (m : Inside) → IsLaidOut m → (now : meaning.Model) → model_view m ≡ now
+    → (front : List ℕ)
+    → list_any (λ n. starts_with nat_eq n.0 front) m.names ≡ begins_name now front
+begins m laid now view_is front =
+    sym (any_mapped (begins_place front) (entry_place m.variables.items m.arrays.items) m.names)
+    ∙ ap (list_any (begins_place front)) (sym laid.places)
+    ∙ any_mapped (begins_place front) named_place (numbered (model_view m))
+    ∙ any-same (λ d. begins_place front (named_place d)) (λ d. starts_with nat_eq (name_of d.1) front) (begins_of front) (numbered (model_view m))
+    ∙ ap (λ w. begins_name w front) view_is

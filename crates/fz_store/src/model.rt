@@ -2,7 +2,7 @@
 
 ghost use Rattle.std.specs.Prelude.{◌≡◌, ◌<◌, IfSome, Some, length, map, option_map, slice_get};
 ghost use Rattle.std.specs.List.{AllByRecursion};
-ghost use Rattle.fz_meaning.specs.Meaning.{constraint_points, find_name, points, row_of, variables_of};
+ghost use Rattle.fz_meaning.specs.Meaning.{begins_name, constraint_points, find_name, points, row_of, variables_of};
 ghost use Rattle.fz_meaning.specs.States.{shown_point};
 ghost use Rattle.fz_meaning.specs.Known.{known_row};
 ghost use Rattle.fz_store.specs.Kinds.{PlaceFits, PostedFits};
@@ -98,6 +98,13 @@ impl<'a> Model<'a> {
             }
         };
         Some(Found { name: text, what })
+    }
+
+    /// Whether a declared name begins with these bytes. It goes over all names, and takes no memory.
+    pub fn begins_name(&self, front: &[u8]) -> bool
+        ensures { result ≡ begins_name self.now front.now }
+    {
+        self.names.begins(front)
     }
 
     /// The number of points. It takes no memory.

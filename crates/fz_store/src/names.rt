@@ -1,11 +1,11 @@
 //! Declared names with what they stand for. Each is found by the number that its digits make
 //! (`Numbered`), or else in a hash table.
 
-ghost use Rattle.std.specs.Prelude.{◌≡◌, ◌++◌, ◌∷◌, [], IfOk, IfSome, OnErr, OnOk, Some, false, is_none, is_some, length, option_map, true};
+ghost use Rattle.std.specs.Prelude.{◌≡◌, ◌++◌, ◌∷◌, [], IfOk, IfSome, OnErr, OnOk, Some, false, is_none, is_some, length, nat_eq, option_map, true};
 ghost use Rattle.std.proofs.Common.{ap, rules};
 ghost use Rattle.std.specs.Cmp.Lexicographic.{bytes_decides, nat_list_eq_equiv};
 ghost use Rattle.std.specs.Cmp.Rules.{comparing};
-ghost use Rattle.std.specs.List.{find, list_any, IsDistinct};
+ghost use Rattle.std.specs.List.{find, list_any, starts_with, IsDistinct};
 ghost use Rattle.std.specs.Str.{bytes_eq};
 ghost use Rattle.std.specs.Map.{lookup};
 ghost use Rattle.fz_meaning.specs.declared.term.Term.TheVariants.{Fixed, Var};
@@ -219,6 +219,13 @@ fn found<'t, 'a>(
     }
 }
 
+/// Whether a name begins with these bytes.
+fn has_front(listed: &[Kept<'_>], front: &[u8]) -> bool
+    ensures { result ≡ list_any (λ k. starts_with nat_eq k.bytes.now front.now) listed.now }
+{
+    listed.iter().any(|kept| kept.bytes.starts_with(front))
+}
+
 impl<'a> Names<'a> {
     /// No names, with room for this many.
     pub fn with_capacity(alloc: Global, count: usize) -> Result<Names<'a>, AllocError>
@@ -267,6 +274,13 @@ impl<'a> Names<'a> {
     {
         let kept = found(&self.listed, &self.others, &self.numbered, name)?;
         Some((kept.bytes, standing_of(&self.parameters, kept.citation)))
+    }
+
+    /// Whether a declared name begins with these bytes. It goes over all names.
+    pub fn begins(&self, front: &[u8]) -> bool
+        ensures { result ≡ list_any (λ n. starts_with nat_eq n.0 front.now) self.now }
+    {
+        has_front(&self.listed, front)
     }
 
     /// Appends the name of a variable.

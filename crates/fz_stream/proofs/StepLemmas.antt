@@ -1,6 +1,6 @@
 -- What a line does to the open block, if one is open; where it stops the stream, and what the fault
 -- tells of it.
-use Rattle.std.proofs.Common.{◌≡◌, ◌≢◌, ℕ, ◌+◌, ◌<◌, Option, Some, None, List, [], ◌∷◌, ◌++◌, length, refl, sym, ap, subst, cond, arith, ◌∙◌}
+use Rattle.std.proofs.Common.{◌≡◌, ◌≢◌, ℕ, ◌+◌, ◌<◌, Option, Some, None, List, [], ◌∷◌, ◌++◌, length, refl, sym, ap, subst, cond, arith, ◌∙◌, ◌==◌, true, false, IfSome}
 use Rattle.std.proofs.lemmas.Bool.{ne_eqb}
 use Rattle.fz_stream.specs.declared.line.ClaimKind.{ClaimKind}
 use Rattle.fz_stream.specs.declared.line.LineKind.{LineKind}
@@ -143,3 +143,27 @@ breaks_at limits Breaking bytes lines frames line rest fault whole b breaks = re
   breaks = breaks;
   tells = b.tells;
 }
+
+-- a block that a line breaks is the one that is open
+pub breaks_open : (begun : Option ℕ) (before : ℕ) → IfSome begun (λ n. n ≡ before) → (at : ℕ)
+    (k : LineKind) (start : ℕ) → step_of begun at k ≡ Breaks start → start ≡ before
+breaks_open begun before own at Blank start e =
+    absurd (let no : GoesOn begun ≡ Breaks start = e in cc)
+breaks_open begun before own at Comment start e =
+    absurd (let no : GoesOn begun ≡ Breaks start = e in cc)
+breaks_open None before own at Marker start e =
+    absurd (let no : EndsBlock at ≡ Breaks start = e in cc)
+breaks_open (Some n) before own at Marker start e =
+    absurd (let no : EndsBlock n ≡ Breaks start = e in cc)
+breaks_open None before own at ItemLine start e =
+    absurd (let no : GoesOn (Some at) ≡ Breaks start = e in cc)
+breaks_open (Some n) before own at ItemLine start e =
+    absurd (let no : GoesOn (Some n) ≡ Breaks start = e in cc)
+breaks_open None before own at (Claim kind) start e =
+    absurd (let no : Claims kind ≡ Breaks start = e in cc)
+breaks_open (Some n) before own at (Claim kind) start e =
+    let broken : Breaks n ≡ Breaks start = e in let same : n ≡ start = cc in sym same ∙ own
+
+pub open_before : (line before : ℕ) → IfSome (begun_of line before) (λ n. n ≡ before)
+open_before line before =
+    elim (line == 0) as (λ b. IfSome (cond b None (Some before)) (λ n. n ≡ before)) [ true ↦ tt | false ↦ refl ]

@@ -4,6 +4,8 @@ use Rattle.std.specs.Prelude.{◌≡◌, ◌≢◌, ◌<◌, ℕ, ◌+◌, ◌^�
 use Rattle.std.specs.List.{AllByRecursion}
 use Rattle.fz_syntax.specs.Limits.{Limits}
 use Rattle.fz_syntax.specs.Tree.{Printed}
+use Rattle.fz_stream.specs.declared.error.StreamError.{StreamError}
+use Rattle.fz_stream.specs.declared.error.StreamError.TheVariants.{Unfinished}
 use Rattle.fz_stream.specs.declared.splitter.Stage.{Stage}
 use Rattle.fz_stream.specs.declared.splitter.Stage.TheVariants.{Running}
 use Rattle.fz_stream.specs.Parts.{Line, lines_of, joined, StreamPart, BlockPart, ClaimPart, Frame, IsBlockText, Closes, Covers, IsFramed}
@@ -102,6 +104,11 @@ pub record EndsLast (bytes : List ℕ) (frames : List Frame) (frame : Frame) : T
 abbrev pub EndsWith : Option Frame → List ℕ → List Frame → Type 0
 EndsWith None bytes frames = IsFramed bytes frames
 EndsWith (Some frame) bytes frames = EndsLast bytes frames frame
+
+-- a block that is left unfinished begins with the bytes held
+abbrev pub BeginsWithHeld : SplitterState → StreamError → Type 0
+BeginsWithHeld s (Unfinished span) = span.start + length s.held ≡ s.taken
+BeginsWithHeld s _ = Unit {0}
 
 -- a block's text is one of its items, and of no others
 abbrev pub IsPartOfItems : Limits → StreamPart → Type 0

@@ -1,5 +1,5 @@
 // What a splitter holds: the text of the open block, and the current line.
-ghost use Rattle.std.specs.Prelude.{◌≡◌, ◌≢◌, ℕ, ◌+◌, ◌≤◌, ◌<◌, ◌++◌, ◌∷◌, [], List, length, take, Err, Some, None, IfOk, IfErr, IsSome};
+ghost use Rattle.std.specs.Prelude.{◌≡◌, ◌≢◌, ℕ, ◌+◌, ◌≤◌, ◌<◌, ◌++◌, ◌∷◌, [], List, length, take, Err, Ok, Some, None, IfOk, IfErr, IsSome, OnErr};
 ghost use Rattle.fz_syntax.specs.Limits.{Limits};
 ghost use Rattle.fz_syntax.specs.Places.{IsSpanWithin};
 ghost use Rattle.fz_stream.specs.Broken.{BreaksAfter, CannotGoOn, CannotEnd};
@@ -56,6 +56,11 @@ fn end_line(held: &mut Held) -> Result<Option<Ended>, Span>
     ensures breaks { IfErr result (λ span. (limits : Limits) (lines : List Line)
         (frames : List Frame) (line : Line) → HasLine held.old lines frames line
         → BreaksBlock limits lines frames line (StreamError.Unfinished span)) }
+    // A block that is open, or broken, is what is held.
+    ensures begins { IfErr result (λ span. span.start ≡ held.old.before) }
+    ensures kept { OnErr result (held.new.buffer.items ≡ held.old.buffer.items) }
+    ensures open { result ≡ Ok None → 0 < held.new.line
+        → (held.new.buffer.items ≡ held.old.buffer.items) × (held.new.before ≡ held.old.before) }
     ensures place { IfErr result
         (IsSpanWithin (held.old.before + length held.old.buffer.items)) }
 {
@@ -159,6 +164,8 @@ fn end_open(held: &Held) -> Result<Option<Ended>, Span>
     ensures broken { IfErr result (λ span. (limits : Limits) (bytes : List ℕ)
         (frames : List Frame) → HasLine held.now (lines_of bytes) frames []
         → BreaksAfter limits CannotEnd bytes frames (StreamError.Unfinished span)) }
+    ensures begins { IfErr result
+        (λ span. (0 < held.now.line) × (span.start ≡ held.now.before)) }
     ensures place { IfErr result (IsSpanWithin (held.now.before + length held.now.buffer.items)) }
 {
     if held.line > 0 {
@@ -184,6 +191,8 @@ pub fn end_stream(held: &mut Held) -> Result<Option<Ended>, Span>
     ensures broken { IfErr result (λ span. (limits : Limits) (bytes : List ℕ)
         (frames : List Frame) → Stands held.old bytes frames
         → BreaksAfter limits CannotEnd bytes frames (StreamError.Unfinished span)) }
+    ensures begins { IfErr result (λ span. span.start ≡ held.old.before) }
+    ensures kept { OnErr result (held.new.buffer.items ≡ held.old.buffer.items) }
     ensures place { IfErr result (IsSpanWithin (held.old.before + length held.old.buffer.items)) }
 {
     if held.line == held.buffer.len() {

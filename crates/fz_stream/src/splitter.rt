@@ -3,7 +3,7 @@ ghost use Rattle.fz_syntax.specs.Places.{standard_limits};
 ghost use Rattle.fz_stream.specs.Broken.{BreaksAfter, CannotGoOn, CannotEnd};
 ghost use Rattle.fz_stream.specs.Faults.{IsStreamFault, IsCuttingFault, IsFaultWithin};
 ghost use Rattle.fz_stream.specs.Parts.{lines_of, Frame as PlainFrame, Covers, frame_of};
-ghost use Rattle.fz_stream.specs.Splitting.{Fits, HasRoomFor, PassesLimit, EndsWith, IsPartOfItems, frames_in, most_taken};
+ghost use Rattle.fz_stream.specs.Splitting.{BeginsWithHeld, Fits, HasRoomFor, PassesLimit, EndsWith, IsPartOfItems, frames_in, most_taken};
 
 use crate::block::{Block, read_block};
 use crate::error::StreamError;
@@ -113,6 +113,17 @@ impl Splitter {
                 let text = &self.held.buffer[..self.held.line];
                 Some(Frame::Block(self.held.before, text))
             }
+        }
+    }
+
+    /// The text of the open block and the current line. Where the end of the stream has left a block
+    /// open, that is all of it.
+    pub fn held(&self) -> &[u8]
+        ensures { result.now ≡ self.now.held }
+    {
+        match self.ended {
+            None => &self.held.buffer,
+            Some(_) => &[],
         }
     }
 
@@ -229,6 +240,9 @@ impl Splitter {
         ensures fault { IfErr result (λ e. e ≢ StreamError.Failed
             → IsCuttingFault e × (e ≢ StreamError.TooLong)) }
         ensures place { IfErr result (IsFaultWithin self.old.taken) }
+        // The block that is left open is what is held, before the end and behind it.
+        ensures begins { IfErr result (BeginsWithHeld self.old) }
+        ensures kept { OnErr result (self.new.held ≡ self.old.held) }
         ensures err { OnErr result ((self.new.stage ≡ FailedStage) × (self.new.waits ≡ None)) }
         ensures limits { self.new.limits ≡ self.old.limits }
     {

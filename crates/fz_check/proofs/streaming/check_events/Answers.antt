@@ -1,26 +1,15 @@
-use Rattle.fz_check.specs.declared.error.CheckError.TheVariants as errors
-use Rattle.fz_check.proofs.StreamingLemmas.{accepted_then, end_read_then, refused_then, reported_then, unwritten_then}
+use Rattle.std.proofs.lemmas.Result.{IfErr-weaker}
+use Rattle.fz_check.proofs.StreamingLemmas.{accepted_of, reported_of}
 use Rattle.fz_check.proofs.streaming.check_events.Goals as goal
 
-pub returns-in-Ok-write_lines-clause-accepted : goal.returns-in-Ok-write_lines-clause-accepted
-returns-in-Ok-write_lines-clause-accepted g c =
-    accepted_then c.args.options g.T.Taker.text c.args.model.now c.in-Ok.loaded c.args.reads _ _ _ _ (g.W.Write.contents c.write_lines.new.writer) c.tell_parts-outcome.new.lines.items c.in-Ok.ensures.loaded c.tell_parts-outcome.result c.tell_parts-outcome.ensures.answered
+pub returns-clause-accepted : goal.returns-clause-accepted
+returns-clause-accepted g c =
+    accepted_of c.args.options.limits c.args.model.now c.in-Ok.loaded c.in-Ok.ensures.loaded c.check_loaded.result _ c.check_loaded.ensures.accepted
 
-pub returns-in-Ok-write_lines-clause-report : goal.returns-in-Ok-write_lines-clause-report
-returns-in-Ok-write_lines-clause-report g c =
-    reported_then c.args.options g.T.Taker.text c.args.model.now c.in-Ok.loaded c.args.reads _ _ _ _ (g.W.Write.contents c.write_lines.new.writer) c.tell_parts-outcome.new.lines.items c.in-Ok.ensures.loaded c.tell_parts-outcome.result c.tell_parts-outcome.ensures.answered c.in-Ok-write_lines.ensures.whole
-
-pub returns-in-Ok-write_lines-clause-refused : goal.returns-in-Ok-write_lines-clause-refused
-returns-in-Ok-write_lines-clause-refused g c =
-    refused_then c.args.options g.T.Taker.text c.args.model.now c.in-Ok.loaded c.args.reads _ _ _ _ (g.W.Write.contents c.write_lines.new.writer) c.tell_parts-outcome.new.lines.items c.in-Ok.ensures.loaded c.tell_parts-outcome.result c.tell_parts-outcome.ensures.stands c.in-Ok-write_lines.ensures.whole c.tell_parts-outcome.ensures.refused
-
-pub returns-in-Ok-write_lines-clause-end_read : goal.returns-in-Ok-write_lines-clause-end_read
-returns-in-Ok-write_lines-clause-end_read g c =
-    end_read_then c.args.options g.T.Taker.text c.args.model.now c.in-Ok.loaded c.args.reads _ _ _ _ (g.W.Write.contents c.write_lines.new.writer) c.tell_parts-outcome.new.lines.items c.in-Ok.ensures.loaded c.tell_parts-outcome.result c.tell_parts-outcome.ensures.answered
+pub returns-clause-report : goal.returns-clause-report
+returns-clause-report g c =
+    reported_of c.args.options.limits c.args.model.now c.in-Ok.loaded c.in-Ok.ensures.loaded c.check_loaded.result _ c.check_loaded.ensures.report
 
 pub returns-clause-refused : goal.returns-clause-refused
 returns-clause-refused g c =
-    unwritten_then c.args.options g.T.Taker.text c.args.model.now c.in-Ok.loaded
-    c.args.reads _ _ _ _ (g.W.Write.contents c.write_lines.new.writer)
-    c.tell_parts-outcome.new.lines.items c.in-Ok.ensures.loaded
-    c.tell_parts-outcome.ensures.stands c.in-Err-write_lines.ensures.front errors.Write tt
+    IfErr-weaker c.check_loaded.result _ _ (λ e f. f c.args.model.now c.in-Ok.ensures.loaded) c.check_loaded.ensures.refused

@@ -1,7 +1,7 @@
 use Rattle.std.proofs.Common.{ap, ◌∙◌, option_map}
 use Rattle.fz_meaning.specs.Builtins.{row_at}
 use Rattle.fz_meaning.proofs.FoundRows.{base_is, if_none}
-use Rattle.fz_meaning.proofs.known.Known.find.Goals as goal
+use Rattle.fz_meaning.proofs.known.Known.called.Goals as goal
 
 pub returns-in_err-builtin-clause-none : goal.returns-in_err-builtin-clause-none
 returns-in_err-builtin-clause-none c = if_none c.from_residual.result _ (base_is c.args.name.now c.called.result c.called.ensures c.in_default.ensures.none ∙ ap (option_map row_at) c.in_err-builtin.was)
