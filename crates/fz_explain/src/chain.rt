@@ -9,6 +9,7 @@ ghost use Rattle.fz_filling.specs.of_model.Meaning.{points};
 use crate::bounds::push_step;
 use crate::message::Message;
 use crate::notes::{Known, Note, push_domain, push_told, push_valued};
+use crate::parts::Phrase;
 use crate::source::{Source, source_of};
 use crate::variables::variables_of;
 use crate::verdict::Reading;
@@ -182,12 +183,12 @@ impl<'r, 's, 'e, 'a, 't, 'n> Chain<'r, 's, 'e, 'a, 't, 'n> {
     }
 
     /// Adds the lines on the grounds that wait and on what is behind them, nearest first.
-    fn follow(&mut self, lines: &mut Vec<String>) -> Result<(), AllocError> {
+    fn follow(&mut self, lines: &mut Vec<Phrase>) -> Result<(), AllocError> {
         for place in 0..MOST_VARIABLES {
             let Some(&ground) = self.waiting.get(place) else {
                 break;
             };
-            let mut line = String::new(self.reading.alloc);
+            let mut line = Phrase::new(self.reading.alloc);
             self.look_at(&mut line, ground)?;
             if !line.is_empty() {
                 self.count = self.count.saturating_add(1);
@@ -200,7 +201,7 @@ impl<'r, 's, 'e, 'a, 't, 'n> Chain<'r, 's, 'e, 'a, 't, 'n> {
     }
 
     /// Makes the line on a ground, where there is something to tell.
-    fn look_at(&mut self, line: &mut String, ground: Ground) -> Result<(), AllocError> {
+    fn look_at(&mut self, line: &mut Phrase, ground: Ground) -> Result<(), AllocError> {
         let Ground { variable, before } = ground;
         match before {
             Some(step) if !self.reading.filling.has(variable) => {
@@ -214,7 +215,7 @@ impl<'r, 's, 'e, 'a, 't, 'n> Chain<'r, 's, 'e, 'a, 't, 'n> {
     /// point or of its domain, where that isn't told.
     fn look_before(
         &mut self,
-        line: &mut String,
+        line: &mut Phrase,
         variable: usize,
         number: usize,
     ) -> Result<(), AllocError> {
@@ -229,7 +230,7 @@ impl<'r, 's, 'e, 'a, 't, 'n> Chain<'r, 's, 'e, 'a, 't, 'n> {
     }
 
     /// The line on a step, where that isn't told.
-    fn look_at_step(&mut self, line: &mut String, number: usize) -> Result<(), AllocError> {
+    fn look_at_step(&mut self, line: &mut Phrase, number: usize) -> Result<(), AllocError> {
         let is_new = self.taken.insert(number)?;
         let Some(step) = self.steps.get(number) else {
             return Ok(());
@@ -242,7 +243,7 @@ impl<'r, 's, 'e, 'a, 't, 'n> Chain<'r, 's, 'e, 'a, 't, 'n> {
     }
 
     /// The line on the domain of a variable, where that isn't told.
-    fn look_at_domain(&mut self, line: &mut String, variable: usize) -> Result<(), AllocError> {
+    fn look_at_domain(&mut self, line: &mut Phrase, variable: usize) -> Result<(), AllocError> {
         let is_new = self.variables.insert(variable)?;
         match self.reading.model.variables().get(variable) {
             Some(variable) if is_new => {
@@ -254,7 +255,7 @@ impl<'r, 's, 'e, 'a, 't, 'n> Chain<'r, 's, 'e, 'a, 't, 'n> {
 
     /// The line on a value: the reason for it, where it was given, or else that it is printed,
     /// where bounds are from it.
-    fn look_at_value(&mut self, line: &mut String, variable: usize) -> Result<(), AllocError> {
+    fn look_at_value(&mut self, line: &mut Phrase, variable: usize) -> Result<(), AllocError> {
         let reading = self.reading;
         match source_of(reading.filling, reading.steps, variable) {
             Source::Printed => self.look_at_printed(line, variable),
@@ -271,14 +272,14 @@ impl<'r, 's, 'e, 'a, 't, 'n> Chain<'r, 's, 'e, 'a, 't, 'n> {
     }
 
     /// The line on a printed value, where bounds are from it and it isn't told.
-    fn look_at_printed(&mut self, line: &mut String, variable: usize) -> Result<(), AllocError> {
+    fn look_at_printed(&mut self, line: &mut Phrase, variable: usize) -> Result<(), AllocError> {
         if self.steps.is_empty() {
             return Ok(());
         }
         let is_new = self.variables.insert(variable)?;
         if is_new {
             push_valued(self.reading, line, variable)?;
-            line.push_str(", printed")?;
+            line.words(", printed")?;
         }
         Ok(())
     }
@@ -287,7 +288,7 @@ impl<'r, 's, 'e, 'a, 't, 'n> Chain<'r, 's, 'e, 'a, 't, 'n> {
 /// Adds a value that a point gave, and the reason for it.
 fn push_reason(
     reading: &Reading,
-    line: &mut String,
+    line: &mut Phrase,
     variable: usize,
     point: usize,
 ) -> Result<(), AllocError>
@@ -295,7 +296,7 @@ fn push_reason(
 {
     if let Some(told) = giving_at(reading.alloc, reading.model, reading.filling, point)? {
         push_valued(reading, line, variable)?;
-        line.push_str(": ")?;
+        line.words(": ")?;
         push_told(reading, line, &told)?;
     }
     Ok(())

@@ -5,6 +5,7 @@
 //! their words and layout, which `tests/explained` tests.
 #![tactic(auto)]
 
+mod amounts;
 mod binding;
 mod bounds;
 mod case;
@@ -19,6 +20,7 @@ mod help;
 mod message;
 mod naming;
 mod notes;
+mod parts;
 mod place;
 mod printed;
 mod quoting;
@@ -31,6 +33,7 @@ mod sums;
 mod variables;
 mod verdict;
 
+pub use amounts::MOST_RANGES;
 pub use binding::Unbound;
 pub use bounds::Bounds;
 pub use case::{Case, Explainer};
@@ -47,7 +50,8 @@ pub use fz_places::{
 };
 pub use fz_store::Kind;
 pub use message::{Message, Text, message_at};
-pub use notes::{FixedNote, Known, MOST_RANGES, Note, Origin};
+pub use notes::{FixedNote, Known, Note, Origin};
+pub use parts::{Part, PartKind, Phrase};
 pub use place::point_place;
 pub use quoting::{Quote, Source as ModelSource};
 pub use remarks::Remarks;

@@ -8,17 +8,21 @@ use crate::bounds::note_on_bounds;
 use crate::chain::{last_of, note_chain};
 use crate::message::Message;
 use crate::notes::note_variables;
+use crate::parts::Phrase;
 use crate::variables::variables_of;
 use crate::verdict::Reading;
 use fz_index::Refutation;
 use std::alloc::{AllocError, Global};
 
 /// What is said behind the bounds, where so many choices were tried.
-fn none_will_do(alloc: Global, tried: usize) -> Result<String, AllocError> {
+fn none_will_do(alloc: Global, tried: usize) -> Result<Phrase, AllocError> {
     if tried <= 1 {
-        return String::from_str(alloc, "no choice of these will do here");
+        return Phrase::of_words(alloc, "no choice of these will do here");
     }
-    format!(in alloc; "no choice of the values left out will do: {tried} were tried")
+    let mut told = Phrase::of_words(alloc, "no choice of the values left out will do: ")?;
+    told.number(tried)?;
+    told.words(" were tried")?;
+    Ok(told)
 }
 
 /// Adds the variables in the point that can't hold: those with a value, and those without one with

@@ -10,7 +10,8 @@ use crate::domain::declared_domain;
 use crate::failing::{Sought, first_point};
 use crate::help::note_help;
 use crate::message::{Message, Text, message_at};
-use crate::notes::{note_domain, note_fixed, note_variables, push_told};
+use crate::notes::{note_domain, note_fixed, note_variables, owner_of, push_told};
+use crate::parts::{Owner, Phrase};
 use crate::place::{constraint_of, point_place};
 use crate::printed::{note_printed, printed_place};
 use crate::refutation::note_refutation;
@@ -144,7 +145,9 @@ fn note_point(reading: &Reading, message: &mut Message, point: usize) -> Result<
         note_domain(reading, message, &model.point(point), domain)?;
     }
     if let Some(place) = too_large_at(alloc, model, reading.filling, point)? {
-        message.note(format!(in alloc; "the sum leaves 128 bits at element {place}")?)?;
+        let mut told = Phrase::of_words(alloc, "the sum leaves 128 bits at element ")?;
+        told.number(place)?;
+        message.note(told)?;
     }
     Ok(())
 }
@@ -166,7 +169,7 @@ fn note_told(
     variables: &[usize],
     told: &Told,
 ) -> Result<(), AllocError> {
-    let mut reason = String::new(reading.alloc);
+    let mut reason = Phrase::new(reading.alloc);
     push_told(reading, &mut reason, told)?;
     message.reason = Some(reason);
     note_variables(reading, message, variables, &told.who)
@@ -180,21 +183,51 @@ fn note_objective(
     before: i64,
     now: i64,
 ) -> Result<(), AllocError> {
-    let (alloc, number) = (reading.alloc, reading.case.number);
-    let earlier = number.saturating_sub(1);
-    if let Goal::Minimize(Term::Var(number)) | Goal::Maximize(Term::Var(number)) = reading
-        .model
-        .goal()
-    {
-        note_variables(reading, message, &[*number], &[])?;
-    }
-    let mut told = if let Verdict::Violated(_) = reading.case.verdict {
-        format!(in alloc; "block {earlier} has {before}")?
-    } else {
-        format!(in alloc; "{before} was found for block {earlier}")?
+    let variable = match reading.model.goal() {
+        Goal::Minimize(Term::Var(number)) | Goal::Maximize(Term::Var(number)) => Some(*number),
+        _ => None,
     };
-    write!(told, ", and block {number} has {now}")?;
+    if let Some(number) = variable {
+        note_variables(reading, message, &[number], &[])?;
+    }
+    let told = objectives(reading, owner_of(reading, variable), before, now)?;
     message.note(told)
+}
+
+/// What the objective is in the block of a case, and what it is in the block before, or was found
+/// for that.
+fn objectives(
+    reading: &Reading,
+    owner: Option<Owner<'_>>,
+    before: i64,
+    now: i64,
+) -> Result<Phrase, AllocError> {
+    let number = reading.case.number;
+    let earlier = number.saturating_sub(1);
+    let mut told = Phrase::new(reading.alloc);
+    if let Verdict::Violated(_) = reading.case.verdict {
+        push_objective(&mut told, "block ", earlier, owner, before)?;
+    } else {
+        told.value(owner, before)?;
+        told.words(" was found for block ")?;
+        told.number(earlier)?;
+    }
+    push_objective(&mut told, ", and block ", number, owner, now)?;
+    Ok(told)
+}
+
+/// Adds what the objective is in a block.
+fn push_objective(
+    told: &mut Phrase,
+    front: &str,
+    block: usize,
+    owner: Option<Owner<'_>>,
+    value: i64,
+) -> Result<(), AllocError> {
+    told.words(front)?;
+    told.number(block)?;
+    told.words(" has ")?;
+    told.value(owner, value)
 }
 
 fn objective_place(ast: &Ast<'_>) -> Option<Span> {
