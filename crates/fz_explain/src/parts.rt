@@ -202,9 +202,11 @@ impl Phrase {
     /// Adds the parts of another text.
     pub(crate) fn append(&mut self, other: &Phrase) -> Result<(), AllocError> {
         for part in &other.parts {
-            match part.kind {
-                PartKind::Words => self.words(&part.text)?,
-                _ => self.parts.push(part.copy(self.alloc())?)?,
+            if part.kind == PartKind::Words {
+                self.words(&part.text)?;
+            } else {
+                let copy = part.copy(self.alloc())?;
+                self.parts.push(copy)?;
             }
         }
         Ok(())

@@ -7,18 +7,20 @@ ghost use Rattle.fz_filling.specs.of_model.Meaning.{points};
 use crate::case::Case;
 use crate::chain::note_chain;
 use crate::domain::declared_domain;
-use crate::failing::{Sought, first_point};
+use crate::failing::{Sought, failing_points, first_point};
 use crate::help::note_help;
 use crate::message::{Message, Text, message_at};
 use crate::notes::{note_domain, note_fixed, note_variables, owner_of, push_told};
 use crate::parts::{Owner, Phrase};
+use crate::past::Past;
 use crate::place::{constraint_of, point_place};
 use crate::printed::{note_printed, printed_place};
 use crate::refutation::note_refutation;
-use crate::sentence::sentence;
+use crate::sentence::{point_sentence, sentence};
 use crate::sums::too_large_at;
 use crate::variables::variables_of;
 use fz_filling::{Completion, Fault, Giver, Reason, Verdict};
+use fz_index::Narrowing;
 use fz_places::NameTable;
 use fz_reasons::{Told, reason_at};
 use fz_store::{Goal, Model, Partial, Point, Term};
@@ -37,6 +39,14 @@ pub(crate) struct Reading<'s, 'e, 'a, 't, 'n> {
     pub completion: Completion,
     pub filling: &'s Partial,
     pub steps: &'s [Giver],
+}
+
+impl Reading<'_, '_, '_, '_, '_> {
+    /// The steps of the filling, and these to bounds, by their variables.
+    pub(crate) fn past<'r>(&self, steps: &'r [Narrowing]) -> Result<Past<'r>, AllocError> {
+        let variables = self.model.variables().len();
+        Past::new(self.alloc, variables, self.steps, steps)
+    }
 }
 
 /// The point that the verdict on a case is about; none of a printed name or the objective.
@@ -74,8 +84,94 @@ pub(crate) fn verdict_place<'t>(
     }
 }
 
+/// What is wrong with a block: the message on its verdict, and one on each other point that fails,
+/// as far as they are told.
+#[derive(Drop)]
+pub struct Faults {
+    pub messages: Vec<Message>,
+    /// How many points that fail are left out.
+    pub left_out: usize,
+}
+
+impl Faults {
+    /// The text of all messages, of which each line ends with LF.
+    ///
+    /// # Errors
+    ///
+    /// Out of memory.
+    pub fn text(&self, alloc: Global) -> Result<String, AllocError> {
+        let mut text = String::new(alloc);
+        for message in &self.messages {
+            text.push_str(&message.text(alloc)?)?;
+        }
+        if self.left_out > 0 {
+            writeln!(text, "... and {} more points fail", self.left_out)?;
+        }
+        Ok(text)
+    }
+}
+
+/// The messages on a case: at most so many, of which the first is on its verdict. Where only that
+/// is wanted, no other points are looked for.
+pub(crate) fn faults(reading: &Reading, most: usize) -> Result<Faults, AllocError> {
+    let mut faults = Faults {
+        messages: Vec::new(reading.alloc),
+        left_out: 0,
+    };
+    if let Some(message) = verdict_message(reading)? {
+        faults.messages.push(message)?;
+    }
+    if most > 1 {
+        add_failing(reading, &mut faults, most)?;
+    }
+    Ok(faults)
+}
+
+/// Adds the messages on the points that fail, but for the one that the verdict is about.
+fn add_failing(reading: &Reading, faults: &mut Faults, most: usize) -> Result<(), AllocError> {
+    let points = failing_points(reading.alloc, reading.model, reading.filling)?;
+    let told = is_on_a_point(reading.case) as usize;
+    for point in points.iter().skip(told) {
+        if faults.messages.len() >= most {
+            faults.left_out = faults.left_out.saturating_add(1);
+        } else if *point < reading.model.points()
+            && let Some(message) = point_message(reading, *point)?
+        {
+            faults.messages.push(message)?;
+        }
+    }
+    Ok(())
+}
+
+/// Whether the verdict on a case is about the first point that fails.
+fn is_on_a_point(case: &Case<'_, '_>) -> bool {
+    match case.verdict {
+        Verdict::Violated(fault) => {
+            case.refuted.is_none() && !matches!(fault, Fault::Printed(_) | Fault::NotBetter(_, _))
+        }
+        Verdict::Satisfied | Verdict::Undecided(_) => false,
+    }
+}
+
+/// The message on a point that fails.
+fn point_message(reading: &Reading, number: usize) -> Result<Option<Message>, AllocError>
+    requires in_range { number < length (points reading.now.model.now) }
+{
+    let point = reading.model.point(number);
+    let Some(place) = point_place(reading.ast, &point) else {
+        return Ok(None);
+    };
+    let said = point_sentence(reading.alloc, &point, reading.case.number)?;
+    let mut message = message_at(reading.alloc, &reading.text, place, said)?;
+    if let Some(message) = &mut message {
+        note_text(reading, message, &point)?;
+        note_point(reading, message, number)?;
+    }
+    Ok(message)
+}
+
 /// The message on the verdict of a case.
-pub(crate) fn verdict_message(reading: &Reading) -> Result<Option<Message>, AllocError> {
+fn verdict_message(reading: &Reading) -> Result<Option<Message>, AllocError> {
     let case = reading.case;
     let Some((text, place)) = verdict_place(reading.ast, reading.text, case) else {
         return Ok(None);
@@ -140,7 +236,7 @@ fn note_point(reading: &Reading, message: &mut Message, point: usize) -> Result<
 {
     let (alloc, model) = (reading.alloc, reading.model);
     note_reason(reading, message, point)?;
-    note_chain(reading, message, point, &[])?;
+    note_chain(reading, message, point, &reading.past(&[])?)?;
     if let Some(domain) = declared_domain(model, point) {
         note_domain(reading, message, &model.point(point), domain)?;
     }

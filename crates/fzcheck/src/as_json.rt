@@ -4,8 +4,8 @@
 use crate::events::{Counts, add_place, refused_word};
 use fz_check::{Answer, CheckError, Span, refusal_fault};
 use fz_explain::{
-    Bounds, FixedNote, Kind, Known, MOST_RANGES, Message, Note, Origin, Phrase, Remarks, Unbound,
-    Value,
+    Bounds, Faults, FixedNote, Kind, Known, MOST_RANGES, Message, Note, Origin, Phrase, Remarks,
+    Unbound, Value,
 };
 use fz_files::Object;
 use std::alloc::{AllocError, Global};
@@ -252,11 +252,29 @@ pub fn names_line(
     object.line()
 }
 
-/// The line of the explanation of a block.
-pub fn explanation_line(
+/// The lines of the explanation of a block, one for each message. The last tells how many points
+/// that fail are left out.
+pub fn explanation_lines(
+    alloc: Global,
+    block: usize,
+    faults: &Faults,
+) -> Result<Vec<u8>, AllocError> {
+    let mut lines = Vec::new(alloc);
+    let mut waiting = faults.messages.len();
+    for message in &faults.messages {
+        waiting = waiting.saturating_sub(1);
+        let left_out = if waiting == 0 { faults.left_out } else { 0 };
+        lines.extend_from_slice(&explanation_line(alloc, block, message, left_out)?)?;
+    }
+    Ok(lines)
+}
+
+/// The line of a message on a block, where so many further points that fail are left out.
+fn explanation_line(
     alloc: Global,
     block: usize,
     message: &Message,
+    points_left_out: usize,
 ) -> Result<Vec<u8>, AllocError> {
     let mut object = Object::new(alloc);
     object.count("explained", block);
@@ -274,5 +292,6 @@ pub fn explanation_line(
     add_left_out(&mut object, "behind_left_out", message.behind_left_out);
     add_fixed(alloc, &mut object, &message.fixed)?;
     add_phrases(alloc, &mut object, ("notes", "notes_parts"), &message.notes)?;
+    add_left_out(&mut object, "points_left_out", points_left_out);
     object.line()
 }
