@@ -409,15 +409,15 @@ fn say_member(teller: &mut Teller<'_, '_>, member: Member) {
 /// Whether a number is chosen and whether it is in the set, or that it is an index of nothing.
 fn say_chosen(teller: &mut Teller<'_, '_>, member: Member) {
     let is_range = teller.builtin == Builtin::GecodeRange;
-    let one = if member.first { " in one" } else { " in none" };
+    let one = if member.first { "one" } else { "none" };
     let second = is_in(member.second);
     match member.third {
         true if is_range => teller.say(" in the third, and no index"),
         true => teller.say(" in the first, and no index"),
         false if is_range => {
-            say!(teller; one, " of the chosen elements and", second, " the fourth");
+            say!(teller; " ", one, " of the chosen elements and", second, " the fourth");
         }
-        false => say!(teller; one, " of the chosen sets and", second, " the third"),
+        false => say!(teller; " in ", one, " of the chosen sets and", second, " the third"),
     }
 }
 
