@@ -2,7 +2,7 @@
 
 use crate::binding::Unbound;
 use crate::message::Text;
-use crate::verdict::{Faults, Reading, faults, verdict_place};
+use crate::verdict::{Faults, Reading, faults_of, verdict_place};
 use fz_filling::{Completion, Verdict, fill_with_steps};
 use fz_index::Refutation;
 use fz_places::NameTable;
@@ -137,7 +137,7 @@ impl<'a, 'n> Explainer<'a, 'n> {
             filling: &filling,
             steps: &steps,
         };
-        Ok(Some(faults(&reading, most)?))
+        Ok(Some(faults_of(&reading, most)?))
     }
 }
 

@@ -113,7 +113,7 @@ impl Faults {
 
 /// The messages on a case: at most so many, of which the first is on its verdict. Where only that
 /// is wanted, no other points are looked for.
-pub(crate) fn faults(reading: &Reading, most: usize) -> Result<Faults, AllocError> {
+pub(crate) fn faults_of(reading: &Reading, most: usize) -> Result<Faults, AllocError> {
     let mut faults = Faults {
         messages: Vec::new(reading.alloc),
         left_out: 0,
