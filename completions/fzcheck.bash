@@ -14,14 +14,14 @@ _fzcheck() {
   elif [[ $before == '=' && $named == --claims ]]; then
     offered='prove'
   elif [[ $before == '=' && $named == --explain ]]; then
-    offered='answer all'
+    offered='answer all every'
   elif [[ $command == help ]]; then
     offered='check show'
   elif [[ $before == --known || $before == --names || $before == --tree || $word != -* ]]; then
     offered='' # a file: where nothing is offered here, the shell offers files
   elif [[ $command == check ]]; then
     offered+=' --large --complete --complete-steps --cut --claims --claims=prove --known --explain'
-    offered+=' --explain=all --names --tree --json'
+    offered+=' --explain=all --explain=every --names --tree --json'
   elif [[ $command == show ]]; then
     offered+=' --large --print-all'
   fi

@@ -16,7 +16,7 @@ case $line[1] in
       '--claims=-[judge claims on the whole search]::how:(prove)' \
       '--tree=[prove claims along the search tree of the solver]:tree:_files' \
       '*--known=[judge claims, by the blocks of another stream too]:stream:_files' \
-      '--explain=-[show what is behind a verdict or a refusal]::what:(answer all)' \
+      '--explain=-[show what is behind a verdict or a refusal]::what:(answer all every)' \
       '--names=[explain by the table of names of the MiniZinc compiler]:table of names:_files' \
       '--json[write the report as JSON]' \
       '1:model:_files' '2:stream:_files'

@@ -32,6 +32,8 @@ REASONS = {
     "not shown better": "objective {now} not shown better than {found}",
 }
 VERDICTS = "satisfied", "violated", "undecided"
+OWNED = "variable", "value"  # the parts of a text that are someone's
+KINDS = "words", "number", "place", *OWNED
 
 
 def cases():
@@ -140,6 +142,39 @@ def variable_lines(it):
     return [f"{name} {known_text(it)}, {source}", *behind]
 
 
+def wrong_parts(it):
+    """What is wrong with the parts of texts in an object and in what it holds."""
+    wrong = []
+    for key, value in it.items():
+        if key + "_parts" in it:
+            texts = value if isinstance(value, list) else [value]
+            lists = it[key + "_parts"] if isinstance(value, list) else [it[key + "_parts"]]
+            joined = ["".join(part["text"] for part in parts) for parts in lists]
+            if joined != texts:
+                wrong.append(f"parts of {key}: {joined}, wanted {texts}")
+            wrong += [fault for parts in lists for part in parts for fault in wrong_part(part)]
+        elif isinstance(value, list) and key != "loops":
+            wrong += [fault for each in value if isinstance(each, dict) and "kind" not in each
+                      for fault in wrong_parts(each)]
+    for key in ("reason", "notes", "behind"):
+        if key in it and key + "_parts" not in it:
+            wrong.append(f"no parts of {key}")
+    return wrong
+
+
+def wrong_part(part):
+    """What is wrong with a part of a text."""
+    members = {"kind", "text"} | ({"variable"} if part["kind"] in OWNED else set())
+    if not part["text"] or part["kind"] not in KINDS or not members <= set(part):
+        yield f"a part: {part}"
+    if part["kind"] == "number" and not re.fullmatch("-?[0-9]+", part["text"]):
+        yield f"a number: {part}"
+    if part["kind"] == "value" and not re.fullmatch("-?[0-9]+|true|false", part["text"]):
+        yield f"a value: {part}"
+    if set(part) - members - ({"element"} if part["kind"] in OWNED else set()):
+        yield f"members of a part: {part}"
+
+
 def message_lines(it, model, stream):
     """The lines of a message but for the excerpt of the source."""
     notes = [variable_lines(variable) for variable in it.get("variables", [])]
@@ -190,6 +225,7 @@ class Report:
                     self.told += message_lines(it, model, stream)
             else:
                 self.told += message_lines(it, model, stream)
+                self.wrong += wrong_parts(it)
                 place = it["line"], it["column"]
                 self.expect(self.places[it["explained"]], place, "the place of a block")
         if not self.objects or not {"answer", "refused"} & set(self.objects[-1]):

@@ -45,7 +45,7 @@ find / -xdev -name "*fzcheck*" -not -path "/tmp/*" -not -path "/var/cache/*"
 WHOLE = {
     "toolchain": "",
     "example": "block 1: satisfied\naccepted: blocks 1\n",
-    "bash": "--explain --explain=all\n",
+    "bash": "--explain --explain=all --explain=every\n",
     "zsh": "_fzcheck\n",
     "verified": "",
     "left": "",

@@ -332,6 +332,8 @@ FORMS = {
         refers_nowhere(int(k), int(v), *(a if l == "first" else (a[1], a[0], a[3], a[2])))),
     f"the element with index ({NUMBER}) is ({NUMBER}), and set ({NUMBER}) hasn't ({NUMBER})": (
         lambda n, a, *p: not_in_its_set(a, *p)),
+    f"the element with index ({NUMBER}) is ({NUMBER}), which is no index": lambda n, a, i, v: (
+        at(a[0], int(i) - a[1] + 1) == int(v) and at(a[2], int(v) - a[3] + 1) is None),
     f"set ({NUMBER}) has ({NUMBER}), and the element with index ({NUMBER}) is ({NUMBER})": (
         lambda n, a, *p: in_another_set(a, *p)),
     f"set ({NUMBER}) has ({NUMBER}), which is no index": lambda n, a, j, v: in_another_set(a, j, v, v, None),
@@ -343,6 +345,9 @@ FORMS = {
         len(transitions(a)[0]) == len(a[0]) and transitions(a)[1] == int(q) not in a[5] and 1 <= int(q) <= a[1]),
     f"element (\\d+) is ({NUMBER}), not from ({NUMBER}) to ({NUMBER})": lambda n, a, k, v, l, h: (
         any(isinstance(x, list) and at(x, k) == int(v) for x in a) and not int(l) <= int(v) <= int(h)),
+    f"the element with index ({NUMBER}) is ({NUMBER}), not from ({NUMBER}) to ({NUMBER})": (
+        lambda n, a, i, v, l, h: at(a[1], int(i) - a[0] + 1) == int(v) and a[0] == int(l)
+        and not int(l) <= int(v) <= int(h) and int(h) - int(l) + 1 == len(a[1])),
     f"the index is ({NUMBER}), not from ({NUMBER}) to ({NUMBER})": lambda n, a, v, l, h: (
         a[0] == int(v) and [int(l), int(h)] == [1, len(a[1])] and not int(l) <= int(v) <= int(h)),
     r"the circle (.*) leaves out others that are moved": lambda n, a, path: leaves_out(a, path),
@@ -355,8 +360,8 @@ FORMS = {
     f"elements (\\d+) to (\\d+) add up to ({NUMBER}), not from ({NUMBER}) to ({NUMBER})": lambda n, a, i, j, s, l, h: (
         int(j) - int(i) + 1 == a[2] and sum(a[3][int(i) - 1 : int(j)]) == int(s)
         and [int(l), int(h)] == a[:2] and not int(l) <= int(s) <= int(h)),
-    f"of elements (\\d+) to (\\d+) ({NUMBER}) are in the set, not from ({NUMBER}) to ({NUMBER})": (
-        lambda n, a, i, j, s, l, h: int(j) - int(i) + 1 == a[2]
+    f"({NUMBER}) of elements (\\d+) to (\\d+) are in the set, not from ({NUMBER}) to ({NUMBER})": (
+        lambda n, a, s, i, j, l, h: int(j) - int(i) + 1 == a[2]
         and sum(v in a[1] for v in a[0][int(i) - 1 : int(j)]) == int(s)
         and [int(l), int(h)] == a[3:5] and not int(l) <= int(s) <= int(h)),
     f"({NUMBER}) isn't in the set, which has a lesser number and a greater one": lambda n, a, v: (

@@ -11,7 +11,8 @@ pub const HELP: &str = "\
 fzcheck: checks the output of a FlatZinc solver against its model
 
 fzcheck check [--large] [--complete] [--complete-steps N] [--cut] [--claims[=prove]]
-        [--tree FILE] [--known STREAM].. [--explain[=all] [--names FILE]] [--json] MODEL [STREAM]
+        [--tree FILE] [--known STREAM].. [--explain[=all|every] [--names FILE]] [--json]
+        MODEL [STREAM]
     Judges each solution block of the file STREAM, or of standard input where it is left out,
     against the model in the file MODEL. There is a line for each block and claim, and then the
     answer. An option that is given twice counts once.
@@ -41,6 +42,8 @@ fzcheck check [--large] [--complete] [--complete-steps N] [--cut] [--claims[=pro
                 that place too, in one line
     --explain=all
                 the same of each block that isn't satisfied, as it comes
+    --explain=every
+                the same of each point that fails in the block that the answer names, of up to 100
     --names FILE
                 explains by the names and places in FILE, the compiler's table of names:
                 minizinc -c --output-paths-to-file FILE ..

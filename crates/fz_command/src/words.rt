@@ -104,6 +104,8 @@ pub enum Explaining {
     Nothing,
     /// The block that the answer names, or a refusal.
     Answer,
+    /// The same, and of the block each point that fails.
+    Every,
     /// Each block that isn't satisfied, and a refusal.
     All,
 }
@@ -280,6 +282,7 @@ fn printing_of(given: &ArgMatches<'_>) -> Printing {
 fn explaining_of(what: Option<&str>) -> Explaining {
     match what {
         Some("all") => Explaining::All,
+        Some("every") => Explaining::Every,
         Some(_) => Explaining::Answer,
         None => Explaining::Nothing,
     }
@@ -322,7 +325,7 @@ enum Kind {
 const CLAIMED: [&str; 1] = ["prove"];
 
 /// What `--explain` may name.
-const EXPLAINED: [&str; 2] = ["answer", "all"];
+const EXPLAINED: [&str; 3] = ["answer", "all", "every"];
 
 /// The words of `show`.
 const SHOW: [(&str, Kind); 3] = [

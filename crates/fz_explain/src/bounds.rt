@@ -1,6 +1,8 @@
 //! The notes of a message on bounds of variables that have no value.
 
-use crate::notes::{Known, Note, Origin, by_its_domain, giver_of, push_variable};
+use crate::amounts::push_range;
+use crate::notes::{Known, Note, Origin, by_its_domain, giver_of, owner_of, push_variable};
+use crate::parts::{Owner, Phrase};
 use crate::remarks::Remarks;
 use crate::verdict::Reading;
 use fz_index::{Ends, Left, Narrower, Narrowing};
@@ -39,15 +41,16 @@ pub(crate) fn note_on_bounds(
 /// Adds the bounds that a step left, and what narrowed them.
 pub(crate) fn push_step(
     reading: &Reading,
-    text: &mut String,
+    phrase: &mut Phrase,
     step: &Narrowing,
 ) -> Result<(), AllocError> {
     let bounds = bounds_of(reading.model, step.left);
-    push_variable(reading, text, step.left.variable)?;
-    push_bounds(text, " is narrowed to ", bounds)?;
-    text.push_str(", ")?;
+    let owner = owner_of(reading, Some(step.left.variable));
+    push_variable(reading, phrase, step.left.variable)?;
+    push_bounds(phrase, " is narrowed to ", owner, bounds)?;
+    phrase.words(", ")?;
     let origin = narrower_of(reading, step, bounds.kind)?;
-    origin.push_to(text)
+    origin.push_to(phrase)
 }
 
 fn bounds_of(model: &Model<'_>, left: Left) -> Bounds {
@@ -69,8 +72,9 @@ fn narrower_of(reading: &Reading, step: &Narrowing, kind: Kind) -> Result<Origin
         }
         Narrower::Point(_) => Ok(Origin::Nothing),
         Narrower::Trial(Ends { low, high }) => {
-            let mut giver = String::new(reading.alloc);
-            push_bounds(&mut giver, "a trial of ", Bounds { low, high, kind })?;
+            let mut giver = Phrase::new(reading.alloc);
+            let owner = owner_of(reading, Some(step.left.variable));
+            push_bounds(&mut giver, "a trial of ", owner, Bounds { low, high, kind })?;
             Ok(Origin::Given(giver, None, Remarks::none(reading.alloc)))
         }
     }
@@ -78,28 +82,42 @@ fn narrower_of(reading: &Reading, step: &Narrowing, kind: Kind) -> Result<Origin
 
 /// Adds bounds in words, behind others.
 pub(crate) fn push_bounds(
-    text: &mut String,
+    phrase: &mut Phrase,
     front: &str,
+    owner: Option<Owner<'_>>,
     bounds: Bounds,
 ) -> Result<(), AllocError> {
-    text.push_str(front)?;
+    phrase.words(front)?;
     let Bounds { low, high, kind } = bounds;
     match kind {
-        Kind::Bool if low < high => text.push_str("false or true"),
-        Kind::Bool if low == 0 => text.push_str("false"),
-        Kind::Bool => text.push_str("true"),
-        Kind::Int | Kind::Set => push_range(text, low, high),
+        Kind::Bool if low < high => {
+            phrase.truth(owner, false)?;
+            phrase.words(" or ")?;
+            phrase.truth(owner, true)
+        }
+        Kind::Bool => phrase.truth(owner, low != 0),
+        Kind::Int | Kind::Set => push_numbers(phrase, owner, low, high),
     }
 }
 
-fn push_range(text: &mut String, low: i64, high: i64) -> Result<(), AllocError> {
-    if low == high {
-        return write!(text, "{low}");
-    }
+/// Adds the numbers between bounds, of which the least and the greatest number are none.
+fn push_numbers(
+    phrase: &mut Phrase,
+    owner: Option<Owner<'_>>,
+    low: i64,
+    high: i64,
+) -> Result<(), AllocError> {
     match (low > i64::MIN, high < i64::MAX) {
-        (true, true) => write!(text, "{low}..{high}"),
-        (true, false) => write!(text, "at least {low}"),
-        (false, true) => write!(text, "at most {high}"),
-        (false, false) => text.push_str("any number"),
+        _ if low == high => phrase.value(owner, low),
+        (true, true) => push_range(phrase, owner, low, high),
+        (true, false) => {
+            phrase.words("at least ")?;
+            phrase.value(owner, low)
+        }
+        (false, true) => {
+            phrase.words("at most ")?;
+            phrase.value(owner, high)
+        }
+        (false, false) => phrase.words("any number"),
     }
 }

@@ -1,8 +1,8 @@
 //! Blocks that aren't satisfied, to be explained.
 
 use crate::binding::Unbound;
-use crate::message::{Message, Text};
-use crate::verdict::{Reading, verdict_message, verdict_place};
+use crate::message::Text;
+use crate::verdict::{Faults, Reading, faults_of, verdict_place};
 use fz_filling::{Completion, Verdict, fill_with_steps};
 use fz_index::Refutation;
 use fz_places::NameTable;
@@ -72,21 +72,23 @@ impl<'a, 'n> Explainer<'a, 'n> {
         }
     }
 
-    /// The explanation of the verdict on a block, against the model that was loaded from the text;
-    /// none where the block is satisfied.
+    /// What is wrong with a block, against the model that was loaded from the text, in at most so
+    /// many messages: the first on the verdict, and the others on further points that fail. There
+    /// is none where the block is satisfied.
     ///
     /// # Errors
     ///
     /// Out of memory.
-    pub fn explanation<'m>(
+    pub fn faults<'m>(
         &mut self,
         alloc: Global,
         model: &Model<'m>,
         case: &Case<'_, 'm>,
-    ) -> Result<Option<Message>, AllocError> {
+        most: usize,
+    ) -> Result<Option<Faults>, AllocError> {
         self.parse(alloc);
         match &self.ast {
-            Some(ast) => self.tree_explanation(alloc, model, case, ast),
+            Some(ast) => self.tree_faults(alloc, model, case, most, ast),
             None => Err(AllocError),
         }
     }
@@ -113,13 +115,14 @@ impl<'a, 'n> Explainer<'a, 'n> {
     }
 
     /// The same, where the model is parsed.
-    fn tree_explanation<'m>(
+    fn tree_faults<'m>(
         &self,
         alloc: Global,
         model: &Model<'m>,
         case: &Case<'_, 'm>,
+        most: usize,
         ast: &Ast<'a>,
-    ) -> Result<Option<Message>, AllocError> {
+    ) -> Result<Option<Faults>, AllocError> {
         let Ok((filling, steps)) = fill_with_steps(alloc, model, self.completion, case.block) else {
             return Ok(None);
         };
@@ -134,7 +137,7 @@ impl<'a, 'n> Explainer<'a, 'n> {
             filling: &filling,
             steps: &steps,
         };
-        verdict_message(&reading)
+        Ok(Some(faults_of(&reading, most)?))
     }
 }
 

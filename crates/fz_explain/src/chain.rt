@@ -3,17 +3,19 @@
 //! bounds what narrowed them, then the values and bounds that this is from. Each constraint gives
 //! one reason for a value, and each printed value, each domain and each step is told once.
 
-ghost use Rattle.std.specs.Prelude.{◌<◌, IfSome, length};
+ghost use Rattle.std.specs.Prelude.{◌<◌, length};
 ghost use Rattle.fz_filling.specs.of_model.Meaning.{points};
 
 use crate::bounds::push_step;
 use crate::message::Message;
 use crate::notes::{Known, Note, push_domain, push_told, push_valued};
-use crate::source::{Source, source_of};
+use crate::parts::Phrase;
+use crate::past::{Past, narrower};
 use crate::variables::variables_of;
 use crate::verdict::Reading;
 use fz_index::{Narrower, Narrowing};
-use fz_reasons::giving_at;
+use fz_reasons::{Told, giving_at};
+use fz_store::Domain;
 use indexmap::IndexSet;
 use std::alloc::AllocError;
 
@@ -31,11 +33,24 @@ struct Ground {
     before: Option<usize>,
 }
 
-/// The steps to bounds, what is looked at for a variable of the message, and what is told so far.
+/// What a line tells.
+#[derive(Drop)]
+enum Finding {
+    /// The value of a variable, and the reason why a point gave it.
+    Reason(usize, Told),
+    /// A step to bounds.
+    Step(Narrowing),
+    /// The domain of the variable with this number.
+    Domain(usize),
+    /// The printed value of the variable with this number.
+    Printed(usize),
+}
+
+/// The steps, what is looked at for a variable of the message, and what is told so far.
 #[derive(Drop)]
 struct Chain<'r, 's, 'e, 'a, 't, 'n> {
     reading: &'r Reading<'s, 'e, 'a, 't, 'n>,
-    steps: &'r [Narrowing],
+    past: &'r Past<'r>,
     waiting: Vec<Ground>,
     /// The points that gave values.
     givers: IndexSet<usize>,
@@ -47,69 +62,26 @@ struct Chain<'r, 's, 'e, 'a, 't, 'n> {
     count: usize,
 }
 
-/// Adds to each variable of a message on a point why it has its value, or its bounds, to which
-/// these steps led.
+/// Adds to each variable of a message on a point why it has its value, or its bounds, by the steps
+/// that led there.
 pub(crate) fn note_chain<'r>(
     reading: &'r Reading,
     message: &mut Message,
     point: usize,
-    steps: &'r [Narrowing],
+    past: &'r Past<'r>,
 ) -> Result<(), AllocError> {
-    Chain::new(reading, steps).note(message, point)
-}
-
-/// The number of the last step of a variable.
-fn last_step(steps: &[Narrowing], variable: usize) -> Option<usize> {
-    step_before(steps, variable, steps.len(), None)
-}
-
-/// The last step of a variable.
-pub(crate) fn last_of(steps: &[Narrowing], variable: usize) -> Option<&Narrowing> {
-    steps.get(last_step(steps, variable)?)
-}
-
-/// The number of the last step of a variable before the step with this number that isn't by this
-/// point.
-fn step_before(
-    steps: &[Narrowing],
-    variable: usize,
-    end: usize,
-    but: Option<usize>,
-) -> Option<usize> {
-    let mut found = None;
-    for (number, step) in steps.iter().enumerate() {
-        if number < end && step.left.variable == variable && !is_by(step, but) {
-            found = Some(number);
-        }
-    }
-    found
-}
-
-/// Whether it is this point that narrowed bounds.
-fn is_by(step: &Narrowing, point: Option<usize>) -> bool {
-    match (narrower(step), point) {
-        (Some(own), Some(other)) => own == other,
-        _ => false,
-    }
-}
-
-/// The point that narrowed bounds, where they weren't narrowed by a trial.
-fn narrower(step: &Narrowing) -> Option<usize> {
-    match step.by {
-        Narrower::Point(point) => Some(point),
-        Narrower::Trial(_) => None,
-    }
+    Chain::new(reading, past).note(message, point)
 }
 
 impl<'r, 's, 'e, 'a, 't, 'n> Chain<'r, 's, 'e, 'a, 't, 'n> {
     fn new(
         reading: &'r Reading<'s, 'e, 'a, 't, 'n>,
-        steps: &'r [Narrowing],
+        past: &'r Past<'r>,
     ) -> Chain<'r, 's, 'e, 'a, 't, 'n> {
         let alloc = reading.alloc;
         Chain {
             reading,
-            steps,
+            past,
             waiting: Vec::new(alloc),
             givers: IndexSet::new(alloc),
             variables: IndexSet::new(alloc),
@@ -124,7 +96,7 @@ impl<'r, 's, 'e, 'a, 't, 'n> Chain<'r, 's, 'e, 'a, 't, 'n> {
         self.givers.insert(point)?;
         for note in &message.variables {
             self.variables.insert(note.number)?;
-            if let Some(step) = last_step(self.steps, note.number) {
+            if let Some(step) = self.past.last(note.number) {
                 self.taken.insert(step)?;
             }
         }
@@ -141,7 +113,7 @@ impl<'r, 's, 'e, 'a, 't, 'n> Chain<'r, 's, 'e, 'a, 't, 'n> {
         match &note.known {
             Known::Value(_) => self.wait_for(note.number, None)?,
             Known::Narrowed(_) => {
-                if let Some(step) = last_step(self.steps, note.number) {
+                if let Some(step) = self.past.last(note.number) {
                     self.wait_for_step(step)?;
                 }
             }
@@ -161,7 +133,7 @@ impl<'r, 's, 'e, 'a, 't, 'n> Chain<'r, 's, 'e, 'a, 't, 'n> {
     /// Adds what is behind the step with this number: the variables of its point, or the bounds in
     /// which a number was tried.
     fn wait_for_step(&mut self, number: usize) -> Result<(), AllocError> {
-        let Some(step) = self.steps.get(number) else {
+        let Some(step) = self.past.steps.get(number) else {
             return Ok(());
         };
         match step.by {
@@ -181,122 +153,149 @@ impl<'r, 's, 'e, 'a, 't, 'n> Chain<'r, 's, 'e, 'a, 't, 'n> {
         Ok(())
     }
 
-    /// Adds the lines on the grounds that wait and on what is behind them, nearest first.
-    fn follow(&mut self, lines: &mut Vec<String>) -> Result<(), AllocError> {
+    /// Adds the lines on the grounds that wait and on what is behind them, nearest first. Of more
+    /// than there may be the others are counted.
+    fn follow(&mut self, lines: &mut Vec<Phrase>) -> Result<(), AllocError> {
         for place in 0..MOST_VARIABLES {
             let Some(&ground) = self.waiting.get(place) else {
                 break;
             };
-            let mut line = String::new(self.reading.alloc);
-            self.look_at(&mut line, ground)?;
-            if !line.is_empty() {
-                self.count = self.count.saturating_add(1);
-                if self.count <= MOST_LINES {
-                    lines.push(line)?;
+            if let Some(finding) = self.look_at(ground)? {
+                if self.count < MOST_LINES {
+                    lines.push(line_on(self.reading, &finding)?)?;
                 }
+                self.count = self.count.saturating_add(1);
             }
         }
         Ok(())
     }
 
-    /// Makes the line on a ground, where there is something to tell.
-    fn look_at(&mut self, line: &mut String, ground: Ground) -> Result<(), AllocError> {
+    /// What there is to tell of a ground.
+    fn look_at(&mut self, ground: Ground) -> Result<Option<Finding>, AllocError> {
         let Ground { variable, before } = ground;
         match before {
-            Some(step) if !self.reading.filling.has(variable) => {
-                self.look_before(line, variable, step)
-            }
-            _ => self.look_at_value(line, variable),
+            Some(step) if !self.reading.filling.has(variable) => self.look_before(variable, step),
+            _ => self.look_at_value(variable),
         }
     }
 
-    /// The line on the bounds of a variable before the step with this number: those of another
-    /// point or of its domain, where that isn't told.
+    /// The bounds of a variable before the step with this number: those of another point or of its
+    /// domain, where that isn't told.
     fn look_before(
         &mut self,
-        line: &mut String,
         variable: usize,
         number: usize,
-    ) -> Result<(), AllocError> {
-        let Some(step) = self.steps.get(number) else {
-            return Ok(());
+    ) -> Result<Option<Finding>, AllocError> {
+        let Some(step) = self.past.steps.get(number) else {
+            return Ok(None);
         };
-        match step_before(self.steps, variable, number, narrower(step)) {
-            Some(before) => self.look_at_step(line, before),
-            None if step.left.variable == variable => Ok(()),
-            None => self.look_at_domain(line, variable),
+        match self.past.before(variable, number, narrower(step)) {
+            Some(before) => self.look_at_step(before),
+            None if step.left.variable == variable => Ok(None),
+            None => self.look_at_domain(variable),
         }
     }
 
-    /// The line on a step, where that isn't told.
-    fn look_at_step(&mut self, line: &mut String, number: usize) -> Result<(), AllocError> {
+    /// A step, where that isn't told.
+    fn look_at_step(&mut self, number: usize) -> Result<Option<Finding>, AllocError> {
         let is_new = self.taken.insert(number)?;
-        let Some(step) = self.steps.get(number) else {
-            return Ok(());
+        let Some(step) = self.past.steps.get(number) else {
+            return Ok(None);
         };
-        if is_new {
-            self.wait_for_step(number)?;
-            push_step(self.reading, line, step)?;
+        if !is_new {
+            return Ok(None);
         }
-        Ok(())
+        self.wait_for_step(number)?;
+        Ok(Some(Finding::Step(*step)))
     }
 
-    /// The line on the domain of a variable, where that isn't told.
-    fn look_at_domain(&mut self, line: &mut String, variable: usize) -> Result<(), AllocError> {
+    /// The domain of a variable, where that isn't told and isn't all values.
+    fn look_at_domain(&mut self, variable: usize) -> Result<Option<Finding>, AllocError> {
         let is_new = self.variables.insert(variable)?;
         match self.reading.model.variables().get(variable) {
-            Some(variable) if is_new => {
-                push_domain(self.reading, line, variable.name, &variable.domain)
+            Some(declared) if is_new && !matches!(declared.domain, Domain::All) => {
+                Ok(Some(Finding::Domain(variable)))
             }
-            _ => Ok(()),
+            _ => Ok(None),
         }
     }
 
-    /// The line on a value: the reason for it, where it was given, or else that it is printed,
-    /// where bounds are from it.
-    fn look_at_value(&mut self, line: &mut String, variable: usize) -> Result<(), AllocError> {
-        let reading = self.reading;
-        match source_of(reading.filling, reading.steps, variable) {
-            Source::Printed => self.look_at_printed(line, variable),
-            Source::Given(point) if point < reading.model.points() => {
-                let is_new = self.givers.insert(point)?;
-                if is_new {
-                    self.wait_for_point(point, None)?;
-                    push_reason(reading, line, variable, point)?;
-                }
-                Ok(())
-            }
-            _ => Ok(()),
+    /// A value: the reason for it, where it was given, or else that it is printed, where bounds are
+    /// from it.
+    fn look_at_value(&mut self, variable: usize) -> Result<Option<Finding>, AllocError> {
+        if !self.reading.filling.has(variable) {
+            return Ok(None);
+        }
+        match self.past.giver(variable) {
+            Some(point) => self.look_at_giver(variable, point),
+            None => self.look_at_printed(variable),
         }
     }
 
-    /// The line on a printed value, where bounds are from it and it isn't told.
-    fn look_at_printed(&mut self, line: &mut String, variable: usize) -> Result<(), AllocError> {
-        if self.steps.is_empty() {
-            return Ok(());
+    /// The reason why a point gave a variable its value, where none of this point is told.
+    fn look_at_giver(
+        &mut self,
+        variable: usize,
+        point: usize,
+    ) -> Result<Option<Finding>, AllocError> {
+        let is_new = self.givers.insert(point)?;
+        if !is_new || point >= self.reading.model.points() {
+            return Ok(None);
+        }
+        self.wait_for_point(point, None)?;
+        reason_of(self.reading, variable, point)
+    }
+
+    /// A printed value, where bounds are from it and it isn't told.
+    fn look_at_printed(&mut self, variable: usize) -> Result<Option<Finding>, AllocError> {
+        if self.past.steps.is_empty() {
+            return Ok(None);
         }
         let is_new = self.variables.insert(variable)?;
-        if is_new {
-            push_valued(self.reading, line, variable)?;
-            line.push_str(", printed")?;
+        if !is_new {
+            return Ok(None);
         }
-        Ok(())
+        Ok(Some(Finding::Printed(variable)))
     }
 }
 
-/// Adds a value that a point gave, and the reason for it.
-fn push_reason(
+/// The reason why a point gave a variable its value.
+fn reason_of(
     reading: &Reading,
-    line: &mut String,
     variable: usize,
     point: usize,
-) -> Result<(), AllocError>
+) -> Result<Option<Finding>, AllocError>
     requires in_range { point < length (points reading.now.model.now) }
 {
-    if let Some(told) = giving_at(reading.alloc, reading.model, reading.filling, point)? {
-        push_valued(reading, line, variable)?;
-        line.push_str(": ")?;
-        push_told(reading, line, &told)?;
+    match giving_at(reading.alloc, reading.model, reading.filling, point)? {
+        Some(told) => Ok(Some(Finding::Reason(variable, told))),
+        None => Ok(None),
     }
-    Ok(())
+}
+
+/// The line that tells what was found.
+fn line_on(reading: &Reading, finding: &Finding) -> Result<Phrase, AllocError> {
+    let mut line = Phrase::new(reading.alloc);
+    match finding {
+        Finding::Reason(variable, told) => {
+            push_valued(reading, &mut line, *variable)?;
+            line.words(": ")?;
+            push_told(reading, &mut line, told)?;
+        }
+        Finding::Step(step) => push_step(reading, &mut line, step)?,
+        Finding::Domain(variable) => push_declared(reading, &mut line, *variable)?,
+        Finding::Printed(variable) => {
+            push_valued(reading, &mut line, *variable)?;
+            line.words(", printed")?;
+        }
+    }
+    Ok(line)
+}
+
+/// Adds the domain of a variable.
+fn push_declared(reading: &Reading, line: &mut Phrase, variable: usize) -> Result<(), AllocError> {
+    match reading.model.variables().get(variable) {
+        Some(declared) => push_domain(reading, line, declared.name, &declared.domain),
+        None => Ok(()),
+    }
 }

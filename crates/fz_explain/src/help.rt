@@ -1,7 +1,7 @@
 //! The notes of a message on what to do about a block that is undecided.
 
-use crate::excerpt::push_shown;
 use crate::message::Message;
+use crate::parts::Phrase;
 use crate::verdict::Reading;
 use fz_filling::{Completion, Reason, Verdict};
 use fz_store::Model;
@@ -53,7 +53,7 @@ fn help_on_unknown(model: &Model<'_>, number: usize) -> &'static str {
 }
 
 fn note(alloc: Global, message: &mut Message, told: &str) -> Result<(), AllocError> {
-    message.note(String::from_str(alloc, told)?)
+    message.note(Phrase::of_words(alloc, told)?)
 }
 
 /// The same, of a block that lacks a value. A constraint that isn't known is mostly the cause, so
@@ -61,8 +61,11 @@ fn note(alloc: Global, message: &mut Message, told: &str) -> Result<(), AllocErr
 fn note_help_on_value(reading: &Reading, message: &mut Message) -> Result<(), AllocError> {
     let alloc = reading.alloc;
     if let Some((number, name)) = first_unknown(reading.model) {
-        let mut told = format!(in alloc; "constraint {number} ")?;
-        push_shown(&mut told, "", name, " isn't known, which may be why")?;
+        let mut told = Phrase::of_words(alloc, "constraint ")?;
+        told.number(number)?;
+        told.words(" ")?;
+        told.shown(name)?;
+        told.words(" isn't known, which may be why")?;
         message.note(told)?;
         note(alloc, message, USE_LIBRARY)?;
     }

@@ -5,6 +5,7 @@
 //! their words and layout, which `tests/explained` tests.
 #![tactic(auto)]
 
+mod amounts;
 mod binding;
 mod bounds;
 mod case;
@@ -19,6 +20,8 @@ mod help;
 mod message;
 mod naming;
 mod notes;
+mod parts;
+mod past;
 mod place;
 mod printed;
 mod quoting;
@@ -31,13 +34,14 @@ mod sums;
 mod variables;
 mod verdict;
 
+pub use amounts::MOST_RANGES;
 pub use binding::Unbound;
 pub use bounds::Bounds;
 pub use case::{Case, Explainer};
 pub use differing::first_differing;
 pub use domain::declared_domain;
 pub use explained::{Explained, Explanation, explain};
-pub use failing::{Sought, first_point};
+pub use failing::{Sought, failing_points, first_point};
 pub use fixed::{Fixing, fixing_of};
 pub use fz_filling::Giver;
 pub use fz_index::Refutation;
@@ -47,10 +51,12 @@ pub use fz_places::{
 };
 pub use fz_store::Kind;
 pub use message::{Message, Text, message_at};
-pub use notes::{FixedNote, Known, MOST_RANGES, Note, Origin};
+pub use notes::{FixedNote, Known, Note, Origin};
+pub use parts::{Part, PartKind, Phrase};
 pub use place::point_place;
 pub use quoting::{Quote, Source as ModelSource};
 pub use remarks::Remarks;
 pub use source::{Source, sources_are_earlier};
 pub use sums::too_large_at;
 pub use variables::variables_of;
+pub use verdict::Faults;

@@ -7,11 +7,13 @@ ghost use Rattle.fz_places.specs.Lines.{characters, last_line, line_ends};
 use crate::excerpt::{Excerpt, digits_of, push_line};
 use crate::explained::FIRST_VARIABLES;
 use crate::notes::{FixedNote, Note};
+use crate::parts::{Phrase, push_phrases};
 use crate::remarks::Remarks;
 use fz_files::Passed;
 use fz_places::{Spot, spot_of};
 use fz_tree::Span;
 use std::alloc::{AllocError, Global};
+use std::slice;
 
 /// A file or a stream by its name, of which the bytes behind what has passed are given.
 #[derive(Clone, Copy)]
@@ -49,20 +51,25 @@ pub struct Message {
     /// What the compiler wrote at the point.
     pub remarks: Remarks,
     /// Why it fails, where there is a reason to tell.
-    pub reason: Option<String>,
+    pub reason: Option<Phrase>,
     pub variables: Vec<Note>,
     /// How many variables are left out behind the first eight.
     pub left_out: usize,
     /// How many reasons for values are left out.
     pub behind_left_out: usize,
     pub fixed: Vec<FixedNote>,
-    pub notes: Vec<String>,
+    pub notes: Vec<Phrase>,
     /// The lines of the text before those of the variables.
     head: String,
 }
 
 impl Message {
-    pub(crate) fn note(&mut self, told: String) -> Result<(), AllocError> {
+    /// Adds a note at the end.
+    ///
+    /// # Errors
+    ///
+    /// Out of memory.
+    pub fn note(&mut self, told: Phrase) -> Result<(), AllocError> {
         Ok(self.notes.push(told)?)
     }
 
@@ -86,13 +93,13 @@ impl Message {
             push_line(text, front, quote.line, &quote.text, quote.front, 1)?;
         }
         if let Some(told) = &self.reason {
-            writeln!(text, "{front} {told}")?;
+            push_phrases(text, front, " ", slice::from_ref(told))?;
         }
         self.push_variables(text, front)?;
         for note in &self.fixed {
             note.push_to(text, front)?;
         }
-        push_lines(text, front, " ", &self.notes)
+        push_phrases(text, front, " ", &self.notes)
     }
 
     fn push_variables(&self, text: &mut String, front: &str) -> Result<(), AllocError> {
@@ -109,18 +116,6 @@ impl Message {
         }
         Ok(())
     }
-}
-
-pub(crate) fn push_lines(
-    text: &mut String,
-    front: &str,
-    blanks: &str,
-    lines: &[String],
-) -> Result<(), AllocError> {
-    for told in lines {
-        writeln!(text, "{front}{blanks}{told}")?;
-    }
-    Ok(())
 }
 
 /// A message without variables and notes on a byte range of a text, which counts from the first

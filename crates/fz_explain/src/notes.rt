@@ -1,26 +1,25 @@
 //! The notes of a message on variables, with their values or bounds and where these come from, and
 //! on domains.
 
+use crate::amounts::{fixing_phrase, push_ends, push_set, push_value};
 use crate::bounds::{Bounds, push_bounds};
 use crate::excerpt::{push_shown, shown_text};
-use crate::explained::{Explained, FIRST_VARIABLES, MOST_VARIABLES, explain};
+use crate::explained::{Explained, explain};
 use crate::fixed::{Fixing, fixing_of};
-use crate::message::{Message, push_lines};
+use crate::message::Message;
 use crate::naming::{best_name, model_name};
+use crate::parts::{Owner, Phrase, push_phrases};
 use crate::place::point_place;
 use crate::remarks::Remarks;
 use crate::source::Source;
 use crate::verdict::Reading;
-use fz_places::{IntSet, Range, Value, spot_of};
+use fz_places::{Value, spot_of};
 use fz_reasons::{Piece, Told, Who};
 use fz_store::{Domain, Model, Point};
 use fz_tree::{Basic, Constraint, Expr};
 use indexmap::IndexSet;
 use std::alloc::{AllocError, Global};
 use std::slice;
-
-/// The most ranges of a set that are shown.
-pub const MOST_RANGES: usize = 8;
 
 /// What is said of a variable without a value.
 const NOT_GIVEN: &str = "it isn't printed, and what is printed doesn't give it";
@@ -39,7 +38,7 @@ pub struct Note {
     pub origin: Origin,
     /// Why the value is given, and those that it is from, each as `name = value: reason`, down to
     /// what was printed; or what bounds are from.
-    pub behind: Vec<String>,
+    pub behind: Vec<Phrase>,
 }
 
 /// What is known of a variable.
@@ -59,7 +58,7 @@ pub struct FixedNote {
     pub name: String,
     /// Its name in the MiniZinc model, where that is another.
     pub element: Option<String>,
-    pub value: String,
+    pub value: Phrase,
 }
 
 /// Where a value is from, or what narrowed bounds.
@@ -68,7 +67,7 @@ pub enum Origin {
     Printed,
     /// The point that gave it, in words, its line in the model's text, but for a domain, and what
     /// the compiler wrote at it, where it is a constraint.
-    Given(String, Option<usize>, Remarks),
+    Given(Phrase, Option<usize>, Remarks),
     /// There is no value.
     Nothing,
 }
@@ -185,37 +184,50 @@ impl Note {
             write!(text, "{role}: ")?;
         }
         push_name(text, &self.name, &self.element)?;
-        self.push_known(text)?;
-        self.origin.push_to(text)?;
+        let mut known = Phrase::new(*text.allocator());
+        self.push_known(&mut known)?;
+        self.origin.push_to(&mut known)?;
+        known.push_to(text)?;
         text.push_str("\n")?;
         if let Origin::Given(_, _, remarks) = &self.origin {
             remarks.push_to(text, front, "   ")?;
         }
-        push_lines(text, front, "   ", &self.behind)
+        push_phrases(text, front, "   ", &self.behind)
     }
 
     /// Adds what is known of the variable behind its name.
-    fn push_known(&self, text: &mut String) -> Result<(), AllocError> {
+    fn push_known(&self, phrase: &mut Phrase) -> Result<(), AllocError> {
         match &self.known {
-            Known::Value(value) => push_value(text, " = ", value)?,
-            Known::Narrowed(bounds) => push_bounds(text, " is narrowed to ", *bounds)?,
-            Known::Within(bounds) => push_bounds(text, " is ", *bounds)?,
-            Known::Nothing => return text.push_str(" = none: "),
+            Known::Value(value) => push_value(phrase, " = ", None, value)?,
+            Known::Narrowed(bounds) => push_bounds(phrase, " is narrowed to ", None, *bounds)?,
+            Known::Within(bounds) => push_bounds(phrase, " is ", None, *bounds)?,
+            Known::Nothing => return phrase.words(" = none: "),
         }
-        text.push_str(", ")
+        phrase.words(", ")
     }
 }
 
 impl Origin {
     /// Adds the origin in words.
-    pub(crate) fn push_to(&self, text: &mut String) -> Result<(), AllocError> {
+    pub(crate) fn push_to(&self, phrase: &mut Phrase) -> Result<(), AllocError> {
         match self {
-            Origin::Printed => text.push_str("printed"),
-            Origin::Given(giver, Some(line), _) => write!(text, "by {giver}, line {line}"),
-            Origin::Given(giver, None, _) => write!(text, "by {giver}"),
-            Origin::Nothing => text.push_str(NOT_GIVEN),
+            Origin::Printed => phrase.words("printed"),
+            Origin::Given(giver, line, _) => {
+                phrase.words("by ")?;
+                phrase.append(giver)?;
+                push_line(phrase, *line)
+            }
+            Origin::Nothing => phrase.words(NOT_GIVEN),
         }
     }
+}
+
+fn push_line(phrase: &mut Phrase, line: Option<usize>) -> Result<(), AllocError> {
+    let Some(line) = line else {
+        return Ok(());
+    };
+    phrase.words(", ")?;
+    phrase.line(line)
 }
 
 impl FixedNote {
@@ -223,8 +235,9 @@ impl FixedNote {
     pub(crate) fn push_to(&self, text: &mut String, front: &str) -> Result<(), AllocError> {
         write!(text, "{front} ")?;
         push_name(text, &self.name, &self.element)?;
-        let value = &self.value;
-        writeln!(text, " = {value}, fixed")
+        text.push_str(" = ")?;
+        self.value.push_to(text)?;
+        text.push_str(", fixed\n")
     }
 }
 
@@ -239,40 +252,53 @@ fn push_name(text: &mut String, name: &str, element: &Option<String>) -> Result<
 /// Adds a variable with its value, by its name in the MiniZinc model where it has one.
 pub(crate) fn push_valued(
     reading: &Reading,
-    text: &mut String,
+    phrase: &mut Phrase,
     variable: usize,
 ) -> Result<(), AllocError> {
-    push_variable(reading, text, variable)?;
+    push_variable(reading, phrase, variable)?;
     match reading.filling.get(variable) {
-        Some(value) => push_value(text, " = ", value),
+        Some(value) => push_value(phrase, " = ", owner_of(reading, Some(variable)), value),
         None => Ok(()),
     }
+}
+
+/// Whose a value is, where it is a variable's.
+pub(crate) fn owner_of<'s>(
+    reading: &Reading<'s, '_, '_, '_, '_>,
+    variable: Option<usize>,
+) -> Option<Owner<'s>> {
+    let name = name_at(reading.model, variable?);
+    Some(Owner::of(name))
 }
 
 /// Adds a variable's name in the MiniZinc model where it has one, else in this.
 pub(crate) fn push_variable(
     reading: &Reading,
-    text: &mut String,
+    phrase: &mut Phrase,
     variable: usize,
 ) -> Result<(), AllocError> {
-    push_best_name(reading, text, name_at(reading.model, variable))
+    push_best_name(reading, phrase, name_at(reading.model, variable))
 }
 
-fn push_best_name(reading: &Reading, text: &mut String, name: &[u8]) -> Result<(), AllocError> {
-    let name = best_name(reading.alloc, reading.names, reading.ast, name)?;
-    text.push_str(&name)
+fn push_best_name(reading: &Reading, phrase: &mut Phrase, name: &[u8]) -> Result<(), AllocError> {
+    let best = best_name(reading.alloc, reading.names, reading.ast, name)?;
+    phrase.variable(Owner::of(name), &best)
 }
 
 /// Adds a reason in words, with the names of its variables.
 pub(crate) fn push_told(
     reading: &Reading,
-    text: &mut String,
+    phrase: &mut Phrase,
     told: &Told,
 ) -> Result<(), AllocError> {
     for piece in &told.pieces {
-        match piece {
-            Piece::Text(said) => text.push_str(said)?,
-            Piece::Name(variable) => push_variable(reading, text, *variable)?,
+        match *piece {
+            Piece::Words(said) => phrase.words(said)?,
+            Piece::Name(variable) => push_variable(reading, phrase, variable)?,
+            Piece::Number(number, variable) => {
+                phrase.value(owner_of(reading, variable), number)?;
+            }
+            Piece::Truth(truth, variable) => phrase.truth(owner_of(reading, variable), truth)?,
         }
     }
     Ok(())
@@ -302,13 +328,15 @@ pub(crate) fn giver_of(reading: &Reading, point: &Point<'_>) -> Result<Origin, A
     match point {
         Point::Domain(_) => by_its_domain(alloc),
         Point::Definition(name) => {
-            let mut giver = String::new(alloc);
-            push_shown(&mut giver, "definition of ", name, "")?;
+            let mut giver = Phrase::of_words(alloc, "definition of ")?;
+            giver.shown(name)?;
             Ok(Origin::Given(giver, line_of(reading, point), Remarks::none(alloc)))
         }
         Point::Constraint(number, name) => {
-            let mut giver = format!(in alloc; "constraint {number} ")?;
-            push_shown(&mut giver, "", name, "")?;
+            let mut giver = Phrase::of_words(alloc, "constraint ")?;
+            giver.number(*number)?;
+            giver.words(" ")?;
+            giver.shown(name)?;
             let mut remarks = Remarks::none(alloc);
             remarks.add_point(reading, point)?;
             Ok(Origin::Given(giver, line_of(reading, point), remarks))
@@ -323,41 +351,8 @@ fn line_of(reading: &Reading, point: &Point<'_>) -> Option<usize> {
 }
 
 pub(crate) fn by_its_domain(alloc: Global) -> Result<Origin, AllocError> {
-    let giver = String::from_str(alloc, "its domain")?;
+    let giver = Phrase::of_words(alloc, "its domain")?;
     Ok(Origin::Given(giver, None, Remarks::none(alloc)))
-}
-
-/// Adds a value behind a word.
-pub(crate) fn push_value(text: &mut String, front: &str, value: &Value) -> Result<(), AllocError> {
-    text.push_str(front)?;
-    match value {
-        Value::Int(number) => write!(text, "{number}"),
-        Value::Bool(truth) => write!(text, "{truth}"),
-        Value::Set(set) => push_set(text, set),
-    }
-}
-
-fn push_set(text: &mut String, set: &IntSet) -> Result<(), AllocError> {
-    let ranges = set.ranges(*text.allocator())?;
-    push_ranges(text, &ranges)
-}
-
-/// Adds the ranges of a set: of more than eight the first eight, and how many are left out.
-fn push_ranges(text: &mut String, ranges: &[Range]) -> Result<(), AllocError> {
-    text.push_str("{")?;
-    for (place, range) in ranges.iter().take(MOST_RANGES).enumerate() {
-        let comma = if place > 0 { "," } else { "" };
-        let Range { lo, hi } = range;
-        write!(text, "{comma}{lo}")?;
-        if lo != hi {
-            write!(text, "..{hi}")?;
-        }
-    }
-    let left_out = ranges.len().saturating_sub(MOST_RANGES);
-    if left_out > 0 {
-        write!(text, ",... and {left_out} more")?;
-    }
-    text.push_str("}")
 }
 
 /// Adds notes on the parameters and the arrays without variables that a constraint names.
@@ -404,8 +399,7 @@ fn note_fixing(
     name: &[u8],
     fixing: &Fixing,
 ) -> Result<(), AllocError> {
-    let mut value = String::new(reading.alloc);
-    push_fixing(&mut value, fixing)?;
+    let value = fixing_phrase(reading.alloc, name, fixing)?;
     let element = model_name(reading.alloc, reading.names, reading.ast, name)?;
     let name = shown_text(reading.alloc, name)?;
     Ok(
@@ -417,28 +411,6 @@ fn note_fixing(
     )
 }
 
-/// Adds the value of a parameter, or a list of values: of more than twelve the first eight, how
-/// many are left out, and the last four.
-fn push_fixing(text: &mut String, fixing: &Fixing) -> Result<(), AllocError> {
-    if fixing.is_array {
-        text.push_str("[")?;
-    }
-    let left_out = fixing.values.len().saturating_sub(MOST_VARIABLES);
-    for (place, value) in fixing.values.iter().enumerate() {
-        let comma = if place > 0 { "," } else { "" };
-        if left_out > 0 && place == FIRST_VARIABLES {
-            write!(text, "{comma}... and {left_out} more ...")?;
-        }
-        if place < FIRST_VARIABLES || place >= FIRST_VARIABLES.saturating_add(left_out) {
-            push_value(text, comma, value)?;
-        }
-    }
-    if fixing.is_array {
-        text.push_str("]")?;
-    }
-    Ok(())
-}
-
 /// Adds the note on the domain of a name; there is none on a domain of all values.
 pub(crate) fn note_domain(
     reading: &Reading,
@@ -447,7 +419,7 @@ pub(crate) fn note_domain(
     domain: &Domain,
 ) -> Result<(), AllocError> {
     let (Point::Domain(name) | Point::Definition(name) | Point::Constraint(_, name)) = point;
-    let mut told = String::new(reading.alloc);
+    let mut told = Phrase::new(reading.alloc);
     push_domain(reading, &mut told, name, domain)?;
     if told.is_empty() {
         return Ok(());
@@ -458,19 +430,20 @@ pub(crate) fn note_domain(
 /// Adds what is said of the domain of a name: nothing of all values.
 pub(crate) fn push_domain(
     reading: &Reading,
-    text: &mut String,
+    phrase: &mut Phrase,
     name: &[u8],
     domain: &Domain,
 ) -> Result<(), AllocError> {
     if let Domain::All = domain {
         return Ok(());
     }
-    text.push_str("the domain of ")?;
-    push_best_name(reading, text, name)?;
-    text.push_str(" is ")?;
+    phrase.words("the domain of ")?;
+    push_best_name(reading, phrase, name)?;
+    phrase.words(" is ")?;
+    let owner = Some(Owner::of(name));
     match domain {
         Domain::All => Ok(()),
-        Domain::Within(lo, hi) => write!(text, "{lo}..{hi}"),
-        Domain::Among(set) => push_set(text, set),
+        Domain::Within(lo, hi) => push_ends(phrase, owner, *lo, *hi),
+        Domain::Among(set) => push_set(phrase, owner, set),
     }
 }

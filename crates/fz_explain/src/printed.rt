@@ -1,12 +1,14 @@
 //! The notes of a message on a printed name that has another value.
 
+use crate::amounts::push_value;
 use crate::case::Case;
 use crate::differing::first_differing;
-use crate::excerpt::push_shown;
+use crate::excerpt::shown_text;
 use crate::fixed::value_of;
 use crate::message::Message;
 use crate::naming::push_element;
-use crate::notes::{note_variables, push_value};
+use crate::notes::note_variables;
+use crate::parts::{Owner, Phrase};
 use crate::place::declaration_of;
 use crate::verdict::Reading;
 use fz_data::literal_value;
@@ -81,9 +83,9 @@ fn note_elements(
         return Ok(());
     };
     note_scalar(reading, message, scalar)?;
-    let mut told = String::new(reading.alloc);
+    let mut told = Phrase::new(reading.alloc);
     push_name(reading, &mut told, name, place)?;
-    push_values(&mut told, scalar, literal)?;
+    push_values(&mut told, Owner::at(name, place), scalar, literal)?;
     message.note(told)
 }
 
@@ -91,31 +93,36 @@ fn note_elements(
 /// number.
 fn push_name(
     reading: &Reading,
-    text: &mut String,
+    phrase: &mut Phrase,
     name: &[u8],
     place: usize,
 ) -> Result<(), AllocError> {
     if let Some(decl) = declaration_of(reading.ast, name)
         && let Some(indices) = indices_of(reading.alloc, decl, place)?
     {
-        return push_element(text, name, &indices);
+        let mut element = String::new(reading.alloc);
+        push_element(&mut element, name, &indices)?;
+        return phrase.variable(Owner::at(name, place), &element);
     }
-    let number = place.saturating_add(1);
-    write!(text, "element {number} of ")?;
-    push_shown(text, "", name, "")
+    phrase.words("element ")?;
+    phrase.number(place.saturating_add(1))?;
+    phrase.words(" of ")?;
+    phrase.variable(Owner::of(name), &shown_text(reading.alloc, name)?)
 }
 
 /// Adds what is printed for a scalar, and what it is, where it is no variable.
-fn push_values(text: &mut String, scalar: Scalar<'_>, literal: &Literal) -> Result<(), AllocError> {
-    let alloc = *text.allocator();
-    push_value(
-        text,
-        " is printed as ",
-        &literal_value(alloc, &literal.what)?,
-    )?;
-    text.push_str(" here")?;
+fn push_values(
+    phrase: &mut Phrase,
+    owner: Owner<'_>,
+    scalar: Scalar<'_>,
+    literal: &Literal,
+) -> Result<(), AllocError> {
+    let alloc = *phrase.parts.allocator();
+    let printed = literal_value(alloc, &literal.what)?;
+    push_value(phrase, " is printed as ", Some(owner), &printed)?;
+    phrase.words(" here")?;
     match value_of(alloc, scalar)? {
-        Some(value) => push_value(text, ", and is ", &value),
+        Some(value) => push_value(phrase, ", and is ", Some(owner), &value),
         None => Ok(()),
     }
 }

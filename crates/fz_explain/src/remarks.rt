@@ -2,7 +2,6 @@
 //! of its expression, and the path to it in the model.
 
 use crate::excerpt::{cut_text, push_shown, shown_text};
-use crate::message::push_lines;
 use crate::place::point_notes;
 use crate::quoting::{Quote, Source, source_in};
 use crate::verdict::Reading;
@@ -136,6 +135,18 @@ impl Remarks {
         }
         text.push_str("\n")
     }
+}
+
+fn push_lines(
+    text: &mut String,
+    front: &str,
+    blanks: &str,
+    lines: &[String],
+) -> Result<(), AllocError> {
+    for told in lines {
+        writeln!(text, "{front}{blanks}{told}")?;
+    }
+    Ok(())
 }
 
 /// A loop variable with its value, with blanks around the sign of equality.

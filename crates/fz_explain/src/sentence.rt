@@ -3,12 +3,30 @@
 use crate::case::Case;
 use crate::excerpt::push_shown;
 use fz_filling::{Fault, Reason, Verdict};
+use fz_store::Point;
 use std::alloc::{AllocError, Global};
 
 /// The sentence of a message on the verdict of a case.
 pub(crate) fn sentence(alloc: Global, case: &Case<'_, '_>) -> Result<String, AllocError> {
     let mut text = String::new(alloc);
     push_sentence(&mut text, case)?;
+    Ok(text)
+}
+
+/// The sentence of a message on a point that fails in the block of this number.
+pub(crate) fn point_sentence(
+    alloc: Global,
+    point: &Point<'_>,
+    number: usize,
+) -> Result<String, AllocError> {
+    let fault = match *point {
+        Point::Domain(name) => Fault::Domain(name),
+        Point::Definition(name) => Fault::Definition(name),
+        Point::Constraint(number, name) => Fault::Constraint(number, name),
+    };
+    let mut text = String::new(alloc);
+    push_fault(&mut text, fault)?;
+    write!(text, " in block {number}")?;
     Ok(text)
 }
 

@@ -7,17 +7,20 @@ ghost use Rattle.fz_filling.specs.of_model.Meaning.{points};
 use crate::case::Case;
 use crate::chain::note_chain;
 use crate::domain::declared_domain;
-use crate::failing::{Sought, first_point};
+use crate::failing::{Sought, failing_points, first_point};
 use crate::help::note_help;
 use crate::message::{Message, Text, message_at};
-use crate::notes::{note_domain, note_fixed, note_variables, push_told};
+use crate::notes::{note_domain, note_fixed, note_variables, owner_of, push_told};
+use crate::parts::{Owner, Phrase};
+use crate::past::Past;
 use crate::place::{constraint_of, point_place};
 use crate::printed::{note_printed, printed_place};
 use crate::refutation::note_refutation;
-use crate::sentence::sentence;
+use crate::sentence::{point_sentence, sentence};
 use crate::sums::too_large_at;
 use crate::variables::variables_of;
 use fz_filling::{Completion, Fault, Giver, Reason, Verdict};
+use fz_index::Narrowing;
 use fz_places::NameTable;
 use fz_reasons::{Told, reason_at};
 use fz_store::{Goal, Model, Partial, Point, Term};
@@ -36,6 +39,14 @@ pub(crate) struct Reading<'s, 'e, 'a, 't, 'n> {
     pub completion: Completion,
     pub filling: &'s Partial,
     pub steps: &'s [Giver],
+}
+
+impl Reading<'_, '_, '_, '_, '_> {
+    /// The steps of the filling, and these to bounds, by their variables.
+    pub(crate) fn past<'r>(&self, steps: &'r [Narrowing]) -> Result<Past<'r>, AllocError> {
+        let variables = self.model.variables().len();
+        Past::new(self.alloc, variables, self.steps, steps)
+    }
 }
 
 /// The point that the verdict on a case is about; none of a printed name or the objective.
@@ -73,8 +84,94 @@ pub(crate) fn verdict_place<'t>(
     }
 }
 
+/// What is wrong with a block: the message on its verdict, and one on each other point that fails,
+/// as far as they are told.
+#[derive(Drop)]
+pub struct Faults {
+    pub messages: Vec<Message>,
+    /// How many points that fail are left out.
+    pub left_out: usize,
+}
+
+impl Faults {
+    /// The text of all messages, of which each line ends with LF.
+    ///
+    /// # Errors
+    ///
+    /// Out of memory.
+    pub fn text(&self, alloc: Global) -> Result<String, AllocError> {
+        let mut text = String::new(alloc);
+        for message in &self.messages {
+            text.push_str(&message.text(alloc)?)?;
+        }
+        if self.left_out > 0 {
+            writeln!(text, "... and {} more points fail", self.left_out)?;
+        }
+        Ok(text)
+    }
+}
+
+/// The messages on a case: at most so many, of which the first is on its verdict. Where only that
+/// is wanted, no other points are looked for.
+pub(crate) fn faults_of(reading: &Reading, most: usize) -> Result<Faults, AllocError> {
+    let mut faults = Faults {
+        messages: Vec::new(reading.alloc),
+        left_out: 0,
+    };
+    if let Some(message) = verdict_message(reading)? {
+        faults.messages.push(message)?;
+    }
+    if most > 1 {
+        add_failing(reading, &mut faults, most)?;
+    }
+    Ok(faults)
+}
+
+/// Adds the messages on the points that fail, but for the one that the verdict is about.
+fn add_failing(reading: &Reading, faults: &mut Faults, most: usize) -> Result<(), AllocError> {
+    let points = failing_points(reading.alloc, reading.model, reading.filling)?;
+    let told = is_on_a_point(reading.case) as usize;
+    for point in points.iter().skip(told) {
+        if faults.messages.len() >= most {
+            faults.left_out = faults.left_out.saturating_add(1);
+        } else if *point < reading.model.points()
+            && let Some(message) = point_message(reading, *point)?
+        {
+            faults.messages.push(message)?;
+        }
+    }
+    Ok(())
+}
+
+/// Whether the verdict on a case is about the first point that fails.
+fn is_on_a_point(case: &Case<'_, '_>) -> bool {
+    match case.verdict {
+        Verdict::Violated(fault) => {
+            case.refuted.is_none() && !matches!(fault, Fault::Printed(_) | Fault::NotBetter(_, _))
+        }
+        Verdict::Satisfied | Verdict::Undecided(_) => false,
+    }
+}
+
+/// The message on a point that fails.
+fn point_message(reading: &Reading, number: usize) -> Result<Option<Message>, AllocError>
+    requires in_range { number < length (points reading.now.model.now) }
+{
+    let point = reading.model.point(number);
+    let Some(place) = point_place(reading.ast, &point) else {
+        return Ok(None);
+    };
+    let said = point_sentence(reading.alloc, &point, reading.case.number)?;
+    let mut message = message_at(reading.alloc, &reading.text, place, said)?;
+    if let Some(message) = &mut message {
+        note_text(reading, message, &point)?;
+        note_point(reading, message, number)?;
+    }
+    Ok(message)
+}
+
 /// The message on the verdict of a case.
-pub(crate) fn verdict_message(reading: &Reading) -> Result<Option<Message>, AllocError> {
+fn verdict_message(reading: &Reading) -> Result<Option<Message>, AllocError> {
     let case = reading.case;
     let Some((text, place)) = verdict_place(reading.ast, reading.text, case) else {
         return Ok(None);
@@ -139,12 +236,14 @@ fn note_point(reading: &Reading, message: &mut Message, point: usize) -> Result<
 {
     let (alloc, model) = (reading.alloc, reading.model);
     note_reason(reading, message, point)?;
-    note_chain(reading, message, point, &[])?;
+    note_chain(reading, message, point, &reading.past(&[])?)?;
     if let Some(domain) = declared_domain(model, point) {
         note_domain(reading, message, &model.point(point), domain)?;
     }
     if let Some(place) = too_large_at(alloc, model, reading.filling, point)? {
-        message.note(format!(in alloc; "the sum leaves 128 bits at element {place}")?)?;
+        let mut told = Phrase::of_words(alloc, "the sum leaves 128 bits at element ")?;
+        told.number(place)?;
+        message.note(told)?;
     }
     Ok(())
 }
@@ -166,7 +265,7 @@ fn note_told(
     variables: &[usize],
     told: &Told,
 ) -> Result<(), AllocError> {
-    let mut reason = String::new(reading.alloc);
+    let mut reason = Phrase::new(reading.alloc);
     push_told(reading, &mut reason, told)?;
     message.reason = Some(reason);
     note_variables(reading, message, variables, &told.who)
@@ -180,21 +279,51 @@ fn note_objective(
     before: i64,
     now: i64,
 ) -> Result<(), AllocError> {
-    let (alloc, number) = (reading.alloc, reading.case.number);
-    let earlier = number.saturating_sub(1);
-    if let Goal::Minimize(Term::Var(number)) | Goal::Maximize(Term::Var(number)) = reading
-        .model
-        .goal()
-    {
-        note_variables(reading, message, &[*number], &[])?;
-    }
-    let mut told = if let Verdict::Violated(_) = reading.case.verdict {
-        format!(in alloc; "block {earlier} has {before}")?
-    } else {
-        format!(in alloc; "{before} was found for block {earlier}")?
+    let variable = match reading.model.goal() {
+        Goal::Minimize(Term::Var(number)) | Goal::Maximize(Term::Var(number)) => Some(*number),
+        _ => None,
     };
-    write!(told, ", and block {number} has {now}")?;
+    if let Some(number) = variable {
+        note_variables(reading, message, &[number], &[])?;
+    }
+    let told = objectives(reading, owner_of(reading, variable), before, now)?;
     message.note(told)
+}
+
+/// What the objective is in the block of a case, and what it is in the block before, or was found
+/// for that.
+fn objectives(
+    reading: &Reading,
+    owner: Option<Owner<'_>>,
+    before: i64,
+    now: i64,
+) -> Result<Phrase, AllocError> {
+    let number = reading.case.number;
+    let earlier = number.saturating_sub(1);
+    let mut told = Phrase::new(reading.alloc);
+    if let Verdict::Violated(_) = reading.case.verdict {
+        push_objective(&mut told, "block ", earlier, owner, before)?;
+    } else {
+        told.value(owner, before)?;
+        told.words(" was found for block ")?;
+        told.number(earlier)?;
+    }
+    push_objective(&mut told, ", and block ", number, owner, now)?;
+    Ok(told)
+}
+
+/// Adds what the objective is in a block.
+fn push_objective(
+    told: &mut Phrase,
+    front: &str,
+    block: usize,
+    owner: Option<Owner<'_>>,
+    value: i64,
+) -> Result<(), AllocError> {
+    told.words(front)?;
+    told.number(block)?;
+    told.words(" has ")?;
+    told.value(owner, value)
 }
 
 fn objective_place(ast: &Ast<'_>) -> Option<Span> {

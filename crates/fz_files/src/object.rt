@@ -31,7 +31,7 @@ impl Object {
     }
 
     /// An element of a list that is a text.
-    fn element(&mut self, text: &str) {
+    pub fn element(&mut self, text: &str) {
         self.is_whole &= self.writer.string(text).is_ok();
     }
 
@@ -66,6 +66,11 @@ impl Object {
     /// Begins a member whose value is a list; what is added from here on are its elements.
     pub fn begin_list(&mut self, key: &str) {
         self.key(key);
+        self.is_whole &= self.writer.begin_array().is_ok();
+    }
+
+    /// Begins an element of a list that is a list.
+    pub fn begin_inner_list(&mut self) {
         self.is_whole &= self.writer.begin_array().is_ok();
     }
 

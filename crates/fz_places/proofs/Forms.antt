@@ -218,6 +218,12 @@ numbers_inside d rest is all = together d (124 ∷ rest) (digits_inside d is.1) 
 inner_inside : (s : Segment) → IsSegment s → list_all is_inside (inner s) ≡ true
 inner_inside s is = numbers_inside s.line.now _ is.line (numbers_inside s.column.now _ is.column (numbers_inside s.end_line.now _ is.end_line (numbers_inside s.end_column.now s.what.now is.end_column is.what)))
 
+-- a text of that form ends with a semicolon
+pub ended_form : (text : List ℕ) → HasForm text → (front : List ℕ) × (text ≡ front ++ 59 ∷ [])
+ended_form text f =
+    let last = f.segment in
+    (last.file.now ++ inner last, sym f.text ∙ sym (append-nil (segment_text last)) ∙ opened last [] ∙ ap (λ u. last.file.now ++ u) (sym (with_last last [])) ∙ sym (append_assoc last.file.now (inner last) (59 ∷ [])))
+
 pub next_form : (s : Segment) (behind rest : List ℕ) → segment_text s ++ behind ≡ rest → HasForm rest
     → (behind ≡ [] → ⊥) → HasForm behind
 next_form s behind rest is f some =

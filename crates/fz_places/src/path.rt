@@ -126,6 +126,11 @@ fn segments_of<'a>(alloc: Global, path: &'a [u8]) -> Result<Option<Vec<Segment<'
     ensures segments { IfOk result (λ o. IfSome o (λ v. AreSegmentsOf path.now v.items)) }
     ensures none { IfOk result (λ o. IsNone o → HasForm path.now → ⊥) }
 {
+    // What ends a segment is looked for at each place that may be behind its file. Where the path
+    // ends with one, the first look finds it.
+    if !path.ends_with(b";") {
+        return Ok(None);
+    }
     let mut segments = Vec::new(alloc);
     let mut rest = path;
     // A segment takes a byte at least.

@@ -1,9 +1,11 @@
 //! Why a row over tours, bins, knapsacks or runs fails, in words. Elements count from 1.
 
-use crate::element_words::{meet_in_bin, say_named};
+use crate::element_words::{say_lying, say_named};
 use crate::reason::{BinLoad, NoIndex, Reason, Ring, Run, Total};
 use crate::rings::follow;
 use crate::teller::{Teller, from_one, say};
+use crate::told::Sayable;
+use fz_globals::index_at;
 use fz_store::Builtin;
 
 /// The most positions of a ring that are listed.
@@ -17,12 +19,12 @@ pub(crate) fn say_arrangement(teller: &mut Teller<'_, '_>, reason: &Reason) {
         Reason::BinLoad(load) => say_bin_load(teller, load),
         Reason::Weight(Total { total, wanted }) => {
             meet_taken(teller);
-            say!(teller; "the weight is {total}, not {wanted}");
+            say!(teller; "the weight is ", total, ", not ", teller.value(3, 0, wanted));
             teller.bracket(3, 0);
         }
         Reason::Profit(Total { total, wanted }) => {
             meet_taken(teller);
-            say!(teller; "the profit is {total}, not {wanted}");
+            say!(teller; "the profit is ", total, ", not ", teller.value(4, 0, wanted));
             teller.bracket(4, 0);
         }
         Reason::Run(run) => say_run(teller, run),
@@ -31,21 +33,31 @@ pub(crate) fn say_arrangement(teller: &mut Teller<'_, '_>, reason: &Reason) {
 }
 
 fn say_no_index(teller: &mut Teller<'_, '_>, found: NoIndex) {
-    let (value, low, high) = (found.value, found.low, found.high);
-    if teller.builtin == Builtin::ArraySetElement {
-        say!(teller; "the index is {value}");
-        teller.bracket(0, 0);
-    } else {
-        say_named(teller, "element", 1, found.place);
-        say!(teller; " is {value}");
-    }
-    say!(teller; ", not from {low} to {high}");
+    let NoIndex { place, value, .. } = found;
+    let variable = match teller.builtin {
+        Builtin::ArraySetElement => {
+            say!(teller; "the index is ", teller.value(0, 0, value));
+            teller.bracket(0, 0);
+            teller.variable(0, 0)
+        }
+        Builtin::GecodeCircuit => {
+            say_position(teller, place);
+            say!(teller; " is ", teller.value(1, place, value));
+            teller.variable(1, place)
+        }
+        _ => {
+            say_named(teller, "element ", 1, place);
+            say!(teller; " is ", teller.value(1, place, value));
+            teller.variable(1, place)
+        }
+    };
+    say!(teller; ", not from ", found.low.piece().of(variable));
+    say!(teller; " to ", found.high.piece().of(variable));
 }
 
 fn say_bin_load(teller: &mut Teller<'_, '_>, found: BinLoad) {
-    let (bin, load, wanted) = (found.bin, found.load, found.wanted);
-    meet_in_bin(teller, bin);
-    say!(teller; "in bin {bin} lies {load}, not {wanted}");
+    say_lying(teller, found.bin, found.load, "");
+    say!(teller; teller.value(0, found.place, found.wanted));
     teller.bracket(0, found.place);
 }
 
@@ -69,12 +81,12 @@ fn say_run(teller: &mut Teller<'_, '_>, run: Run) {
         teller.meet_as(list, element, "element");
     }
     if is_among {
-        say!(teller; "of elements {one} to {last} {sum} are in the set");
+        say!(teller; sum, " of elements ", one, " to ", last, " are in the set");
     } else {
-        say!(teller; "elements {one} to {last} add up to {sum}");
+        say!(teller; "elements ", one, " to ", last, " add up to ", sum);
     }
     let (low, high) = (teller.view.int(low), teller.view.int(low + 1));
-    say!(teller; ", not from {low} to {high}");
+    say!(teller; ", not from ", low, " to ", high);
 }
 
 /// The positions of a ring in their order, by their indices in the list.
@@ -83,10 +95,9 @@ fn say_ring(teller: &mut Teller<'_, '_>, ring: Ring) {
     teller.say("the circle ");
     let mut position = ring.start;
     for _step in 0..ring.steps.min(MOST_LISTED) {
-        say!(teller; "{} → ", index_of(first, position));
-        if let Ok(number) = usize::try_from(position) {
-            teller.meet_at(1, number.saturating_sub(1));
-        }
+        let place = place_of(position);
+        say!(teller; teller.value(1, place, index_of(first, position)), " → ");
+        teller.meet_at(1, place);
         match follow(first, &next, position) {
             Some(following) => position = following,
             None => break,
@@ -95,11 +106,26 @@ fn say_ring(teller: &mut Teller<'_, '_>, ring: Ring) {
     if ring.steps > MOST_LISTED {
         teller.say("... → ");
     }
-    say!(teller; "{}", index_of(first, ring.start));
+    say!(teller; teller.value(1, place_of(ring.start), index_of(first, ring.start)));
     match teller.builtin {
         Builtin::FzcheckSubcircuit => teller.say(" leaves out others that are moved"),
-        _ => say!(teller; " has {} of {}", ring.steps, next.len()),
+        _ => say!(teller; " has ", ring.steps, " of ", next.len()),
     }
+}
+
+/// An element of a circuit by its number, or by its index where that is another.
+pub(crate) fn say_position(teller: &mut Teller<'_, '_>, place: usize) {
+    let index = index_at(teller.view.int(0), place);
+    if index == from_one(place) as i128 {
+        return say_named(teller, "element ", 1, place);
+    }
+    say!(teller; "the element with index ", teller.value(1, place, index));
+    teller.bracket(1, place);
+}
+
+/// The place in the list of a position, which counts from 1; that of no element where it is none.
+fn place_of(position: i128) -> usize {
+    usize::try_from(position.saturating_sub(1)).unwrap_or(usize::MAX)
 }
 
 /// The index of a position, which counts from 1.

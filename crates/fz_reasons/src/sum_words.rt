@@ -1,6 +1,7 @@
 //! A sum of products in words, first with the names of variables and then with their values.
 
 use crate::teller::{Teller, say};
+use crate::told::Sayable;
 use fz_kernel::Elements;
 
 /// The most products that are listed.
@@ -20,7 +21,7 @@ pub(crate) fn say_sum(teller: &mut Teller<'_, '_>) {
     }
     let listed = say_products(teller, false, least_listed(&factors, &terms));
     if count > listed {
-        say!(teller; " + {} more", count.saturating_sub(listed));
+        say!(teller; " + ", count.saturating_sub(listed), " more");
     }
     teller.say(" = ");
 }
@@ -44,9 +45,9 @@ fn say_products(teller: &mut Teller<'_, '_>, by_name: bool, least: u128) -> usiz
             say_factor(teller, listed == 0, factor);
             match teller.variable(1, place) {
                 Some(variable) if by_name => teller.name(variable),
-                _ => {
+                variable => {
                     teller.meet_at(1, place);
-                    say_term(teller, listed == 0 && factor == 1, value);
+                    say_term(teller, listed == 0 && factor == 1, value, variable);
                 }
             }
             listed += 1;
@@ -65,16 +66,22 @@ fn say_factor(teller: &mut Teller<'_, '_>, is_first: bool, factor: i64) {
     });
     match factor.unsigned_abs() {
         1 => {}
-        size => say!(teller; "{size}·"),
+        size => say!(teller; size, "·"),
     }
 }
 
-/// A number: behind a sign one that is below 0 stands in brackets.
-pub(crate) fn say_term(teller: &mut Teller<'_, '_>, stands_alone: bool, value: i64) {
+/// A number, of a variable where one has it: behind a sign one that is below 0 stands in brackets.
+pub(crate) fn say_term(
+    teller: &mut Teller<'_, '_>,
+    stands_alone: bool,
+    value: i64,
+    variable: Option<usize>,
+) {
+    let number = value.piece().of(variable);
     if value < 0 && !stands_alone {
-        say!(teller; "({value})");
+        say!(teller; "(", number, ")");
     } else {
-        say!(teller; "{value}");
+        say!(teller; number);
     }
 }
 

@@ -1,18 +1,22 @@
 //! How a reason is put into words: what is said grows, with the names of variables in it.
 
-use crate::told::{Piece, Told, Who};
+use crate::told::{Piece, Sayable, Told, Who};
 use fz_kernel::{ArgumentView, Elements};
 use fz_store::{Argument, Builtin, ConstraintParts, Partial, Slot, part};
 use std::alloc::{AllocError, Global};
-use std::fmt::Display;
 use std::ops::Range;
 
 /// The most variables that are in a reason: no list of them is shown that is as long.
 const MOST_MET: usize = 16;
 
-/// Says a format.
+/// Says pieces, one behind another: words, numbers, values of variables.
 macro_rules! say {
-    ($teller:expr; $($format:tt)+) => { $teller.say_format(format_args!($($format)+)) };
+    ($teller:expr; $($piece:expr),+) => {{
+        $(
+            let piece = crate::told::Sayable::piece($piece);
+            $teller.push(piece);
+        )+
+    }};
 }
 
 pub(crate) use say;
@@ -64,33 +68,18 @@ impl<'s, 'a> Teller<'s, 'a> {
         }
     }
 
-    pub(crate) fn say(&mut self, text: &str) {
-        self.add(String::from_str(self.alloc, text));
-    }
-
-    /// Says a format: `say!` calls this.
-    pub(crate) fn say_format<D: Display + Drop>(&mut self, text: D) {
-        self.add(String::format(self.alloc, text));
-    }
-
-    fn add(&mut self, text: Result<String, AllocError>) {
-        match text {
-            Ok(text) => self.push(Piece::Text(text)),
-            Err(_) => self.is_whole = false,
-        }
-    }
-
-    fn push(&mut self, piece: Piece) {
+    /// Says a piece: `say!` calls this.
+    pub(crate) fn push(&mut self, piece: Piece) {
         self.is_whole &= self.told.pieces.push(piece).is_ok();
     }
 
-    /// Says a number, or the Boolean that it stands for.
-    pub(crate) fn say_value(&mut self, is_truth: bool, value: i128) {
-        match value {
-            0 if is_truth => self.say("false"),
-            _ if is_truth => self.say("true"),
-            _ => say!(self; "{value}"),
-        }
+    pub(crate) fn say(&mut self, words: &'static str) {
+        self.push(Piece::Words(words));
+    }
+
+    /// A value as that of what is at a place of an argument, where this is a variable.
+    pub(crate) fn value<S: Sayable>(&self, argument: usize, place: usize, value: S) -> Piece {
+        value.piece().of(self.variable(argument, place))
     }
 
     /// Says a variable by its name.
@@ -158,6 +147,20 @@ impl<'s, 'a> Teller<'s, 'a> {
                 self.meet_at(argument, place);
             }
         }
+    }
+
+    /// A variable among the elements of a list: the first that is this number, or else the first.
+    pub(crate) fn one_of(&self, argument: usize, value: i64) -> Option<usize> {
+        let elements = self.view.elements(argument);
+        let mut first = None;
+        for place in 0..elements.len() {
+            let variable = self.variable(argument, place);
+            if variable.is_some() && elements.int(place) == value {
+                return variable;
+            }
+            first = first.or(variable);
+        }
+        first
     }
 
     /// The variable that is at a place of an argument. A scalar is at the place 0 of its own.

@@ -4,6 +4,7 @@
 use crate::element_words::say_named;
 use crate::sum_words::say_term;
 use crate::teller::{Teller, say};
+use crate::told::Sayable;
 use fz_builtins::{Said, said_of};
 use fz_globals::place_from;
 use fz_store::{Builtin, SetError};
@@ -21,13 +22,14 @@ pub(crate) enum RowResult {
 /// written before them, between them and behind them.
 struct Term(Builtin, &'static str, Option<&'static str>, &'static str);
 
-static TERMS: [Term; 16] = [
+static TERMS: [Term; 17] = [
     Term(Builtin::IntPlus, "", Some(" + "), ""),
     Term(Builtin::IntMinus, "", Some(" - "), ""),
     Term(Builtin::IntTimes, "", Some("·"), ""),
     Term(Builtin::IntMin, "min(", Some(", "), ")"),
     Term(Builtin::IntMax, "max(", Some(", "), ")"),
     Term(Builtin::IntAbs, "|", None, "|"),
+    Term(Builtin::IntNegate, "-", None, ""),
     Term(Builtin::IntDiv, "", Some(" div "), ""),
     Term(Builtin::IntMod, "", Some(" mod "), ""),
     Term(Builtin::IntPow, "", Some("^"), ""),
@@ -41,7 +43,7 @@ static TERMS: [Term; 16] = [
 ];
 
 /// The rows whose result is told in words.
-static PHRASES: [(Builtin, &str); 8] = [
+static PHRASES: [(Builtin, &str); 10] = [
     (Builtin::ArrayIntMaximum, "the greatest element is "),
     (Builtin::ArrayIntMinimum, "the least element is "),
     (
@@ -49,6 +51,11 @@ static PHRASES: [(Builtin, &str); 8] = [
         "the greatest has index ",
     ),
     (Builtin::GecodeMinimumArgIntOffset, "the least has index "),
+    (
+        Builtin::GecodeMaximumArgBoolOffset,
+        "the greatest has index ",
+    ),
+    (Builtin::GecodeSetWeights, "the sum of the weights is "),
     (Builtin::SetCard, "the number of elements is "),
     (Builtin::FznAmong, "the number of elements in the set is "),
     (Builtin::FznNvalue, "the number of values is "),
@@ -77,11 +84,13 @@ pub(crate) fn say_result(teller: &mut Teller<'_, '_>, found: RowResult) {
         _ => say_front(teller),
     }
     match found {
-        RowResult::Number(_, Some(number)) => {
-            say!(teller; "{number}");
+        RowResult::Number(argument, Some(number)) => {
+            say!(teller; teller.value(argument, 0, number));
             name_extreme(teller, number);
         }
-        RowResult::Truth(_, Some(truth)) => say!(teller; "{truth}"),
+        RowResult::Truth(argument, Some(truth)) => {
+            say!(teller; teller.value(argument, 0, truth));
+        }
         RowResult::Number(_, None) | RowResult::Truth(_, None) => teller.say("no value"),
     }
 }
@@ -123,7 +132,8 @@ pub(crate) fn say_front(teller: &mut Teller<'_, '_>) {
         Builtin::FznCountEq => {
             let value = teller.view.int(1);
             teller.meet_equal(0, value);
-            say!(teller; "the number of times {value} comes is ");
+            let found = teller.one_of(0, value);
+            say!(teller; "the number of times ", value.piece().of(found), " comes is ");
         }
         _ => {}
     }
@@ -147,7 +157,7 @@ fn say_by(teller: &mut Teller<'_, '_>, term: &Term, by_name: bool) {
         teller.say(between);
         say_operand(teller, 1, by_name);
     }
-    say!(teller; "{behind} = ");
+    say!(teller; *behind, " = ");
 }
 
 /// One of the first two arguments, by its name or its value.
@@ -156,17 +166,21 @@ fn say_operand(teller: &mut Teller<'_, '_>, argument: usize, by_name: bool) {
         Some(variable) if by_name => return teller.name(variable),
         _ => {}
     }
-    let (number, truth) = (teller.view.int(argument), teller.view.truth(argument));
-    match teller.builtin {
-        Builtin::IntMin | Builtin::IntMax | Builtin::IntAbs => say_term(teller, true, number),
-        Builtin::IntPow => say_term(teller, false, number),
+    let stands_alone = match teller.builtin {
+        Builtin::IntMin | Builtin::IntMax | Builtin::IntAbs => true,
+        Builtin::IntPow | Builtin::IntNegate => false,
         Builtin::IntPlus
         | Builtin::IntMinus
         | Builtin::IntTimes
         | Builtin::IntDiv
-        | Builtin::IntMod => say_term(teller, argument == 0, number),
-        _ => say!(teller; "{truth}"),
-    }
+        | Builtin::IntMod => argument == 0,
+        _ => {
+            let truth = teller.view.truth(argument);
+            return say!(teller; teller.value(argument, 0, truth));
+        }
+    };
+    let number = teller.view.int(argument);
+    say_term(teller, stands_alone, number, teller.variable(argument, 0));
 }
 
 /// The element at an index, with the name of what has the index.
@@ -174,9 +188,9 @@ fn say_indexed(teller: &mut Teller<'_, '_>) {
     let index = teller.view.int(0);
     if let Some(variable) = teller.variable(0, 0) {
         teller.name(variable);
-        say!(teller; " = {index}, and ");
+        say!(teller; " = ", teller.value(0, 0, index), ", and ");
     }
-    say!(teller; "element {index}");
+    say!(teller; "element ", teller.value(0, 0, index));
     let count = teller.view.elements(1).len();
     if let Some(place) = place_from(index, 1, count) {
         teller.bracket(1, place);
@@ -186,12 +200,12 @@ fn say_indexed(teller: &mut Teller<'_, '_>) {
 
 /// The first element that decides on whether all are true, or whether one is, or else that none
 /// does.
-fn say_decisive(teller: &mut Teller<'_, '_>, decides: bool, none: &str) {
+fn say_decisive(teller: &mut Teller<'_, '_>, decides: bool, none: &'static str) {
     let elements = teller.view.elements(0);
     for place in 0..elements.len() {
         if elements.truth(place) == decides {
-            say_named(teller, "element", 0, place);
-            return say!(teller; " is {decides}: ");
+            say_named(teller, "element ", 0, place);
+            return say!(teller; " is ", teller.value(0, place, decides), ": ");
         }
     }
     teller.say(none);

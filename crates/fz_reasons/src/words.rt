@@ -10,7 +10,7 @@ use crate::sides::{comparison, sides_of};
 use crate::sum_words::say_sum;
 use crate::teller::{Teller, say};
 use crate::term_words::{RowResult, result_of, say_front, say_result};
-use crate::told::Told;
+use crate::told::{Piece, Sayable, Told};
 use fz_kernel::Readiness;
 use fz_store::{Builtin, Form, Known, Model, Partial, PointParts};
 use std::alloc::{AllocError, Global};
@@ -176,7 +176,37 @@ fn say_left(teller: &mut Teller<'_, '_>, sides: Sides) {
             say_front(teller);
         }
     }
-    teller.say_value(are_truths(operands), sides.left);
+    let left = Piece::amount(are_truths(operands), sides.left);
+    say!(teller; left.of(owner_of(teller, operands)));
+}
+
+/// The variable whose value a computed side is, or with whose value it is compared.
+fn owner_of(teller: &Teller<'_, '_>, operands: Operands) -> Option<usize> {
+    match operands {
+        Operands::Scalars | Operands::Truths => teller.variable(0, 0).or(teller.variable(1, 0)),
+        Operands::Products if is_one_term(teller) => teller.variable(1, 0),
+        _ => teller.variable(right_argument(operands), 0),
+    }
+}
+
+/// Whether a sum of products is a term alone.
+fn is_one_term(teller: &Teller<'_, '_>) -> bool {
+    let factors = teller.view.elements(0);
+    factors.len() == 1 && factors.int(0) == 1
+}
+
+/// The argument with which a row compares what it reads or computes.
+fn right_argument(operands: Operands) -> usize {
+    match operands {
+        Operands::CountLast => 0,
+        Operands::Scalars | Operands::Truths | Operands::All | Operands::Any => 1,
+        Operands::Products
+        | Operands::Weights
+        | Operands::Count
+        | Operands::And
+        | Operands::Or
+        | Operands::Xor => 2,
+    }
 }
 
 /// The Booleans that are true are in the reason.
@@ -192,7 +222,8 @@ fn meet_true(teller: &mut Teller<'_, '_>) {
 /// How often a number is an element of a list.
 pub(crate) fn say_count(teller: &mut Teller<'_, '_>, list: usize, value: i64, count: i128) {
     teller.meet_equal(list, value);
-    say!(teller; "{value} comes {count} times");
+    let found = teller.one_of(list, value);
+    say!(teller; value.piece().of(found), " comes ", count, " times");
 }
 
 /// The right one of two sides, behind the sign.
@@ -200,18 +231,10 @@ fn say_right(teller: &mut Teller<'_, '_>, sides: Sides) {
     let Some((operands, _)) = comparison(teller.builtin) else {
         return;
     };
-    teller.say(sign(sides.relation));
-    teller.say_value(are_truths(operands), sides.right);
-    let argument = match operands {
-        Operands::CountLast => 0,
-        Operands::Scalars | Operands::Truths | Operands::All | Operands::Any => 1,
-        Operands::Products
-        | Operands::Weights
-        | Operands::Count
-        | Operands::And
-        | Operands::Or
-        | Operands::Xor => 2,
-    };
+    let argument = right_argument(operands);
+    let owner = teller.variable(argument, 0).or(owner_of(teller, operands));
+    let right = Piece::amount(are_truths(operands), sides.right);
+    say!(teller; sign(sides.relation), right.of(owner));
     teller.bracket(argument, 0);
 }
 
@@ -225,12 +248,12 @@ fn say_reason(teller: &mut Teller<'_, '_>, reason: &Reason) {
         }
         Reason::Number(other) => {
             say_result(teller, RowResult::Number(other.argument, other.wanted));
-            say!(teller; ", not {}", other.value);
+            say!(teller; ", not ", teller.value(other.argument, 0, other.value));
             teller.bracket(other.argument, 0);
         }
         Reason::Truth(other) => {
             say_result(teller, RowResult::Truth(other.argument, other.wanted));
-            say!(teller; ", not {}", other.value);
+            say!(teller; ", not ", teller.value(other.argument, 0, other.value));
             teller.bracket(other.argument, 0);
         }
         Reason::NoLiteral => teller.say("no literal is true"),

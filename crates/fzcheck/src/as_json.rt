@@ -4,7 +4,8 @@
 use crate::events::{Counts, add_place, refused_word};
 use fz_check::{Answer, CheckError, Span, refusal_fault};
 use fz_explain::{
-    Bounds, FixedNote, Kind, Known, MOST_RANGES, Message, Note, Origin, Remarks, Unbound, Value,
+    Bounds, Faults, FixedNote, Kind, Known, MOST_RANGES, Message, Note, Origin, Phrase, Remarks,
+    Unbound, Value,
 };
 use fz_files::Object;
 use std::alloc::{AllocError, Global};
@@ -65,6 +66,59 @@ fn add_text(object: &mut Object, key: &str, text: &Option<String>) {
     }
 }
 
+/// Adds the elements of a list that are the parts of a text.
+fn add_parts(object: &mut Object, phrase: &Phrase) {
+    for part in &phrase.parts {
+        object.begin_element();
+        object.text("kind", part.kind.name());
+        object.text("text", &part.text);
+        add_text(object, "variable", &part.variable);
+        if let Some(element) = part.element {
+            object.count("element", element);
+        }
+        object.end();
+    }
+}
+
+/// The key of a text, or of a list of texts, and that of the parts.
+type Keys = (&'static str, &'static str);
+
+/// Adds a text, and its parts.
+fn add_phrase(
+    alloc: Global,
+    object: &mut Object,
+    keys: Keys,
+    phrase: &Phrase,
+) -> Result<(), AllocError> {
+    object.text(keys.0, &phrase.text(alloc)?);
+    object.begin_list(keys.1);
+    add_parts(object, phrase);
+    object.end_list();
+    Ok(())
+}
+
+/// Adds texts, and a list of the parts of each.
+fn add_phrases(
+    alloc: Global,
+    object: &mut Object,
+    keys: Keys,
+    phrases: &[Phrase],
+) -> Result<(), AllocError> {
+    object.begin_list(keys.0);
+    for phrase in phrases {
+        object.element(&phrase.text(alloc)?);
+    }
+    object.end_list();
+    object.begin_list(keys.1);
+    for phrase in phrases {
+        object.begin_inner_list();
+        add_parts(object, phrase);
+        object.end_list();
+    }
+    object.end_list();
+    Ok(())
+}
+
 fn add_note(alloc: Global, object: &mut Object, note: &Note) -> Result<(), AllocError> {
     object.begin_element();
     object.text("name", &note.name);
@@ -78,7 +132,7 @@ fn add_note(alloc: Global, object: &mut Object, note: &Note) -> Result<(), Alloc
     match &note.origin {
         Origin::Printed => object.text("source", "printed"),
         Origin::Given(giver, line, remarks) => {
-            object.text("source", giver);
+            object.text("source", &giver.text(alloc)?);
             if let Some(line) = line {
                 object.count("line", *line);
             }
@@ -87,7 +141,7 @@ fn add_note(alloc: Global, object: &mut Object, note: &Note) -> Result<(), Alloc
         Origin::Nothing => {}
     }
     if !note.behind.is_empty() {
-        object.texts("behind", &note.behind);
+        add_phrases(alloc, object, ("behind", "behind_parts"), &note.behind)?;
     }
     object.end();
     Ok(())
@@ -109,19 +163,20 @@ fn add_remarks(object: &mut Object, remarks: &Remarks) {
 }
 
 /// Adds what is fixed, where something is.
-fn add_fixed(object: &mut Object, fixed: &[FixedNote]) {
+fn add_fixed(alloc: Global, object: &mut Object, fixed: &[FixedNote]) -> Result<(), AllocError> {
     if fixed.is_empty() {
-        return;
+        return Ok(());
     }
     object.begin_list("fixed");
     for note in fixed {
         object.begin_element();
         object.text("name", &note.name);
         add_text(object, "element", &note.element);
-        object.text("value", &note.value);
+        add_phrase(alloc, object, ("value", "value_parts"), &note.value)?;
         object.end();
     }
     object.end_list();
+    Ok(())
 }
 
 /// The line of the answer, with the printed variables that nothing binds, where there are some.
@@ -197,17 +252,37 @@ pub fn names_line(
     object.line()
 }
 
-/// The line of the explanation of a block.
-pub fn explanation_line(
+/// The lines of the explanation of a block, one for each message. The last tells how many points
+/// that fail are left out.
+pub fn explanation_lines(
+    alloc: Global,
+    block: usize,
+    faults: &Faults,
+) -> Result<Vec<u8>, AllocError> {
+    let mut lines = Vec::new(alloc);
+    let mut waiting = faults.messages.len();
+    for message in &faults.messages {
+        waiting = waiting.saturating_sub(1);
+        let left_out = if waiting == 0 { faults.left_out } else { 0 };
+        lines.extend_from_slice(&explanation_line(alloc, block, message, left_out)?)?;
+    }
+    Ok(lines)
+}
+
+/// The line of a message on a block, where so many further points that fail are left out.
+fn explanation_line(
     alloc: Global,
     block: usize,
     message: &Message,
+    points_left_out: usize,
 ) -> Result<Vec<u8>, AllocError> {
     let mut object = Object::new(alloc);
     object.count("explained", block);
     add_message(&mut object, Some(message));
     add_remarks(&mut object, &message.remarks);
-    add_text(&mut object, "reason", &message.reason);
+    if let Some(reason) = &message.reason {
+        add_phrase(alloc, &mut object, ("reason", "reason_parts"), reason)?;
+    }
     object.begin_list("variables");
     for note in &message.variables {
         add_note(alloc, &mut object, note)?;
@@ -215,7 +290,8 @@ pub fn explanation_line(
     object.end_list();
     add_left_out(&mut object, "left_out", message.left_out);
     add_left_out(&mut object, "behind_left_out", message.behind_left_out);
-    add_fixed(&mut object, &message.fixed);
-    object.texts("notes", &message.notes);
+    add_fixed(alloc, &mut object, &message.fixed)?;
+    add_phrases(alloc, &mut object, ("notes", "notes_parts"), &message.notes)?;
+    add_left_out(&mut object, "points_left_out", points_left_out);
     object.line()
 }

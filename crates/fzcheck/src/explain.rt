@@ -3,7 +3,7 @@
 
 use fz_check::{BlockError, CheckError, ModelError, StreamError, SyntaxError, Told, refusal_fault};
 use fz_command::Size;
-use fz_explain::{Message, Text, message_at};
+use fz_explain::{Message, Phrase, Text, message_at};
 use fz_files::{Passed, count_blocks};
 use fz_words::{Given, Refused, meaning as syntax_meaning};
 use std::alloc::{AllocError, Global};
@@ -62,7 +62,7 @@ pub fn explanation(
     if let Some(message) = &mut message
         && has_larger(error, size)
     {
-        message.notes.push(String::from_str(alloc, LARGER)?)?;
+        message.note(Phrase::of_words(alloc, LARGER)?)?;
     }
     Ok(message)
 }

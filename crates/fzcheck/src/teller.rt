@@ -4,15 +4,18 @@
 ghost use Rattle.std.specs.Prelude.{⊤};
 ghost use Rattle.fz_check.specs.Report.{by, event_line};
 
-use crate::as_json::{answer_line, explanation_line};
+use crate::as_json::{answer_line, explanation_lines};
 use crate::events::{Counts, block_line, claim_line, cut_line, refuted_line};
 use crate::reading::read_file;
 use fz_check::{Answer, Event, Judged, Taker, TextTaker, Verdict};
 use fz_command::{CheckOptions, Explaining, Form};
-use fz_explain::{Case, Explainer, Message, Remarks, Text, Unbound};
+use fz_explain::{Case, Explainer, Faults, Remarks, Text, Unbound};
 use fz_files::{Passed, Progress, Recent};
 use std::alloc::AllocError;
 use std::cell::RefCell;
+
+/// The most points of a block that are explained.
+const MOST_POINTS: usize = 100;
 
 /// The most bytes of a MiniZinc model of which a line is quoted.
 const MOST_QUOTED: u32 = 16_777_216;
@@ -29,7 +32,7 @@ pub struct Teller<'r, 'n> {
     progress: Progress<'r>,
     counts: Counts,
     /// The number and the explanation of the block that the answer so far names.
-    told: Option<(usize, Message)>,
+    told: Option<(usize, Faults)>,
     /// The printed variables that nothing binds, where there are some.
     unconstrained: Option<Unbound>,
 }
@@ -64,8 +67,8 @@ impl<'r, 'n> Teller<'r, 'n> {
     /// Tells why the block isn't satisfied that the answer names, where that wasn't told before.
     pub fn tell(&mut self) {
         // Without memory for an explanation there is none.
-        if let Some((_, message)) = self.told.take()
-            && let Ok(text) = message.text(self.rt.alloc())
+        if let Some((_, faults)) = self.told.take()
+            && let Ok(text) = faults.text(self.rt.alloc())
         {
             self.progress.clear();
             let _ = eprint!(self.rt; "{text}");
@@ -127,7 +130,7 @@ impl<'r, 'n> Teller<'r, 'n> {
             .note(matches!(judged.verdict, Verdict::Satisfied));
         let is_explained = match self.options.explains {
             Explaining::Nothing => false,
-            Explaining::Answer => is_named,
+            Explaining::Answer | Explaining::Every => is_named,
             Explaining::All => true,
         };
         if is_explained {
@@ -141,11 +144,17 @@ impl<'r, 'n> Teller<'r, 'n> {
     fn explain(&mut self, judged: &Judged<'_, '_>) {
         self.told = None;
         let alloc = self.rt.alloc();
+        let most = match self.options.explains {
+            Explaining::Every => MOST_POINTS,
+            Explaining::Nothing | Explaining::Answer | Explaining::All => 1,
+        };
         if let Ok(case) = case_of(self.stream, self.recent, judged)
-            && let Ok(Some(mut message)) = self.explainer.explanation(alloc, judged.model, &case)
+            && let Ok(Some(mut faults)) = self.explainer.faults(alloc, judged.model, &case, most)
         {
-            quote(self.rt, &mut message.remarks);
-            self.told = Some((judged.number, message));
+            for place in 0..faults.messages.len() {
+                quote(self.rt, &mut faults.messages[place].remarks);
+            }
+            self.told = Some((judged.number, faults));
         }
     }
 
@@ -183,13 +192,13 @@ impl<'r, 'n> Teller<'r, 'n> {
         }
     }
 
-    /// Adds the line of JSON of the explanation that waits.
+    /// Adds the lines of JSON of the explanation that waits.
     fn add_explanation(&mut self, lines: &mut Vec<u8>) {
         // Without memory for an explanation there is none.
-        if let Some((number, message)) = self.told.take()
-            && let Ok(line) = explanation_line(self.rt.alloc(), number, &message)
+        if let Some((number, faults)) = self.told.take()
+            && let Ok(told) = explanation_lines(self.rt.alloc(), number, &faults)
         {
-            let _ = lines.extend_from_slice(&line);
+            let _ = lines.extend_from_slice(&told);
         }
     }
 
