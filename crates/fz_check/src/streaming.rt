@@ -1,7 +1,8 @@
 //! The check of a stream over a reader and a writer. The parts of the stream are judged one after
 //! another, while the reader gives its bytes, and a taker says what is written of each.
 
-ghost use Rattle.std.specs.Prelude.{◌≡◌, ℕ, [], IfOk, IfErr};
+ghost use Rattle.std.specs.Prelude.{◌≡◌, ℕ, List, [], IfOk, IfErr};
+ghost use Rattle.fz_search.specs.of_model.Texts.{IsLoadedFromWithin};
 ghost use Rattle.fz_check.specs.Cutting.{HoldsOfJudged};
 ghost use Rattle.fz_check.specs.Headline.{HasSolutionsWithin, HoldsOfStream};
 ghost use Rattle.fz_check.specs.Reported.{HasSolutions};
@@ -140,9 +141,44 @@ pub fn check_events<R: Read, W: Write, T: Taker>(
         Ok(loaded) => loaded,
         Err(error) => return Err(error),
     };
+    check_loaded(alloc, &loaded, reader, writer, taker, reads, options)
+}
+
+/// As `check_events` for each text that the model is loaded from, under the limits of the options.
+///
+/// # Errors
+///
+/// As `check_events` has them of a stream.
+pub fn check_loaded<R: Read, W: Write, T: Taker>(
+    alloc: Global,
+    model: &Model<'_>,
+    reader: &mut R,
+    writer: &mut W,
+    taker: &mut T,
+    reads: u64,
+    options: Options<'_>,
+) -> Result<Answer, CheckError>
+    ensures accepted { (source : List ℕ) → IsLoadedFromWithin options.entry.limits source model.now
+        → IfOk result (λ a. (count : ℕ) → a ≡ Answer.Accepted count
+        → HoldsOfStream (R.remaining reader.old) (R.remaining reader.new)
+        (λ given. HoldsOfJudged options.entry.limits options.entry.ending given
+        (λ front _. HasSolutionsWithin options.entry.limits source front count))) }
+    ensures report { (source : List ℕ) → IsLoadedFromWithin options.entry.limits source model.now
+        → IfOk result (λ a. HoldsOfStream (R.remaining reader.old) (R.remaining reader.new)
+        (λ given. HoldsOfJudged options.entry.limits options.entry.ending given
+        (λ front cut. IsReportedWith options.entry cut T.text source front
+        (W.contents writer.old) (W.contents writer.new) (answer_view a)))) }
+    ensures refused { (source : List ℕ) → IsLoadedFromWithin options.entry.limits source model.now
+        → IfErr result (IsEndedWith options.entry T.text source
+        (R.remaining reader.old) (R.remaining reader.new) (W.contents writer.old)
+        (W.contents writer.new)) }
+    ensures reads { SpendsReads reads 0 (R.remaining reader.old) (R.remaining reader.new) }
+    ensures end_read { IfOk result
+        (λ _. SpendsReads reads 1 (R.remaining reader.old) (R.remaining reader.new)) }
+{
     let mut lines = Vec::new(alloc);
     let outcome = tell_parts(
-        alloc, &loaded, reader, writer, taker, reads, options, &mut lines,
+        alloc, model, reader, writer, taker, reads, options, &mut lines,
     );
     match write_lines(writer, &mut lines) {
         Ok(()) => outcome,

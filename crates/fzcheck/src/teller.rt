@@ -5,12 +5,14 @@ ghost use Rattle.std.specs.Prelude.{⊤};
 ghost use Rattle.fz_check.specs.Report.{by, event_line};
 
 use crate::as_json::{answer_line, explanation_line};
+use crate::check::name_of_stream;
 use crate::events::{Counts, block_line, claim_line, cut_line, refuted_line};
 use crate::reading::read_file;
+use crate::screen::Screen;
 use fz_check::{Answer, Event, Judged, Taker, TextTaker, Verdict};
-use fz_command::{CheckOptions, Explaining, Form};
+use fz_command::{Check, Explaining, Form};
 use fz_explain::{Case, Explainer, Message, Remarks, Text, Unbound};
-use fz_files::{Passed, Progress, Recent};
+use fz_files::{Passed, Recent};
 use std::alloc::AllocError;
 use std::cell::RefCell;
 
@@ -21,12 +23,10 @@ const MOST_QUOTED: u32 = 16_777_216;
 #[derive(Drop)]
 pub struct Teller<'r, 'n> {
     rt: &'r HostRuntime,
-    options: CheckOptions,
+    asked: &'r Check<'r>,
     explainer: Explainer<'r, 'n>,
-    /// The name of the stream.
-    stream: &'r str,
     recent: &'r RefCell<Recent>,
-    progress: Progress<'r>,
+    screen: &'r RefCell<Screen<'r>>,
     counts: Counts,
     /// The number and the explanation of the block that the answer so far names.
     told: Option<(usize, Message)>,
@@ -38,54 +38,61 @@ impl<'r, 'n> Teller<'r, 'n> {
     /// Before the first block. What is stored of the stream is in the cell.
     pub fn new(
         rt: &'r HostRuntime,
-        options: CheckOptions,
+        asked: &'r Check<'r>,
         explainer: Explainer<'r, 'n>,
-        stream: &'r str,
         recent: &'r RefCell<Recent>,
+        screen: &'r RefCell<Screen<'r>>,
     ) -> Teller<'r, 'n> {
         Teller {
             rt,
-            options,
+            asked,
             explainer,
-            stream,
             recent,
-            progress: Progress::new(rt),
+            screen,
             counts: Counts::new(),
             told: None,
             unconstrained: None,
         }
     }
 
-    /// Removes the line of progress.
-    pub fn clear(&mut self) {
-        self.progress.clear();
-    }
-
-    /// Tells why the block isn't satisfied that the answer names, where that wasn't told before.
-    pub fn tell(&mut self) {
-        // Without memory for an explanation there is none.
-        if let Some((_, message)) = self.told.take()
-            && let Ok(text) = message.text(self.rt.alloc())
-        {
-            self.progress.clear();
-            let _ = eprint!(self.rt; "{text}");
+    /// Ends the check. Where it has an answer, tells why the block isn't satisfied that this names,
+    /// where that wasn't told before, and which printed variables nothing binds.
+    pub fn end(&mut self, has_answer: bool) {
+        if has_answer {
+            self.add_told();
+            self.add_unconstrained();
+        }
+        if let Ok(mut screen) = self.screen.try_borrow_mut() {
+            screen.show();
+            screen.clear();
         }
     }
 
-    /// Tells which printed variables nothing binds.
-    pub fn tell_unconstrained(&self) {
-        if let Form::Text = self.options.form
+    /// Adds the explanation that waits to what is shown behind the lines that come next.
+    fn add_told(&mut self) {
+        // Without memory for an explanation there is none.
+        if let Some((_, message)) = self.told.take()
+            && let Ok(text) = message.text(self.rt.alloc())
+            && let Ok(mut screen) = self.screen.try_borrow_mut()
+        {
+            screen.add(&text);
+        }
+    }
+
+    fn add_unconstrained(&self) {
+        if let Form::Text = self.asked.form
             && let Some(printed) = &self.unconstrained
             && let Ok(text) = printed.text(self.rt.alloc())
+            && let Ok(mut screen) = self.screen.try_borrow_mut()
         {
-            let _ = eprint!(self.rt; "{text}");
+            screen.add(&text);
         }
     }
 
     /// Finds them at the first block, where they are to be told. Without memory none are.
     #[inline(never)]
     fn find_unconstrained(&mut self, judged: &Judged<'_, '_>) {
-        if let (Explaining::Nothing, Form::Text) = (self.options.explains, self.options.form) {
+        if let (Explaining::Nothing, Form::Text) = (self.asked.explains, self.asked.form) {
             return;
         }
         if let Ok(found) = self.explainer.unconstrained(self.rt.alloc(), judged.model) {
@@ -123,15 +130,20 @@ impl<'r, 'n> Teller<'r, 'n> {
             Verdict::Violated(_) => violated == 0,
         };
         self.counts.add(&judged.verdict);
-        self.progress
-            .note(matches!(judged.verdict, Verdict::Satisfied));
-        let is_explained = match self.options.explains {
+        if let Ok(mut screen) = self.screen.try_borrow_mut() {
+            screen.count(matches!(judged.verdict, Verdict::Satisfied));
+        }
+        let is_explained = match self.asked.explains {
             Explaining::Nothing => false,
             Explaining::Answer => is_named,
             Explaining::All => true,
         };
         if is_explained {
             self.explain(judged);
+        }
+        if let Ok(mut recent) = self.recent.try_borrow_mut() {
+            let Block { offset, text, .. } = judged.block;
+            recent.end_block(offset.saturating_add(text.len()));
         }
     }
 
@@ -141,7 +153,7 @@ impl<'r, 'n> Teller<'r, 'n> {
     fn explain(&mut self, judged: &Judged<'_, '_>) {
         self.told = None;
         let alloc = self.rt.alloc();
-        if let Ok(case) = case_of(self.stream, self.recent, judged)
+        if let Ok(case) = case_of(name_of_stream(self.asked), self.recent, judged)
             && let Ok(Some(mut message)) = self.explainer.explanation(alloc, judged.model, &case)
         {
             quote(self.rt, &mut message.remarks);
@@ -162,7 +174,7 @@ impl<'r, 'n> Teller<'r, 'n> {
         match event {
             Event::Block(judged) => {
                 let mut lines = self.block_line(judged)?;
-                if let Explaining::All = self.options.explains {
+                if let Explaining::All = self.asked.explains {
                     self.add_explanation(&mut lines);
                 }
                 Ok(lines)
@@ -198,7 +210,7 @@ impl<'r, 'n> Teller<'r, 'n> {
         if let Verdict::Satisfied = judged.verdict {
             return block_line(alloc, judged, None);
         }
-        let case = case_of(self.stream, self.recent, judged)?;
+        let case = case_of(name_of_stream(self.asked), self.recent, judged)?;
         block_line(alloc, judged, self.explainer.place(alloc, &case)?)
     }
 }
@@ -252,8 +264,8 @@ impl Taker for Teller<'_, '_> {
     fn take(&mut self, event: &Event<'_, '_>, line: &mut Vec<u8>) -> Result<(), AllocError> {
         TextTaker.take(event, line)?;
         self.hear(event);
-        if let Explaining::All = self.options.explains {
-            self.tell();
+        if let Explaining::All = self.asked.explains {
+            self.add_told();
         }
         Ok(())
     }
