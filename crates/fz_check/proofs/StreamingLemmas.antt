@@ -332,6 +332,15 @@ module _ {o : Options} {text : Event → List ℕ → Type 0} {m : Model} {reads
       living_answered (Ok a) told same found = subst (λ b. AnswersOnceWritten o text m reads left left' w w' lines' (answer_view b)) (sym same) (answers_then told found)
       living_answered (Err e) told same found = tt
 
+-- ---- once there is an answer
+
+pub end_read_then : (o : Options) (text : Event → List ℕ → Type 0) (m : Model) (reads : ℕ) (left left' w w' : Option (List ℕ)) (lines : List ℕ)
+    → (r : Result the_answer.Answer CheckError)
+    → IfOk r (λ a. AnswersOnceWritten o text m reads left left' w w' lines (answer_view a))
+    → IfOk r (λ _. SpendsReads reads 1 left left')
+end_read_then o text m reads left left' w w' lines r answered =
+    IfOk-weaker r _ _ (λ a h. record { given = h.given; consumes = h.consumes; few = omega (arith, h.few) }) answered
+
 -- ---- once the lines that are left are written, of the model of a text
 
 module _ (o : Options) (text : Event → List ℕ → Type 0) (model : List ℕ) (m : Model) (reads : ℕ) (left left' w w' w'' : Option (List ℕ)) (lines : List ℕ) (loaded : IsLoadedFromWithin o.limits model m) where
@@ -353,9 +362,6 @@ module _ (o : Options) (text : Event → List ℕ → Type 0) (model : List ℕ)
         holds = if_judged o.limits o.ending h.given (λ front cut. IsToldWith o cut text m front w w' lines (answer_view a)) (λ front _. HasSolutionsWithin o.limits model front count)
             (λ front cut t. accepted_solutions o model m front t.events (answer_view a) loaded t.report count (ap answer_view is)) h.report;
       }) answered
-
-      pub end_read_then : IfOk r (λ _. SpendsReads reads 1 left left')
-      end_read_then = IfOk-weaker r _ _ (λ a h. record { given = h.given; consumes = h.consumes; few = omega (arith, h.few) }) answered
 
       -- the lines that were left are written
       pub reported_then : Appends w' w'' lines

@@ -27,7 +27,7 @@ fn is_set(rt: &HostRuntime, name: &str) -> bool {
 #[inline(never)]
 pub fn has_colours(rt: &HostRuntime) -> bool {
     let is_dumb = match env::var(rt, "TERM") {
-        Ok(value) => value.is_empty() || value == "dumb",
+        Ok(value) => value.is_empty() || value.as_str() == "dumb",
         Err(_) => true,
     };
     rt.stderr().is_terminal() && !is_dumb && !is_set(rt, "NO_COLOR")

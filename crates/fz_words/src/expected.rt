@@ -139,7 +139,8 @@ impl<'a> Before<'a> {
     /// A thing that is expected, in words: a name is one of an annotation behind `::`.
     fn told(&self, thing: &'static str) -> &'static str {
         match self.last {
-            Some(token) if thing == "a name" && token.text == b"::" => "the name of an annotation",
+            Some(token) if thing == "a name" && token.text == b"::".as_slice() =>
+                "the name of an annotation",
             _ => thing,
         }
     }

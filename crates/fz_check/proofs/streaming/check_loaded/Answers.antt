@@ -15,8 +15,8 @@ returns-in-Ok-write_lines-clause-refused g c = λ source loaded.
     refused_then c.args.options g.T.Taker.text source c.args.model.now c.args.reads _ _ _ _ (g.W.Write.contents c.write_lines.new.writer) c.tell_parts-outcome.new.lines.items loaded c.tell_parts-outcome.result c.tell_parts-outcome.ensures.stands c.in-Ok-write_lines.ensures.whole c.tell_parts-outcome.ensures.refused
 
 pub returns-in-Ok-write_lines-clause-end_read : goal.returns-in-Ok-write_lines-clause-end_read
-returns-in-Ok-write_lines-clause-end_read g c = λ source loaded.
-    end_read_then c.args.options g.T.Taker.text source c.args.model.now c.args.reads _ _ _ _ (g.W.Write.contents c.write_lines.new.writer) c.tell_parts-outcome.new.lines.items loaded c.tell_parts-outcome.result c.tell_parts-outcome.ensures.answered
+returns-in-Ok-write_lines-clause-end_read g c =
+    end_read_then c.args.options g.T.Taker.text c.args.model.now c.args.reads _ _ _ _ c.tell_parts-outcome.new.lines.items c.tell_parts-outcome.result c.tell_parts-outcome.ensures.answered
 
 pub returns-clause-refused : goal.returns-clause-refused
 returns-clause-refused g c = λ source loaded.
