@@ -41,12 +41,15 @@ wanting=$'error: the following required arguments were not provided:\n  <MODEL>'
 wrong $'error: \'fzcheck\' requires a subcommand but one was not provided\n  [subcommands: show, check, help]'
 wrong "error: unexpected argument '--fast' found" check --fast examples/first.fzn
 wrong $'error: unrecognized subcommand \'chekc\'\ndid you mean check' chekc examples/first.fzn
+wrong $'error: unrecognized subcommand \'m.fzn\'\ndid you mean check m.fzn s.out' m.fzn s.out
+wrong "error: a value is required for '--complete-steps <N>' but none was supplied$wanted" check examples/first.fzn --complete-steps
 wrong $'error: unexpected argument \'--complet\' found\ndid you mean --complete' check --complet examples/first.fzn
 wrong $'error: unexpected argument \'--complete\' found\ndid you mean check --complete' --complete check examples/first.fzn
 wrong $'error: invalid value \'al\' for \'--explain[=<explain>]\'\n  [possible values: answer, all]\ndid you mean all' check --explain=al examples/first.fzn
 wrong $'error: invalid value \'prov\' for \'--claims[=<claims>]\'\n  [possible values: prove]\ndid you mean prove' check --claims=prov examples/first.fzn
-wrong "error: invalid value 'ten' for '--complete-steps <N>': invalid digit found in string" check --complete --complete-steps ten examples/first.fzn
-wrong "error: invalid value '9223372036854775808' for '--complete-steps <N>': 9223372036854775808 is not in 0..=9223372036854775807" check --complete-steps=9223372036854775808 examples/first.fzn
+wanted=$'\n--complete-steps wants a number, as --complete-steps 1000000'
+wrong "error: invalid value 'ten' for '--complete-steps <N>': invalid digit found in string$wanted" check --complete --complete-steps ten examples/first.fzn
+wrong "error: invalid value '9223372036854775808' for '--complete-steps <N>': 9223372036854775808 is not in 0..=9223372036854775807$wanted" check --complete-steps=9223372036854775808 examples/first.fzn
 wrong "error: --complete-steps is given as '1' and as '2'" check --complete-steps 1 --complete-steps 2 examples/first.fzn
 wrong "error: --explain is given as 'answer' and as 'all'" check --explain --explain=all examples/first.fzn
 wrong "error: --names is given as 'a' and as 'b'" check --explain --names a --names b examples/first.fzn
@@ -202,11 +205,20 @@ expect 'a name declared twice' 4 '' 'refused: model: DuplicateName at 25..26' \
   "$program" show $twice
 expect 'a model shown' 0 "$(cat examples/first.fzn)" '' "$program" show examples/first.fzn
 
-# Where standard error is a terminal, a refusal has a second line.
+# Where standard error is a terminal, a refusal has a second line. Without NO_COLOR it has colours. What
+# is TYPED there is standard input.
 at_terminal() {
-  python3 -c 'import contextlib, os, subprocess, sys
+  python3 -c 'import contextlib, os, subprocess, sys, termios
 terminal, end = os.openpty()
-ran = subprocess.run(sys.argv[1:], stdin=subprocess.DEVNULL, stderr=end)
+typed = os.environ.get("TYPED")
+if typed is not None:
+    how = termios.tcgetattr(end)
+    how[3] &= ~termios.ECHO
+    termios.tcsetattr(end, termios.TCSANOW, how)
+    os.write(terminal, typed.encode() + b"\4")
+colours = {"TERM": "xterm", "NO_COLOR": os.environ.get("NO_COLOR", "1")}
+given = subprocess.DEVNULL if typed is None else end
+ran = subprocess.run(sys.argv[1:], stdin=given, stderr=end, env={**os.environ, **colours})
 os.close(end)
 shown = b""
 with contextlib.suppress(OSError):  # the end of a terminal is told as an error
@@ -222,6 +234,17 @@ expect 'a terminal: a name declared twice' 4 '' $'refused: model: DuplicateName 
 expect 'a terminal: an open block' 4 '' $'refused: stream: Unfinished at 0..7\n'"$folder/open.out:1:1: no line of ten dashes ends what begins here, in block 1" \
   at_terminal "$program" check examples/first.fzn "$folder/open.out"
 expect 'a terminal: a violated block' 1 $'block 1: violated: constraint 1 int_le\nrejected: block 1' '' at_terminal "$program" check examples/first.fzn "$folder/wrong.out"
+TYPED=$'x = 3;\n----------\n' expect 'a terminal: the stream is typed' 0 "$accepted" \
+  'fzcheck: waits for the stream on this terminal; Ctrl-D ends it' at_terminal "$program" check examples/first.fzn
+bold=$'\e[1m' blue=$'\e[1;34m' red=$'\e[1;31m' plain=$'\e[0m'
+NO_COLOR='' expect 'a terminal: colours' 1 $'block 1: violated: constraint 1 int_le\nrejected: block 1' \
+  "$(printf '%s\n' "${bold}examples/first.fzn:2:12: constraint 1 int_le fails in block 1$plain" \
+    "$blue   2 |$plain constraint int_le(2,x);" "$blue     |$plain$red            ^^^^^^$plain" \
+    "$blue     =$plain 2, not ≤ 1 (x)" "$blue     =$plain x = 1, printed")" \
+  at_terminal "$program" check --explain examples/first.fzn "$folder/wrong.out"
+expect 'an explanation comes behind the line of its block' 1 "$(printf '%s\n' 'block 1: violated: constraint 1 int_le' \
+    'rejected: block 1' 'examples/first.fzn:2:12: constraint 1 int_le fails in block 1')" '' \
+  bash -c '"$0" check --explain=all "$@" 2>&1 | head -3; exit "${PIPESTATUS[0]}"' "$program" examples/first.fzn "$folder/wrong.out"
 expect 'a terminal: a model that is not there' 6 '' $'refused: read\n'"$folder/none.fzn: $none" at_terminal "$program" check "$folder/none.fzn"
 head -c 16777217 /dev/zero >"$folder/long.fzn"
 for command in show check; do

@@ -15,22 +15,18 @@ const RED: &str = "\x1b[1;31m";
 
 const PLAIN: &str = "\x1b[0m";
 
-/// Whether a variable of the environment is there, and isn't empty.
-fn is_set(rt: &HostRuntime, name: &str) -> bool {
-    match env::var(rt, name) {
-        Ok(value) => !value.is_empty(),
-        Err(_) => false,
-    }
+/// What the environment has under a name: nothing where it hasn't the name.
+fn variable(rt: &HostRuntime, name: &str) -> String {
+    env::var(rt, name).unwrap_or(String::new(rt.alloc()))
 }
 
 /// Whether standard error is a terminal that shows colours, and `NO_COLOR` doesn't forbid them.
-#[inline(never)]
 pub fn has_colours(rt: &HostRuntime) -> bool {
-    let is_dumb = match env::var(rt, "TERM") {
-        Ok(value) => value.is_empty() || value.as_str() == "dumb",
-        Err(_) => true,
-    };
-    rt.stderr().is_terminal() && !is_dumb && !is_set(rt, "NO_COLOR")
+    if !rt.stderr().is_terminal() || !variable(rt, "NO_COLOR").is_empty() {
+        return false;
+    }
+    let terminal = variable(rt, "TERM");
+    !terminal.is_empty() && terminal.as_str() != "dumb"
 }
 
 /// Adds a part of a line in a colour.

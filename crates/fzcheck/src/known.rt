@@ -49,7 +49,7 @@ fn known_of<'k>(
 ) -> Result<Known<'k>, Unread<'k>> {
     let mut known = Known::nothing();
     for name in &asked.known {
-        learn_file(rt, asked, model, name, &mut known)?;
+        learn_file(rt, asked, model, *name, &mut known)?;
     }
     Ok(known)
 }

@@ -21,12 +21,12 @@ const MOST_QUOTED: u32 = 16_777_216;
 
 /// Takes the events of a check whose report is text. Explanations go to standard error.
 #[derive(Drop)]
-pub struct Teller<'r, 'n> {
+pub struct Teller<'s, 'r, 'n> {
     rt: &'r HostRuntime,
-    asked: &'r Check<'r>,
-    explainer: Explainer<'r, 'n>,
-    recent: &'r RefCell<Recent>,
-    screen: &'r RefCell<Screen<'r>>,
+    asked: &'s Check<'s>,
+    explainer: Explainer<'s, 'n>,
+    recent: &'s RefCell<Recent>,
+    screen: &'s RefCell<Screen<'r>>,
     counts: Counts,
     /// The number and the explanation of the block that the answer so far names.
     told: Option<(usize, Message)>,
@@ -34,15 +34,15 @@ pub struct Teller<'r, 'n> {
     unconstrained: Option<Unbound>,
 }
 
-impl<'r, 'n> Teller<'r, 'n> {
+impl<'s, 'r, 'n> Teller<'s, 'r, 'n> {
     /// Before the first block. What is stored of the stream is in the cell.
     pub fn new(
         rt: &'r HostRuntime,
-        asked: &'r Check<'r>,
-        explainer: Explainer<'r, 'n>,
-        recent: &'r RefCell<Recent>,
-        screen: &'r RefCell<Screen<'r>>,
-    ) -> Teller<'r, 'n> {
+        asked: &'s Check<'s>,
+        explainer: Explainer<'s, 'n>,
+        recent: &'s RefCell<Recent>,
+        screen: &'s RefCell<Screen<'r>>,
+    ) -> Teller<'s, 'r, 'n> {
         Teller {
             rt,
             asked,
@@ -142,8 +142,8 @@ impl<'r, 'n> Teller<'r, 'n> {
             self.explain(judged);
         }
         if let Ok(mut recent) = self.recent.try_borrow_mut() {
-            let Block { offset, text, .. } = judged.block;
-            recent.end_block(offset.saturating_add(text.len()));
+            let block = judged.block;
+            recent.end_block(block.offset.saturating_add(block.text.len()));
         }
     }
 
@@ -258,7 +258,7 @@ fn quote(rt: &HostRuntime, remarks: &mut Remarks) {
     }
 }
 
-impl Taker for Teller<'_, '_> {
+impl Taker for Teller<'_, '_, '_> {
     ghost text = { by event_line };
 
     fn take(&mut self, event: &Event<'_, '_>, line: &mut Vec<u8>) -> Result<(), AllocError> {
@@ -273,11 +273,11 @@ impl Taker for Teller<'_, '_> {
 
 /// Takes the events of a check whose report is JSON, explanations included.
 #[derive(Drop)]
-pub struct JsonTeller<'t, 'r, 'n> {
-    pub teller: &'t mut Teller<'r, 'n>,
+pub struct JsonTeller<'t, 's, 'r, 'n> {
+    pub teller: &'t mut Teller<'s, 'r, 'n>,
 }
 
-impl Taker for JsonTeller<'_, '_, '_> {
+impl Taker for JsonTeller<'_, '_, '_, '_> {
     ghost text = { λ _ _. ⊤ };
 
     fn take(&mut self, event: &Event<'_, '_>, line: &mut Vec<u8>) -> Result<(), AllocError> {
