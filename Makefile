@@ -1,22 +1,26 @@
 # make             proves the program with all that it stands on, builds it: build/fzcheck. It goes
 #                  on where it was stopped, and uses JOBS processors (all)
-# make test        the gate: every proof from nothing, the must-fail edits, the tests, the program;
+# make quick       judges examples/first.fzn with NO proof, or MODEL=FILE [STREAM=FILE], with the
+#                  program's OPTIONS='--complete --explain'; with a MODEL and no STREAM it reads
+#                  standard input; it tells the program's status. The program that it builds for
+#                  that, in two minutes, is kept: build/unproved/fzcheck
+# make test        runs all tests, on the program that make or make gate proved of these sources, or
+#                  otherwise on one without proof, which it builds as make quick does. ONLY=plan
+#                  runs one, ONLY='plan batch' two; JOBS run at a time
+# make gate        every proof from nothing, the must-fail edits, and make test on what was proved;
 #                  ANEW=--anew takes nothing of what an earlier run on this machine passed
-# make corpus      runs the built program over tests/corpus and examples, beside the second checker
-#                  (tests/corpus/slow.py) on random models, and with minizinc/, inside MiniZinc, and
-#                  on plans of it, where that is installed; and inside a bare Debian, where
-#                  debootstrap is
+# make prove       proves one crate, CRATE=fz_model, with what it stands on
+# make corpus      runs the longer tests, as make test does: random models beside the second checker
+#                  (tests/corpus/slow.py), with minizinc/, inside MiniZinc, and on plans of it, where
+#                  that is installed; and inside a bare Debian, where debootstrap is
 # make fuzz        runs it beside that checker on random broken texts, for SECONDS (600), and on
 #                  20,000 damaged blocks and the claims of 10,000 random models, by SEED
 # make wrong       tries the wrong bodies of tests/wrong, of the crates in ONLY (all): the prover
 #                  has to refuse each. It begins with what make kept
 # make bench       measures the built program beside the plain program in plain/ (some minutes), or
 #                  with SIZE=500 on models of 500 MB
-# make quick       judges examples/first.fzn with NO proof, or MODEL=FILE [STREAM=FILE], with the
-#                  program's OPTIONS='--complete --explain'; with a MODEL and no STREAM it reads
-#                  standard input; it tells the program's status
 # make install     puts the program, its companions, manual pages, completions, minizinc/, documents
-#                  and examples in place, below PREFIX (/usr/local)
+#                  and examples in place, below PREFIX (/usr/local). It builds nothing
 # make dist        packs all that, with a receipt of what was proved, as a tar and as a package for
 #                  Debian 12, in build/
 # make fmt         lays out the sources
@@ -34,7 +38,7 @@ SEED ?= $(shell date +%s)
 NEEDS_RT = command -v rt >/dev/null || { echo "This needs the Rattle toolchain:" \
   "put its folder bin, which has rt, on the PATH." >&2; exit 1; }
 
-.PHONY: all test corpus fuzz wrong bench quick install dist fmt clean
+.PHONY: all quick test gate prove corpus fuzz wrong bench install dist fmt clean
 
 all: build/fzcheck
 
@@ -45,10 +49,10 @@ build/fzcheck: $(SOURCES)
 	cp crates/fzcheck/out/fzcheck build/fzcheck
 	sha256sum build/fzcheck >>build/log
 
-# The gate proves and builds the program too, so nothing is proved twice here. With RT_JOBS it works
+# The gate proves and builds the programs too, so nothing is proved twice here. With RT_JOBS it works
 # on so many crates at a time, and a fourth would only wait for the longest chain of them; without,
 # it keeps back some for memory that they don't take (docs/ARCHITECTURE.md, "Time of the gate").
-test:
+gate:
 	@$(NEEDS_RT)
 	@rm -rf build/prove build/wrong
 	@mkdir -p build
@@ -56,36 +60,18 @@ test:
 	{ RT_JOBS=$$(($(JOBS) > 3 ? 3 : $(JOBS))) rt ci $(ANEW) 2>&1 \
 	  && echo "proved by rt ci"; } | tee -a build/log
 	@tail -n 1 build/log | grep -q "^proved by"
-	cp crates/fzcheck/out/fzcheck build/fzcheck
-	sha256sum build/fzcheck >>build/log
-	tests/documents.py
-	tests/headline.py
-	tests/program.sh build/fzcheck
-	tests/as_json.py build/fzcheck
-	tests/solver.py build/fzcheck
-	tests/completions.py build/fzcheck
-	tests/package.py build/fzcheck build/log
-	tests/batch.py build/fzcheck
-	tests/plan.py build/fzcheck
-	tests/fuzz.py build/fzcheck
-	tests/broken/run.py build/fzcheck
-	tests/cases/run.py build/fzcheck crates/fz_hostile/out/fz_hostile
-	tests/corpus/run.py build/fzcheck tests/corpus examples
-	tests/corpus/left_out.py build/fzcheck
-	tests/corpus/damaged.py build/fzcheck 2000
-	tests/corpus/claims.py build/fzcheck 500
-	tests/hostile/run.py build/fzcheck crates/fz_hostile/out/fz_hostile
+	cp crates/fzcheck/out/fzcheck crates/fz_hostile/out/fz_hostile build
+	sha256sum build/fzcheck build/fz_hostile >>build/log
+	tests/run.py gate --jobs $(JOBS)
 
-corpus: build/fzcheck
-	tests/corpus/run.py build/fzcheck tests/corpus examples
-	tests/corpus/left_out.py build/fzcheck
-	tests/corpus/differ.py build/fzcheck - 300
-	tests/corpus/reasons.py build/fzcheck 10000
-	tests/minizinc.py build/fzcheck
-	tests/inside.py build/fzcheck
-	tests/plans.py build/fzcheck
-	tools/dist.py
-	tests/debian.py build
+test corpus:
+	@tests/run.py $@ --jobs $(JOBS) --only "$(ONLY)"
+
+prove:
+	@$(NEEDS_RT)
+	@test -n "$(CRATE)" || { echo "Which crate? make prove CRATE=fz_model" >&2; exit 1; }
+	@mkdir -p build
+	tools/prove.py $(CRATE) build/log.$(CRATE) $(JOBS)
 
 fuzz: build/fzcheck
 	tests/hostile/fuzz.py build/fzcheck $(SECONDS) $(SEED)
@@ -106,11 +92,15 @@ quick: MODEL := examples/first.fzn
 quick: STREAM := examples/first.out
 endif
 
+# `make` would take any status for a failure, so the program's is told.
 quick:
-	@$(NEEDS_RT)
-	@tests/quick.sh "$(MODEL)" "$(STREAM)" $(OPTIONS)
+	@tools/unproved.py fzcheck >/dev/null
+	@build/unproved/fzcheck check $(OPTIONS) "$(MODEL)" $(if $(STREAM),"$(STREAM)"); \
+	  echo "status $$? (nothing was proved)" >&2
 
-install: build/fzcheck
+install:
+	@tools/sources.py fzcheck || { echo "Nothing is installed: run make first, or install a" \
+	  "package, which make dist makes" >&2; exit 1; }
 	install -D -t $(DESTDIR)$(PREFIX)/bin build/fzcheck
 	install -D -t $(SHARE)/fzcheck $(COMPANIONS)
 	cd python && find fzcheck -name '*.py' -o -name '*.html' | \

@@ -9,9 +9,7 @@ stream that it was made of. Bad inputs are tried with a script in the place of t
 needs GNU parallel, Chromium, or ssh and leave to make network namespaces is tried where they are,
 and told where they aren't."""
 import csv
-import filecmp
 import html.parser
-import json
 import os
 import pathlib
 import re
@@ -139,6 +137,7 @@ class Place:
         self.folder = pathlib.Path(folder)
         for name in ("bin", "models", "streams"):
             (self.folder / name).mkdir()
+        self.program = program
         (self.folder / "bin" / "fzcheck").symlink_to(program)
         self.variables = {"PATH": f"{self.folder}/bin:{os.environ['PATH']}",
                           "FZCHECK": f"{self.folder}/bin/fzcheck"}
@@ -171,10 +170,17 @@ class Place:
     def outcomes(self, results: str, one: str = "outcome", other: str = "words"
                  ) -> Dict[Tuple[str, str], Tuple[str, str]]:
         """By the table for other programs: outcome and words by model and solver, or two others."""
-        self.run(*COMMAND, "report", "--results", results, "--csv", "table.csv")
-        with open(self.folder / "table.csv", newline="") as file:
-            return {(row["model"], row["solver"]): (row[one], row[other])
-                    for row in csv.DictReader(file)}
+        return {pair: (row[one], row[other]) for pair, row in self.table(results).items()}
+
+    def table(self, results: str) -> Dict[Tuple[str, str], Dict[str, str]]:
+        """The lines of the table for other programs, by model and solver."""
+        path = self.folder / "table.csv"
+        path.unlink(missing_ok=True)  # which may be of other results
+        self.run(*COMMAND, "report", "--results", results, "--csv", path.name)
+        if not path.exists():
+            return {}
+        with open(path, encoding="utf-8", newline="") as file:
+            return {(row["model"], row["solver"]): row for row in csv.DictReader(file)}
 
 
 class Table(html.parser.HTMLParser):
@@ -234,8 +240,9 @@ def try_season(place: Place) -> None:
     if not lacks("chromium", "the page"):
         rows = {row[0]: row[2:] for row in shown(place.folder / "page.html")}
         titles = {pair: ": ".join(filter(None, found[pair])) for pair in found}
+        got = {name: [title.split("; ")[0] for title in row] for name, row in rows.items()}
         expect("the page", {name: [titles[name, solver] for solver in sorted(solvers(source))]
-                            for name, source in ((it.name, it) for it in sources())}, rows)
+                            for name, source in ((it.name, it) for it in sources())}, got)
 
 
 def few(place: Place) -> Set[str]:
@@ -249,15 +256,15 @@ def few(place: Place) -> Set[str]:
 
 
 def same_results(place: Place, one: str, other: str, models: Set[str]) -> List[str]:
-    """The files of reports and results on the models that differ between two folders."""
-    differ = []
-    for kind in ("report", "result"):
-        for model in sorted(models):
-            both = [str(place.folder / results / kind / model) for results in (one, other)]
-            names = sorted({*os.listdir(both[0]), *os.listdir(both[1])})
-            differ += [name for part in filecmp.cmpfiles(*both, names, shallow=False)[1:]
-                       for name in part]
-    return differ
+    """The files of the models that differ between two folders, but for what the jobs took, which
+    is their second line."""
+    def lines(folder: str, model: str) -> Dict[str, List[str]]:
+        paths = (place.folder / folder / "pairs" / model).glob("*")
+        found = {path.name: path.read_text().splitlines() for path in paths}
+        return {name: text[:1] + text[2:] for name, text in found.items()}
+
+    both = {model: (lines(one, model), lines(other, model)) for model in sorted(models)}
+    return [model for model, (ours, theirs) in both.items() if ours != theirs or not ours]
 
 
 def try_shards(place: Place) -> None:
@@ -330,8 +337,7 @@ def try_found(place: Place) -> None:
 def try_bad_inputs(folder: str) -> None:
     """Faults of one pair are that pair's, with a script in the place of the program."""
     script = os.path.join(folder, "stand-in")
-    with open(script, "w") as file:
-        file.write(STAND_IN)
+    pathlib.Path(script).write_text(STAND_IN)
     os.chmod(script, 0o755)
     place = Place(os.path.join(folder), script)
     odd, script_end = "it's \"odd\" <b>", "<" + "/script>"
@@ -396,12 +402,12 @@ def try_stop(place: Place) -> None:
     for ending in (signal.SIGKILL, signal.SIGTERM):
         results = f"stopped{int(ending)}"
         process = place.start(*place.words(results, "-j", "2"), SLOWLY="0.3")
-        stored = place.folder / results / "result" / "plain"
+        stored = place.folder / results / "pairs" / "plain"
         while not stored.exists() or len(os.listdir(stored)) < 4:
             time.sleep(0.05)
         process.send_signal(ending)
         process.communicate(timeout=200)  # until its workers have ended, which have its output
-        kept = sum(1 for path in stored.iterdir() if json.loads(path.read_text()))
+        kept = sum(len(path.read_text().splitlines()) > 2 for path in stored.iterdir())
         _, out, _ = place.run(*place.words(results))
         wanted = f"12 pairs, {12 - kept} jobs run: accepted 12\n"
         expect(f"after signal {int(ending)}", wanted, out)

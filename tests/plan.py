@@ -20,20 +20,25 @@ import solver
 
 sys.path.insert(0, os.path.join(ROOT, "python"))
 from fzcheck.mzn import model as model_module
+from fzcheck.mzn.computed import OutputModel
+from fzcheck.mzn.in_json import JsonReader, from_json
+from fzcheck.mzn.names import Name
 from fzcheck.mzn.plan import Plan, Refused
 from fzcheck.mzn.stream import Writer
 from fzcheck.mzn.table import Table
-from fzcheck.mzn.told import Told
-from fzcheck.mzn.values import Array, Range, Reader, SetOf, Term, from_json
+from fzcheck.mzn.values import Array, Range, Reader, SetOf, Term
 
 COMMAND = os.path.join(ROOT, "python", "fzcheck-mzn")
 KEPT = os.path.join(ROOT, "tests", "plans", "kept")
-FORMS = ("plan.dzn", "plan.json", "plan.jsonl", "stream")
+FORMS = ("plan.dzn", "plan.json", "plan.jsonl")
 TEXTS, VALUES = 2000, 500
 MINIZINC = f"""echo "$*" >>"$FOLDER/calls"
 case $* in *"-G std"*) fault=both ;; *) fault=fault ;; esac
 if [ -e "$FOLDER/$fault" ]; then cat "$FOLDER/fault" >&2; exit 1; fi
-case $* in *--model-types-only*) exec cat {KEPT}/types.json ;; esac
+case $* in
+  *--model-types-only*) exec cat {KEPT}/types.json ;;
+  *--ozn-file*) cat >"$FOLDER/at_hand"; exec cat "$FOLDER/computed" ;;
+esac
 while [ $# -gt 0 ]; do
   case $1 in
     --fzn) cp {KEPT}/model.fzn "$2" ;;
@@ -44,6 +49,7 @@ while [ $# -gt 0 ]; do
 done"""
 GOOD = ["block 1: satisfied", "claim: ========== not judged", "accepted: blocks 1"]
 DASHES = "----------\n"
+NOT_ALL = "undecided: not all that is printed is checked"
 # A text of data files and the value that it is.
 IN_TEXT = (
     ("-3", -3), ("true", True), ("<>", None), ("1.5e3", 1500.0), ('"a b"', "a b"),
@@ -76,9 +82,21 @@ def kept(name):
 
 def values():
     for text, value in IN_TEXT:
-        expect(text, [("x", value, 0)], list(Reader(f"x = {text};").items()))
+        expect(text, [("x", value, 0)], [one[:3] for one in Reader(f"x = {text};").items()])
     for text, value in IN_JSON:
-        expect(text, value, from_json(json.loads(text)))
+        expect(text, value, from_json(json_of(text)))
+    [item] = Reader("x =\n[| a: 1, 22\n | b: 3, 4 |];").items()
+    expect("places of elements", [10, 13, 22, 25], item.starts)
+    object_text = '  {"a": [[1, {"set": [2]}],\n [3, null]]} and more'
+    reader = JsonReader(object_text, 2)
+    [item] = reader.object().items_in_order
+    expect("places in JSON", (3, [10, 13, 30, 33], object_text.index(" and")),
+           (item.start, item.starts, reader.end))
+
+
+def json_of(text):
+    """The value of a text in JSON."""
+    return JsonReader(f'{{"x": {text}}}', 0).object()["x"]
 
 
 def random_value(rand, depth=0):
@@ -109,15 +127,15 @@ def random_value(rand, depth=0):
 def random_values(rand):
     for _ in range(VALUES):
         text, in_json = random_value(rand)
-        wanted = from_json(json.loads(in_json))
-        expect(text, [("x", wanted, 0)], list(Reader(f"x = {text};").items()))
+        wanted = from_json(json_of(in_json))
+        expect(text, [("x", wanted, 0)], [one[:3] for one in Reader(f"x = {text};").items()])
 
 
 def stream_of(text, model):
     """The stream of a plan, or what is wrong with the plan."""
-    plan, writer = Plan(text), Writer(model)
+    writer = Writer(model, OutputModel(model, ""), [])
     try:
-        return writer.stream(plan.parts()), writer
+        return writer.stream(Plan(text).parts()), writer
     except Refused as error:
         return None, error
 
@@ -126,7 +144,7 @@ def random_texts(rand, model):
     """Each text has a stream of items and lines, or is refused; what is cut off never is."""
     line = re.compile(r"-{10}|={5,10}\w*=*|\w+ = [^;\n]*;")
     for number in range(TEXTS):
-        text = kept(rand.choice(FORMS))
+        text = kept(rand.choice((*FORMS, "stream")))
         if number % 4 == 0:
             text = text[: rand.randrange(len(text))]
         else:
@@ -150,42 +168,6 @@ def checked(place, what, plan, status, report, told, *words):
     expect(what, (status, report, []), (got[0], got[1].splitlines(), left))
 
 
-def verdicts(place):
-    for form in FORMS:
-        checked(place, form, kept(form), 0, GOOD, ())
-    plan = kept("plan.dzn")
-    late = ["block 1: violated: constraint 1 int_lin_le", *GOOD[1:2], "rejected: block 1"]
-    told = ("= model.mzn:18:12\n", "= start[dig] (X_INTRODUCED_0_) = 1, printed\n",
-            "= start[pour] (X_INTRODUCED_1_) = 3, printed\n")
-    checked(place, "too late", plan.replace("dig: 0", "dig: 1"), 1, late, told)
-    in_json = kept("plan.json").replace("[0, 3, 5]", "[1, 3, 5]")
-    checked(place, "too late, in JSON", in_json, 1, late, told)
-    starts = late[0].replace("1 int_lin_le", "3 array_var_int_element")
-    checked(place, "an enum's value", plan.replace("first = dig", "first = pour"), 1,
-            [starts, *late[1:]], ("first = pour, printed\n",))
-    checked(place, "the same", plan.replace("right = 1", "right = 2"), 1,
-            ["block 1: violated: printed right", *late[1:]],
-            ("plan:20: printed right differs in block 1\n   20 | right = 2;\n",
-             "= right is printed as 2 here"))
-    checked(place, "the objective", plan.replace("_objective = 8", "_objective = 7"), 1,
-            ["block 1: violated: constraint 7 int_lin_eq", *late[1:]], ("total = 7, printed",))
-    checked(place, "fixed", plan.replace("three = 3", "three = 4"), 1,
-            ["block 1: violated: domain of three", *late[1:]], ("three = 4, printed",))
-    checked(place, "optional", plan.replace("spare = <>", "spare = 3"), 0, GOOD, ())
-    checked(place, "optional, outside", plan.replace("spare = <>", "spare = 0"), 1,
-            ["block 1: violated: printed spare", *late[1:]], ("spare is 0 in line",))
-    checked(place, "another instance's parameter", "n = 3;\n" + plan, 1,
-            ["block 1: violated: printed n", *late[1:]],
-            ("plan:1: printed n differs in block 1\n   1 | n = 3;\n",))
-    checked(place, "not there", plan.replace("left = 1;\n", "_output = 3;\n"), 0, GOOD,
-            ("not in each solution: left", "hasn't them: _output"))
-    place.file("plan", plan.replace("first = dig", "first = pour"))
-    _, report, _ = place.run(COMMAND, "model.mzn", "data.dzn", "--output", "plan", "--json")
-    explained = [json.loads(line) for line in report.splitlines()][2]
-    expect("explained in JSON", [("first", "pour"), ("start[pour]", 3)],
-           [(one.get("element", one["name"]), one["value"]) for one in explained["variables"][:2]])
-
-
 def endings(place):
     plan = kept("plan.dzn")
     cut = plan.index("start"), plan.index("tool")
@@ -200,11 +182,12 @@ def endings(place):
             ("tells of an error: too bad",))
 
 
-def names_of_enums(place, model):
-    """Indices, loop variables and values that are of an enum are told by its names."""
+def names_of_enums(place):
+    """Indices and loop variables that are of an enum are told by its names."""
     place.file("loops.mzn", "constraint forall(\n  t, u in Task, i in 1..2, v in first(Task))(x);\n")
     path = place.path("loops.mzn")
-    table = Table({"Task": ["dig", "pour", "big crane"]}, {"start": ["Task"], "crew": ["Task", ""]})
+    table = Table({"Task": ["dig", "pour", "big crane"]}, {
+        "start": Name(index_enums=("Task",)), "crew": Name(index_enums=("Task", ""))})
     for before, after in (
         ("x\tstart[2]\t;\ny\tcrew[3,0]\t\n", "x\tstart[pour]\t;\ny\tcrew[big crane,0]\t\n"),
         ("x\tstart[4]\t\nx\tstart[1,1]\t", "x\tstart[4]\t\nx\tstart[1,1]\t"),
@@ -215,34 +198,57 @@ def names_of_enums(place, model):
         ("start[1]\n", "start[1]\n"), ("0\t0\tnix|2|3|2|3|t=1;", "0\t0\tnix|2|3|2|3|t=1;"),
     ):
         expect(f"table {before!r}", after, table.named(before))
-    told = Told(model, "", "plan", [], [], None)
-    for before, after in (
-        ("      = first = 2, printed\n", "      = first = pour, printed\n"),
-        ("      = task 4: first = 2, printed\n", "      = task 4: first = pour, printed\n"),
-        ("      = first is narrowed to 2..3, by its domain\n",
-         "      = first is narrowed to pour..build, by its domain\n"),
-        ("      = the domain of first is {1,3}\n", "      = the domain of first is {dig,build}\n"),
-        ("      = first = 2, not ≠ 2\n", "      = first = pour, not ≠ pour\n"),
-        ("      =   X_1_ = false: first = 2, not 3\n", "      =   X_1_ = false: first = pour, not build\n"),
-        ("      = first - day = 2 - 3 = -1, not 0\n", "      = first - day = 2 - 3 = -1, not 0\n"),
-        ("      =   10 | constraint start[1] = 2;\n", "      =   10 | constraint start[1] = 2;\n"),
-        ("printed, and in no constraint: start[1]\n", "printed, and in no constraint: start[dig]\n"),
-    ):
-        expect(f"told {before!r}", after, told.in_words(before))
-    answer = '{"answer":"undecided","unconstrained":["start[2]"]}\n'
-    expect("told in JSON", answer.replace("2", "pour"), told.report_line(answer))
-    variable = {"name": "first", "low": 1, "high": 2, "behind": ["X_1_ = false: first = 2, not 3"]}
-    told.name_variable(variable)
-    expect("a variable in JSON", {"name": "first", "low": "dig", "high": "pour",
-                                  "behind": ["X_1_ = false: first = pour, not build"]}, variable)
-    told = told._replace(lines=[4, 7])
-    line = '{"block":1,"verdict":"violated","point":"printed","name":"n","line":2,"column":1}\n'
-    expect("a line of the plan in JSON", line.replace('2,"column":1', "7"), told.report_line(line))
-    line = '{"explained":1,"line":1,"column":1,"message":"printed n differs in block 1"}\n'
-    expect("the same of a message", line.replace('1,"column":1', "4"), told.report_line(line))
-    line = '{"explained":1,"reason":"first = 2, not 3","notes":["the domain of first is {1,3}"]}\n'
-    expect("an explanation in JSON", {"explained": 1, "reason": "first = pour, not build", "notes": [
-        "the domain of first is {dig,build}"]}, json.loads(told.report_line(line)))
+
+
+def printed(place):
+    """Names that the FlatZinc hasn't: what the output model says of them is kept here."""
+    plan = kept("plan.dzn")
+    place.file("computed", '{"0":7}\n----------\n')
+    checked(place, "computed", "last = 7;\n" + plan, 0, GOOD, ())
+    with open(place.path("at_hand"), encoding="utf-8") as file:
+        at_hand = file.read()
+    for line in ("start = array1d(1..3,[0,3,5]);", "odd = 1..2;", "left = 1;", "X_INTRODUCED_34_ = 0;",
+                 "crew = array2d(1..3,0..1,[true,false,false,false,false,false]);"):
+        expect(f"at hand: {line}", True, line in at_hand.splitlines())
+    checked(place, "a stream", kept("stream"), 2, [
+        *GOOD[:2], "not checked: X_INTRODUCED_34_",
+        "not printed: spare, three and right, found values that fit", NOT_ALL], ())
+    wrong = ["block 1: violated: printed last", GOOD[1], "rejected: block 1"]
+    checked(place, "computed otherwise", "last = 8;\n" + plan, 1, wrong,
+            ("= last is printed as 8 here, and is 7: max(start) + n, model.mzn:21\n",))
+    place.file("computed", "")
+    unchecked = [*GOOD[:2], "not checked: last", NOT_ALL]
+    checked(place, "not computed", "last = 7;\n" + plan, 2, unchecked, ())
+    checked(place, "optional", plan.replace("spare = <>", "spare = 3"), 0, GOOD, ())
+    spare = ["block 1: violated: printed spare", GOOD[1], "rejected: block 1"]
+    checked(place, "optional, outside", plan.replace("spare = <>", "spare = 0"), 1, spare,
+            ("= spare = 0, but that is no value which the model has for it\n",))
+    left = plan.replace("left = 1;\n", "")
+    line = "not printed: left, found values that fit"
+    checked(place, "not there", left, 0, [*GOOD[:2], line, GOOD[2]], ())
+    checked(place, "not there, strictly", left, 2,
+            [*GOOD[:2], line, "undecided: not all is printed"], (), "--strict")
+    checked(place, "of no model", "_output = 3;\n" + plan, 2,
+            [*GOOD[:2], "not checked: _output", NOT_ALL], ())
+    wanted = "start, crew, with, load, first, day, tool, spare, three, left, right and odd"
+    checked(place, "nothing", DASHES, 2, [
+        GOOD[0], f"not printed: {wanted}, found values that fit",
+        "undecided: a solution prints nothing that is checked"], ())
+    place.file("plan", "_output = 3;\n" + left)
+    report = place.run(COMMAND, "model.mzn", "data.dzn", "-o", "plan", "--json")[1]
+    listed = [json.loads(line) for line in report.splitlines()]
+    expect("in JSON", [{"not_checked": ["_output"]}, {"not_printed": ["left"], "found": True}],
+           listed[2:4])
+    expect("the answer in JSON", "undecided", listed[-1]["answer"])
+
+
+ENUM_ROWS = "[|     0:   1:\n |{}: true, true\n |{}: true, true\n |{}: true, true\n |]"
+IN_LINES = """{
+  "start": [0, 3,
+    "5"],
+  "first": {"e": "dgi"}
+}
+"""
 
 
 def bad_inputs(place):
@@ -250,21 +256,95 @@ def bad_inputs(place):
         ("free text", "x is 3\n", "plan:1: 'is' isn't expected: print the plan with `minizinc --"),
         ("text in JSON", '{"type": "solution", "output": {"default": "x is 3"}}\n', "`minizinc --"),
         ("an unknown name", "first = dig;\nnix = 3;\n", "plan:2: nix: the model has no such name"),
-        ("an unknown value", "first = rest;\n", "plan:1: first: rest is no value of Task"),
+        ("a name like it", "frist = dig;\n", "frist: the model has no such name: did you mean first?"),
+        ("an unknown value", "first = rest;\n",
+         "plan:1: first: rest is no value of Task: dig, pour, build"),
+        ("a value like it", "first = puor;\n", "puor is no value of Task: did you mean pour?"),
         ("an unknown index", "start = [dig: 1, rest: 1, build: 1];\n", "rest is no value of Task"),
-        ("other indices", "start = [pour: 1, dig: 1, build: 1];\n", "aren't those of the model"),
+        ("other indices", "start = [pour: 1, dig: 1, build: 1];\n",
+         "start: pour stands where the model has dig"),
         ("another length", "start = [1, 2];\n", "it has 2 elements here, and 3 in the model"),
-        ("another shape", f"crew = array2d(1..2,1..3,[{'true,' * 6}]);\n", "dimension 1"),
+        ("another shape", f"crew = array2d(1..2,1..3,[{'true,' * 6}]);\n",
+         "crew: build is missing"),
+        ("too few rows", "crew = [|true, true|true, true|];\n", "it has 2 rows here, and 3 in"),
+        ("a missing row", "crew = [| 0: 1:\n| dig: true, true\n| build: true, true|];\n",
+         "plan:1: crew: pour is missing"),
+        ("a row twice", "crew = " + ENUM_ROWS.format("dig", "pour", "pour") + ";\n",
+         "plan:4: crew: pour is there twice"),
+        ("a short row", "crew = [|true, true\n|true|true, true|];\n",
+         "plan:2: this row has 1 elements, and the first has 2"),
+        ("a value in a row", "crew = [|true, true\n|true, 3|\n true, true|];\n",
+         "plan:2: crew[pour,1]: 3 is no bool: true or false"),
+        ("lines of JSON", IN_LINES, 'plan:3: start[build]: "5" is text: write number without quotes'),
+        ("a key's line", IN_LINES.replace('"5"', "5"),
+         "plan:4: first: dgi is no value of Task: did you mean dig?"),
+        ("a fault of JSON", IN_LINES.replace('"5"', "5,"), "plan:3: ']' isn't expected, in JSON"),
+        ("a name twice in JSON", '{"left": 1,\n"left": 2}\n', "plan:2: left comes twice"),
+        ("rows of JSON", '{"crew": [[true, true],\n[true], [true, true]]}\n',
+         "plan:2: crew: this row has 1 elements, and the first has 2"),
         ("other dimensions", "load = [1,2,3,4,5,6,7,8];\n", "it has 1 dimensions here, and 3"),
-        ("no array", "start = 3;\n", "an array here or in the model"),
+        ("no array", "start = 3;\n", "start: it is an array in the model, and not here"),
+        ("an array", "first = [3];\n", "first: it is an array here, and not in the model"),
+        ("no number", "left = true;\n", "plan:1: left: true is no number"),
+        ("no set", "odd = 3;\n", "plan:1: odd: 3 is no set"),
         ("absent", "first = <>;\n", "isn't optional"),
-        ("twice", "first = dig;\nfirst = dig;\n", "plan:2: first is printed twice"),
-        ("a claim inside", "first = dig;\n==========\n", "plan:2: a claim stands inside"),
+        ("twice", "first = dig;\nfirst = dig;\n",
+         "plan:2: first is printed twice: is a line of ten dashes missing before?"),
+        ("a claim inside", "first = dig;\n==========\n",
+         "plan:2: a line of ten dashes is missing behind first"),
+        ("no dashes behind JSON", '{"first": {"e": "dig"}}\n{"first": {"e": "dig"}}\n',
+         "plan:2: a line of ten dashes is missing before this"),
+        ("a byte order mark", "\ufeff" + kept("plan.dzn"), "plan:1: a byte order mark is in front"),
     ):
         checked(place, what, plan + DASHES, 4, [], (told,))
+    plan = kept("plan.dzn")
+    for what, found in (
+        ("a text for an enum's value", plan.replace("first = dig", 'first = "dig"')),
+        ("the same in JSON", kept("plan.json").replace('{"e":"dig"},', '"dig",', 1)),
+        ("warnings", "Warning: an included file\n  is old\n" + plan + "WARNING: too slow\n"),
+    ):
+        checked(place, what, found, 0, GOOD, ())
+    with open(place.path("plan"), "wb") as file:
+        file.write(b"\x1f\x8b\x08\x00")
+    got = place.run(COMMAND, "model.mzn", "data.dzn", "-o", "plan")
+    expect("gzip", (4, True), (got[0], "plan:1: this is a gzip file: unpack it first" in got[2]))
     expect("no such plan", 6, place.run(COMMAND, "model.mzn", "--output", "nix")[0])
-    for words in (("model.mzn", "--nix"), ("data.dzn",), ("model.mzn", "--keep")):
-        expect(f"words {words}", 5, place.run(COMMAND, *words)[0])
+
+
+def command_lines(place):
+    place.file("plan", kept("plan.dzn"))
+    for rest in (("--output=plan",), ("-o", "plan"), ("-oplan",), ("--output", "-"), ("-",), ()):
+        words = COMMAND, "model.mzn", "data.dzn", *rest
+        got = place.run("sh", "-c", '"$@" <plan', "sh", *words)
+        expect(f"words {rest}", (0, GOOD), (got[0], got[1].splitlines()))
+    for rest, told in (
+        (("model.mzn", "--nix"), "--nix: there is no such option"),
+        (("model.mzn", "--stirct"), "--stirct: there is no such option: did you mean --strict?"),
+        (("data.dzn",), "there is no MODEL.mzn"),
+        (("model.mzn", "--keep"), "--keep wants a word behind it"),
+        (("model.mzn", "plan.txt"), "plan.txt: a model ends in .mzn, data in .dzn or .json"),
+    ):
+        got = place.run(COMMAND, *rest)
+        expect(f"words {rest}", (5, True), (got[0], told in got[2]))
+    for word in ("-h", "--help", "--version"):
+        got = place.run(COMMAND, word)
+        expect(word, (0, True, ""), (got[0], got[1].startswith(
+            "fzcheck-mzn 0." if word == "--version" else "Checks what"), got[2]))
+
+
+def known(place):
+    """Another plan is translated as the plan is, and called by its own name."""
+    plan = kept("plan.dzn")
+    worse = plan.replace("build: 5", "build: 6").replace("_objective = 8", "_objective = 9")
+    place.file("plan", worse)
+    place.file("other", plan)
+    got = place.run(COMMAND, "model.mzn", "data.dzn", "-o", "plan", "--claims", "--known", "other")
+    expect("a known plan", (1, ["block 1: satisfied", "claim: ========== refuted by known block 1 of "
+                                "other", "rejected: claim after block 1"]),
+           (got[0], got[1].splitlines()))
+    place.file("other", plan.replace("first = dig", "first = rest"))
+    got = place.run(COMMAND, "model.mzn", "data.dzn", "-o", "plan", "--known", "other")
+    expect("a known plan that is refused", (4, True), (got[0], "refused: other:14: first" in got[2]))
 
 
 def compiler(place):
@@ -302,12 +382,14 @@ def main():
         for name in ("model.mzn", "data.dzn"):
             shutil.copy(os.path.join(KEPT, name), place.path(name))
         values()
-        verdicts(place)
         endings(place)
+        printed(place)
         bad_inputs(place)
+        command_lines(place)
+        known(place)
         [entry] = os.listdir(place.path("cache/fzcheck"))
         model = model_module.load(place.path(f"cache/fzcheck/{entry}"))
-        names_of_enums(place, model)
+        names_of_enums(place)
         rand = random.Random(1)
         random_values(rand)
         random_texts(rand, model)

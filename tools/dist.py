@@ -3,7 +3,7 @@
 
     tools/dist.py
 
-It takes the program and the log that `make` or `make test` left in build/, and writes the packages
+It takes the program and the log that `make` or `make gate` left in build/, and writes the packages
 there. Nothing in them depends on the time or the place, but for the program itself."""
 import gzip
 import hashlib
@@ -17,7 +17,7 @@ import tempfile
 from typing import Dict, List, NoReturn
 
 from receipt import Receipt, git, proved_crates
-from sources import ROOT, sum_of_file, sum_of_sources, text_of
+from sources import ROOT, sum_of_file, text_of, why_unproved
 
 BUILD = f"{ROOT}/build"
 PROGRAM = f"{BUILD}/fzcheck"
@@ -60,20 +60,15 @@ def one_line(log: str, start: str) -> str:
 
 def receipt_of(log: str) -> Receipt:
     """The receipt, where the log is that of the program and of the sources as they are."""
-    crates, proved_by = proved_crates(log), one_line(log, "proved by")
-    changed = [name for name, crate in crates.items()
-               if crate.sources != sum_of_sources(f"{ROOT}/crates/{name}")]
-    if changed:
-        fail(f"the sources of {' '.join(changed)} aren't those that were proved")
-    program = sum_of_file(PROGRAM)
-    if f"\n{program}  " not in log:
-        fail("build/fzcheck isn't the program that the log tells of")
+    why = why_unproved("fzcheck")
+    if why:
+        fail(why)
     version = subprocess.run((PROGRAM, "--version"), check=True, stdout=subprocess.PIPE,
                              universal_newlines=True).stdout.strip()
     status = git("status", "--porcelain", "--untracked-files=no") or ""
     return Receipt(version, git("rev-parse", "HEAD") or "unknown",
                    [line[3:] for line in status.splitlines()], one_line(log, "toolchain"),
-                   proved_by, program, crates)
+                   one_line(log, "proved by"), sum_of_file(PROGRAM), proved_crates(log))
 
 
 def read(path: str) -> bytes:

@@ -1,7 +1,7 @@
 #!/usr/bin/env python3
-"""Proves a program and the crates that it stands on, side by side, and builds it:
+"""Proves a crate and those that it stands on, side by side, and builds it:
 
-    tools/prove.py PROGRAM LOG JOBS
+    tools/prove.py CRATE LOG JOBS
 
 A run of `rt` locks its crate and those below it, so that no two of them could work side by side in
 crates/. So each crate is proved in a tree of its own below build/prove, of links to files."""
@@ -20,7 +20,7 @@ from sources import PARTS, ROOT, sum_of_sources, text_of, toolchain
 ROOM = f"{ROOT}/build/prove"
 MEMORY = 4_000_000  # kilobytes for each crate at a time
 NEARLY = 0.7  # a crate with this share of the most behind it is waited for as well
-USAGE_STATUS = 5  # `rt run` runs the program, here on no words: this is what it answers
+USAGE_STATUS = {"fzcheck": 5, "fz_hostile": 7}  # `rt run` runs a program, here on no words
 VERDICT = re.compile(r"^logic=proved ", re.M)
 
 
@@ -92,7 +92,7 @@ class Crate:
         return said
 
     def is_proved(self):
-        return self.process.returncode == (USAGE_STATUS if self.is_program else 0)
+        return self.process.returncode == USAGE_STATUS.get(self.name, 0)
 
     def share(self):
         """About which share of the functions is checked so far, as the prover tells."""
@@ -101,8 +101,8 @@ class Crate:
         return checked / max(among, 1)
 
 
-def crates_of(program):
-    """The program with all that it stands on, the lowest first."""
+def crates_of(top):
+    """A crate with all that it stands on, the lowest first."""
     lines = dict(re.findall(r"^((\w+):.*)$", text_of(f"{ROOT}/crates.txt"), re.M))
     lines = {name: line for line, name in lines.items()}
     made = {}
@@ -113,7 +113,7 @@ def crates_of(program):
             made[name] = Crate(name, lines[name], [make(it) for it in words if it in lines])
         return made[name]
 
-    return [*make(program).below, make(program)]
+    return [*make(top).below, make(top)]
 
 
 class Build:
@@ -190,8 +190,8 @@ class Build:
         self.show("proved", "\n")
 
 
-def main(program, log, jobs):
-    crates = crates_of(program)
+def main(top, log, jobs):
+    crates = crates_of(top)
     for it in crates:
         it.put_back()  # where the last run was stopped at once
     build = Build(crates, int(jobs))

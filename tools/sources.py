@@ -5,12 +5,18 @@
 
 The sum is that of the lines that this prints in a crate's folder:
 
-    find src specs proofs -type f | LC_ALL=C sort | xargs sha256sum"""
+    find src specs proofs -type f | LC_ALL=C sort | xargs sha256sum
+
+With the name of a program it says why that one in build/ isn't proved of these sources, and ends
+with status 1 if it isn't:
+
+    tools/sources.py PROGRAM"""
 import hashlib
 import os
 import re
 import subprocess
-from typing import Dict, List
+import sys
+from typing import Dict, List, Optional
 
 ROOT = os.path.dirname(os.path.dirname(os.path.abspath(__file__)))
 PARTS = ("src", "specs", "proofs")
@@ -38,10 +44,15 @@ def sum_of_sources(folder: str) -> str:
     return hashlib.sha256("".join(lines).encode()).hexdigest()
 
 
+def crate_lines() -> Dict[str, str]:
+    """The lines of crates.txt, by their crates."""
+    lines: List[str] = re.findall(r"^\w+:.*$", text_of(f"{ROOT}/crates.txt"), re.M)
+    return {line.split(":")[0]: line for line in lines}
+
+
 def crates_below(program: str) -> Dict[str, str]:
     """The lines of crates.txt of a program and the crates that it stands on, the lowest first."""
-    lines = {line.split(":")[0]: line
-             for line in re.findall(r"^\w+:.*$", text_of(f"{ROOT}/crates.txt"), re.M)}
+    lines = crate_lines()
     found: Dict[str, str] = {}
 
     def visit(name: str) -> None:
@@ -59,7 +70,34 @@ def toolchain() -> str:
                           universal_newlines=True).stdout.strip()
 
 
-if __name__ == "__main__":
+def why_unproved(program: str) -> Optional[str]:
+    """Why build/log doesn't tell that a program in build/ was proved of these sources, if so."""
+    path, log = f"{ROOT}/build/{program}", f"{ROOT}/build/log"
+    if not os.path.exists(path) or not os.path.exists(log):
+        return f"there is no build/{program}, with its log"
+    told = text_of(log)
+    if not re.search("^proved by ", told, re.M):
+        return "the log doesn't tell what was proved"
+    sums = dict(re.findall(r"^sources (\w+) (\w{64})$", told, re.M))
+    changed = [name for name in crates_below(program)
+               if sums.get(name) != sum_of_sources(f"{ROOT}/crates/{name}")]
+    if changed:
+        return f"the sources of {' '.join(changed)} aren't those that were proved"
+    if f"\n{sum_of_file(path)}  " not in told:
+        return f"build/{program} isn't the program that the log tells of"
+    return None
+
+
+def main(words: List[str]) -> int:
+    if words:
+        why = why_unproved(words[0])
+        print(why or f"build/{words[0]} is proved of these sources", file=sys.stderr)
+        return 1 if why else 0
     print(f"toolchain {toolchain()}")
-    for crate in crates_below("fzcheck"):
+    for crate in crate_lines():
         print(f"sources {crate} {sum_of_sources(f'{ROOT}/crates/{crate}')}")
+    return 0
+
+
+if __name__ == "__main__":
+    sys.exit(main(sys.argv[1:]))

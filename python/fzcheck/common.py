@@ -3,9 +3,11 @@
 In a checkout the companions are in `python/`, and the library is in `minizinc/` beside it. After
 `make install` both are in `share/fzcheck`, and `bin` has links to the companions.
 """
+import difflib
 import os
 import shutil
-from typing import Iterator, List, Optional, Sequence
+import subprocess
+from typing import Iterable, Iterator, List, Optional, Sequence
 
 PROGRAMS = os.path.dirname(os.path.dirname(os.path.realpath(__file__)))  # their folder
 LIBRARY = "fzcheck.msc"
@@ -16,6 +18,16 @@ def program() -> Optional[str]:
     """The program `fzcheck`: what FZCHECK names, or the one that was installed or built with the
     companions, or else the first on the path."""
     return os.environ.get("FZCHECK") or shutil.which("fzcheck", path=os.pathsep.join(program_places()))
+
+
+def version() -> str:
+    """The version of the program, with which its companions come."""
+    try:
+        told = subprocess.run([program() or "fzcheck", "--version"], stdout=subprocess.PIPE,
+                              encoding="utf-8", check=False).stdout
+    except OSError:
+        return "of unknown version: there is no fzcheck"
+    return told.partition(" ")[2].strip()
 
 
 def program_places() -> Iterator[str]:
@@ -47,3 +59,18 @@ def with_defaults(options: Sequence[str], defaults: Sequence[str] = TELLING) -> 
     """The options of `fzcheck check` that are given, behind the others that are always on."""
     names = [word.split("=")[0] for word in options]
     return [*(word for word in defaults if word not in names), *options]
+
+
+def version_words(companion: str) -> str:
+    """What a companion says of its version, which is that of the program that it would run."""
+    found = program()
+    if not found:
+        return f"{companion}: no program fzcheck was found"
+    told = subprocess.run([found, "--version"], stdout=subprocess.PIPE, check=True).stdout
+    return f"{companion} with {told.decode().strip()}"
+
+
+def meant(word: str, known: Iterable[str]) -> str:
+    """What is said of a wrong word that is nearly a right one."""
+    near = difflib.get_close_matches(word, list(known), 1)
+    return f": did you mean {near[0]}?" if near else ""

@@ -1,4 +1,5 @@
 """One job: `fzcheck check` on a pair, within limits."""
+import contextlib
 import os
 import resource
 import signal
@@ -7,9 +8,11 @@ import time
 from dataclasses import replace
 from typing import IO, List, NamedTuple, Optional, Tuple
 
-from fzcheck.batch.report import read_report
+from fzcheck.batch.packed import Broken, NoProgram, Plain
+from fzcheck.batch.report import ROOM, SHARE, Reader, read_report
 from fzcheck.batch.results import LIMITED, Key, Outcome, Result, Store, Usage
 from fzcheck.batch.season import Facts, Pair, sum_of
+from fzcheck.batch.times import stamps_beside, stamps_in_stream, told_beside
 
 UNITS = {"": 1, "k": 1 << 10, "M": 1 << 20, "G": 1 << 30, "T": 1 << 40}
 TOLD = 2000  # bytes of standard error that may be told
@@ -17,8 +20,8 @@ ENVIRONMENT = dict(os.environb)
 GRACE = 5  # seconds from a signal to what follows
 # Statuses of `fzcheck`, as docs/REPORT.md has them.
 WITH_ANSWER, MEMORY = range(5), 7
-ANSWERS = (Outcome.ACCEPTED, Outcome.VIOLATED, Outcome.UNDECIDED, Outcome.NO_BLOCKS,
-           Outcome.REFUSED)
+ANSWERS = ({Outcome.ACCEPTED}, {Outcome.VIOLATED, Outcome.REFUTED}, {Outcome.UNDECIDED},
+           {Outcome.NO_BLOCKS}, {Outcome.REFUSED, Outcome.MODEL})
 
 
 class Limits(NamedTuple):
@@ -79,29 +82,26 @@ class Ended(NamedTuple):
 
 def judge(setting: Setting, job: Job) -> Done:
     """The result of a job, from the store where nothing has changed."""
-    model, solver, stream = job.pair
+    model, solver, stream = job.pair[:3]
+    key = Key(setting.program_sum, setting.options, job.facts.sum, job.facts.names_sum, "")
+    result = Result(model, solver, key, setting.version, job.facts.sense)
     try:
         known = tuple((pair.solver, sum_of(pair.stream)) for pair in job.known or ())
-        key = Key(setting.program_sum, setting.options, job.facts.sum, job.facts.names_sum,
-                  sum_of(stream), known)
+        beside = tuple(sum_of(path) if path else "" for path in job.pair.beside)
+        key = key._replace(stream=sum_of(stream), beside=beside, known=known)
     except OSError as error:
-        key = Key(setting.program_sum, setting.options, job.facts.sum, job.facts.names_sum, "")
-        result = Result(model, solver, key, setting.version, job.facts.sense)
         result.words = f"{error.filename or stream}: {error.strerror}"
-        open(setting.store.path("report", model, solver), "w").close()
-        setting.store.put(result, Usage(round(time.time(), 3), 0.0, 0.0, 0))
+        setting.store.put(result, Usage(round(time.time(), 3), 0.0, 0.0, 0), [])
         return Done(result, True)
-    stored = setting.store.result(model, solver)
-    if stored and stored.is_of(key, setting.limits_text):
-        if job.known is None or stored.key.known == known:
-            return Done(without_details(stored), False)
-    if stored:
-        setting.store.drop(model, solver)
-    result = Result(model, solver, key, setting.version, job.facts.sense)
-    usage = run(setting, job, result)
-    setting.store.put(result, usage)
-    is_other = stored is not None and stored.key.program != setting.program_sum
-    replaced = stored.version if stored and is_other else ""
+    stored = setting.store.stored(model, solver)
+    if stored and stored.result.is_of(key, setting.limits_text):
+        if job.known is None or stored.result.key.known == known:
+            return Done(without_details(stored.result), False)
+    result.key = key
+    usage, report = run(setting, job, result)
+    setting.store.put(result, usage, report)
+    is_other = stored is not None and stored.result.key.program != setting.program_sum
+    replaced = stored.result.version if stored and is_other else ""
     return Done(without_details(result), True, replaced)
 
 
@@ -110,23 +110,64 @@ def without_details(result: Result) -> Result:
     return replace(result, points=[], explanation=[])
 
 
-def run(setting: Setting, job: Job, result: Result) -> Usage:
-    """Runs the program, and fills in the result."""
+def run(setting: Setting, job: Job, result: Result) -> Tuple[Usage, List[str]]:
+    """Runs the program on the streams as they are when unpacked, and fills in the result. What the
+    job took, and what is kept of the report."""
+    try:
+        plain = Plain(job.pair.stream)
+    except (Broken, NoProgram) as fault:
+        is_broken = isinstance(fault, Broken)
+        result.outcome = Outcome.REFUSED if is_broken else Outcome.FAILED
+        result.words = f"refused: stream: {fault}" if is_broken else str(fault)
+        return Usage(round(time.time(), 3), 0.0, 0.0, 0), []
+    others: List[Tuple[str, Plain]] = []
+    try:
+        for pair in job.known or ():
+            with contextlib.suppress(Broken, NoProgram):  # told of that solver's own pair
+                others.append((pair.solver, Plain(pair.stream)))
+        return run_on(setting, job, result, plain, others)
+    finally:
+        for it in (plain, *(other for _, other in others)):
+            it.close()
+
+
+def run_on(setting: Setting, job: Job, result: Result, plain: Plain,
+           others: List[Tuple[str, Plain]]) -> Tuple[Usage, List[str]]:
     words = [setting.program, "check", *setting.options]
     if job.facts.names:
         words += ["--names", job.facts.names]
-    for pair in job.known or ():
-        words += ["--known", pair.stream]
-    words += ["--", job.facts.path, job.pair.stream]
-    report = setting.store.path("report", result.model, result.solver)
-    ended = process(words, report, setting.limits)
-    known = {pair.stream: pair.solver for pair in job.known or ()}
-    answer = read_report(report, result, known)
-    result.outcome, told = outcome(ended, answer)
+    for _, other in others:
+        words += ["--known", other.path]
+    words += ["--", job.facts.path, plain.path]
+    room = max(ROOM, os.path.getsize(job.pair.stream) // SHARE)
+    reader = Reader(result, {other.path: solver for solver, other in others}, room)
+    descriptors = [it.file.fileno() for it in (plain, *(it for _, it in others)) if it.file]
+    ended = process(words, reader, setting.limits, descriptors)
+    result.outcome, told = outcome(ended, reader.answer)
     result.words = "; ".join(filter(None, (told, result.words)))
     if result.outcome in LIMITED:
         result.limits = setting.limits_text
-    return ended.usage
+    add_times(result, reader, plain.path, job.pair)
+    return ended.usage, reader.kept.end()
+
+
+def add_times(result: Result, reader: Reader, stream: str, pair: Pair) -> None:
+    """What is known of when blocks were printed, and of what the solver took."""
+    try:
+        if pair.status:
+            result.solving = told_beside(pair.status)
+        blocks = reader.timed_blocks()
+        stamps = (stamps_beside(pair.times, blocks) if pair.times
+                  else stamps_in_stream(stream, blocks))
+    except OSError as error:
+        result.words = "; ".join(filter(None, (result.words, f"{error.filename}: {error.strerror}")))
+        return
+    if result.solving.seconds is None:
+        result.solving.seconds = stamps.end
+    if result.best_block:
+        result.solving.best_at = stamps.of_blocks.get(result.best_block)
+    for point in result.points:
+        point[3] = stamps.of_blocks.get(point[0])
 
 
 def outcome(ended: Ended, answer: Optional[Outcome]) -> Tuple[Outcome, str]:
@@ -139,16 +180,15 @@ def outcome(ended: Ended, answer: Optional[Outcome]) -> Tuple[Outcome, str]:
         return Outcome.OUT_OF_MEMORY, "killed, as the system does where memory runs out"
     if ended.status < 0:
         return Outcome.FAILED, f"fzcheck was ended by signal {-ended.status}"
-    if ended.status in WITH_ANSWER and answer:
-        wanted = ANSWERS[ended.status]
-        if answer is wanted or (answer is Outcome.REFUTED and wanted is Outcome.VIOLATED):
-            return answer, ""
+    if answer and ended.status in WITH_ANSWER and answer in ANSWERS[ended.status]:
+        return answer, ""
     last_line = (ended.told.strip().splitlines() or [""])[-1]
     return Outcome.FAILED, f"fzcheck ended with status {ended.status}: {last_line}"
 
 
-def process(words: List[str], report: str, limits: Limits) -> Ended:
-    """Runs a program, whose standard output comes into the report."""
+def process(words: List[str], reader: Reader, limits: Limits, descriptors: List[int]) -> Ended:
+    """Runs a program, whose standard output goes to the reader as it comes. It has the descriptors
+    of files without a name."""
     is_late = False
 
     def give_up(*_: object) -> None:
@@ -158,15 +198,20 @@ def process(words: List[str], report: str, limits: Limits) -> Ended:
 
     told = emptied()
     start = time.monotonic()
+    ours, theirs = os.pipe()
+    for descriptor in descriptors:
+        os.set_inheritable(descriptor, True)
     # This begins a process without a copy of this one, which may take longer than a check.
     child = os.posix_spawn(words[0], words, ENVIRONMENT, setsigdef=[signal.SIGINT], file_actions=[
         (os.POSIX_SPAWN_OPEN, 0, os.devnull, os.O_RDONLY, 0),
-        (os.POSIX_SPAWN_OPEN, 1, report, os.O_WRONLY | os.O_CREAT | os.O_TRUNC, 0o666),
-        (os.POSIX_SPAWN_DUP2, told, 2)])
+        (os.POSIX_SPAWN_DUP2, theirs, 1), (os.POSIX_SPAWN_DUP2, told, 2)])
     Running.child = child
+    os.close(theirs)
     signal.signal(signal.SIGALRM, give_up)
     signal.alarm(limits.time or 0)
     limit(child, limits)
+    with open(ours, "rb") as file:
+        read_report(file, reader)
     _, status, used = os.wait4(child, 0)
     signal.alarm(0)
     Running.child = None

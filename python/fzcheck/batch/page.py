@@ -1,17 +1,27 @@
 """The page of a season: one file, which has all that it shows and needs no network."""
+import html
 import json
 import os
+import time
+from collections import Counter
 from typing import Any, Dict, List, Optional
 
-from fzcheck.batch.results import Outcome, Result, Row, Usage
+from fzcheck.batch.report import claim_words
+from fzcheck.batch.results import (COMPLETE, ERROR, UNJUDGED, UNKNOWN, Finish, Outcome, Result, Row,
+                                   Solving, Stored, Usage)
+from fzcheck.batch.scores import Score, shown
 
 TEMPLATE = os.path.join(os.path.dirname(os.path.realpath(__file__)), "page.html")
-PLACE = "/* the data */"
+DATA, TITLE = "/* the data */", "<!-- the title -->"
 # Bytes that all charts and all explanations may take together, and those of each at least and most.
-CHARTS, CHART_LEAST, CHART_MOST = 2_000_000, 100, 1_600
+CHARTS, CHART_LEAST, CHART_MOST = 2_000_000, 100, 2_000
 REASONS, REASON_LEAST, REASON_MOST = 1_200_000, 250, 4_000
 MOST_CLAIMS = 20
 NUMBERS = {kind: number for number, kind in enumerate(Outcome)}
+FINISHES = {kind: number for number, kind in enumerate(Finish)}
+JUDGED = {Finish.PROVED: "claimed and proved", Finish.CLAIMED: "claimed only",
+          Finish.REFUTED: "claimed, and refuted"}
+GIVEN_UP = {UNKNOWN: "the solver doesn't know", ERROR: "the solver reports an error"}
 
 
 def compact(value: Any) -> str:
@@ -22,48 +32,104 @@ def within(least: int, value: int, most: int) -> int:
     return max(least, min(value, most))
 
 
-def claim_lines(result: Result) -> List[str]:
-    lines = []
-    for claim in result.claims[:MOST_CLAIMS]:
-        told = f"refuted by {claim.refuted_by}" if claim.refuted_by else "not judged"
-        lines.append(f"claim after block {claim.after}: {claim.claim} {told}")
-    return lines
+def finish_words(result: Result) -> str:
+    """What the solver says of its whole search, and what is known of that."""
+    claim = result.last_claim
+    if claim is None:
+        return "unfinished" if result.blocks else "no claim"
+    if claim.claim in GIVEN_UP:
+        return GIVEN_UP[claim.claim]
+    what = {COMPLETE: "best objective"}.get(claim.claim, claim.claim.strip("="))
+    if claim.claim == COMPLETE and result.sense == "satisfy":
+        what = "all solutions"
+    if result.says_unsatisfiable:
+        what = "no solution"
+    return f"{what} {JUDGED[result.finish]}"
+
+
+def state_words(result: Result, is_best: bool) -> str:
+    """What a cell says, for those who hear it."""
+    if result.outcome is Outcome.MODEL:
+        return "the model can't be judged by"
+    words = [": ".join(filter(None, (result.outcome.value, result.words)))]
+    if result.is_wrong or result.outcome in UNJUDGED:
+        return words[0]
+    words.append(finish_words(result))
+    if result.best is not None:
+        words.append(f"objective {result.best}" + (", none is better" if is_best else ""))
+    return "; ".join(words)
 
 
 def usage_text(usage: Usage) -> str:
-    return f"{usage.seconds:.2f} s of the processor, {usage.memory / 1e6:.0f} MB"
+    return f"judged in {usage.seconds:.2f} s of the processor, {usage.memory / 1e6:.0f} MB"
+
+
+def solving_text(solving: Solving) -> str:
+    """What the solver took, as far as that is known."""
+    told = []
+    if solving.seconds is not None:
+        told.append(f"{shown(solving.seconds)} s")
+    if solving.best_at is not None:
+        told.append(f"its best solution after {shown(solving.best_at)} s")
+    if solving.memory is not None:
+        told.append(f"{solving.memory / 1e6:.0f} MB")
+    if solving.status:
+        told.append(f"status {solving.status}")
+    return f"the solver: {', '.join(told)}" if told else ""
+
+
+def score_text(score: Optional[Score]) -> str:
+    if not score:
+        return ""
+    return (f"scores: complete {shown(score.complete)}, incomplete {shown(score.incomplete)}, "
+            f"XCSP3 {shown(score.xcsp3)}")
+
+
+def lines_of(result: Result, usage: Usage, score: Optional[Score]) -> List[str]:
+    """What the dialog tells of a pair. A refuted claim may be what the words tell already."""
+    claims = [claim_words(claim) for claim in result.claims[:MOST_CLAIMS]]
+    blocks = (f"blocks: {result.blocks}, satisfied {result.satisfied}, violated {result.violated}, "
+              f"undecided {result.undecided}")
+    best = f"best objective of a satisfied block: {result.best}" if result.best is not None else ""
+    lines = [blocks, "" if result.words in claims else result.words, best, *claims,
+             f"cut: {result.cut}" if result.cut else "", solving_text(result.solving),
+             score_text(score), usage_text(usage)]
+    return [line for line in lines if line]
 
 
 class Page:
     """Gathers the models, with as much of each chart as fits."""
 
-    def __init__(self, cells: int) -> None:
+    def __init__(self, cells: int, title: str) -> None:
+        self.title = title
         self.chart = within(CHART_LEAST, CHARTS // max(cells, 1), CHART_MOST)
         self.models: List[Dict[str, Any]] = []
         self.explained = 0
+        self.days: List[float] = []
+        self.programs: "Counter[str]" = Counter()
+        self.options: "Counter[str]" = Counter()
 
-    def points(self, result: Result) -> List[int]:
+    def points(self, result: Result) -> List[List[Any]]:
         """The points that fit, evenly chosen, with the last one."""
-        numbers = result.points
-        if not numbers:
+        points = result.points
+        if not points:
             return []
-        size = sum(len(str(number)) + 1 for number in numbers[-3:])
-        every = -(-len(numbers) // 3 * size // self.chart)
-        chosen = [number for i in range(0, len(numbers) - 3, 3 * max(every, 1))
-                  for number in numbers[i : i + 3]]
-        return chosen + numbers[-3:]
+        size = len(compact(points[-1])) + 1
+        every = max(-(-len(points) * size // self.chart), 1)
+        return points[: len(points) - 1 : every] + points[-1:]
 
-    def cell(self, result: Result, usage: Optional[Usage]) -> Dict[str, Any]:
+    def cell(self, stored: Stored, is_best: bool, score: Optional[Score]) -> Dict[str, Any]:
+        result, usage = stored
         cell: Dict[str, Any] = {
             "solver": result.solver,
             "outcome": NUMBERS[result.outcome],
-            "objective": None if result.best is None else str(result.best),
+            "finish": FINISHES[result.finish],
+            "none": result.says_unsatisfiable or None,
+            "state": state_words(result, is_best),
+            "objective": None if result.best is None or result.is_wrong else str(result.best),
+            "best": is_best or None,
             "wrong": result.is_wrong or None,
-            "words": result.words,
-            "blocks": [result.satisfied, result.violated, result.undecided],
-            "claims": claim_lines(result),
-            "cut": "{}..{}".format(*result.cut) if result.cut else "",
-            "used": usage_text(usage) if usage else "",
+            "lines": lines_of(result, usage, score),
             "points": self.points(result),
             "why": "\n".join(result.explanation)[:REASON_MOST],
         }
@@ -71,14 +137,27 @@ class Page:
             self.explained += 1
         return {name: value for name, value in cell.items() if value not in ("", None, [])}
 
-    def add(self, row: Row) -> None:
-        cells = [self.cell(result, usage) for result, usage in zip(row.results, row.usages)]
+    def add(self, row: Row, scores: Dict[str, Score]) -> None:
+        for result, usage in row.pairs:
+            self.days.append(usage.at)
+            self.programs[f"{result.version} ({result.key.program[:8]})"] += 1
+            self.options[" ".join(result.key.options)] += 1
         self.models.append({
             "name": row.model,
-            "sense": row.results[0].sense if row.results else "",
+            "sense": row.pairs[0].result.sense if row.pairs else "",
             "best": None if row.best is None else str(row.best),
-            "cells": cells,
+            "holders": row.holders,
+            "fault": row.fault,
+            "cells": [self.cell(stored, stored.result.solver in row.holders,
+                                scores.get(stored.result.solver)) for stored in row.pairs],
         })
+
+    def made_of(self) -> List[str]:
+        """When the season was judged, by what, and with which options."""
+        days = [time.strftime("%Y-%m-%d", time.gmtime(at)) for at in sorted(self.days)]
+        told = [f"Judged {' to '.join(sorted({days[0], days[-1]}))}"] if days else []
+        told += [f"Program: {name}" for name in sorted(self.programs)]
+        return told + [f"Options: {options}" for options in sorted(self.options)]
 
     def text(self, counts: List[List[str]]) -> str:
         """The page, with a table of counts by solver, whose first line is its head."""
@@ -90,8 +169,10 @@ class Page:
             cell["solver"] = numbers[cell["solver"]]
             if len(cell.get("why", "")) > most:
                 cell["why"] = cell["why"][:most] + " ..."
-        data = {"solvers": names, "models": self.models, "counts": counts,
-                "outcomes": [kind.value for kind in Outcome]}
+        data = {"solvers": names, "models": self.models, "counts": counts, "made": self.made_of(),
+                "outcomes": [kind.value for kind in Outcome],
+                "finishes": [kind.value for kind in Finish]}
         with open(TEMPLATE, encoding="utf-8") as file:
+            page = file.read().replace(TITLE, html.escape(self.title))
             # No name may end the element that holds the data.
-            return file.read().replace(PLACE, compact(data).replace("<", "\\u003c"))
+            return page.replace(DATA, compact(data).replace("<", "\\u003c"))

@@ -1,7 +1,7 @@
 """Judges a season: many models, and the streams of many solvers on them.
 
     fzcheck-batch run --models DIR --streams 'DIR/{solver}/{model}.out' --results DIR [OPTIONS]
-    fzcheck-batch report --results DIR [--html FILE] [--csv FILE]
+    fzcheck-batch report --results DIR [--html FILE] [--csv FILE] [--scores FILE]
     fzcheck-batch merge --results DIR FOLDER..
 
 docs/ORGANISERS.md tells how they are used, on one machine and on several.
@@ -11,17 +11,41 @@ import os
 import signal
 import subprocess
 import sys
-from typing import List, NoReturn, Tuple
+from typing import Dict, List, NoReturn, Tuple
 
 from fzcheck import common
 from fzcheck.batch.job import Limits, Setting, limits_of
 from fzcheck.batch.results import Store, merge
 from fzcheck.batch.run import check_words, run
-from fzcheck.batch.season import season, shard_of, sum_of, tell
-from fzcheck.batch.table import report
+from fzcheck.batch.season import Templates, season, shard_of, sum_of, tell
+from fzcheck.batch.table import Files, report
 
 WRONG_WORDS, NOT_READ = 5, 6
 ALWAYS = ("--claims", "--explain", "--json")  # options of check
+RUN_TEXT = """Judges each stream against its model, and the claims. Words that aren't told here are
+options of `fzcheck check`, as --complete, --cut or --claims=prove."""
+RESULTS = ("--results", "DIR", "the folder of results")
+REQUIRED = ("--results", "--models", "--streams")
+# Of each command what it does, and its options, each with what it takes and what it is for.
+COMMANDS: Dict[str, Tuple[str, Tuple[Tuple[str, str, str], ...]]] = {
+    "run": (RUN_TEXT, (
+        RESULTS,
+        ("--models", "DIR", "has NAME.fzn, also in folders"),
+        ("--streams", "TEMPLATE", "where the streams are, with {solver} and {model}"),
+        ("--times", "TEMPLATE", "when blocks were printed, as `minizinc --output-time` tells"),
+        ("--status", "TEMPLATE", "what `time -v` or `runsolver -v` told of the solvers"),
+        ("--names", "TEMPLATE", "tables of names, with {model}"),
+        ("--limit", "cpu=SECONDS,memory=BYTES,time=SECONDS",
+         "what one job may take; 4G is 4 GiB (no limit)"),
+        ("--shard", "I/N", "the I-th of N shares"))),
+    "report": ("Tells who is wrong where.", (
+        RESULTS,
+        ("--html", "FILE", "writes a page"),
+        ("--title", "TEXT", "the page's title"),
+        ("--csv", "FILE", "writes a table, a line for each pair"),
+        ("--scores", "FILE", "writes the scores, a line for each solver"))),
+    "merge": ("Takes over the results of other folders.", (RESULTS,)),
+}
 
 
 class Parser(argparse.ArgumentParser):
@@ -36,31 +60,24 @@ def parser() -> argparse.ArgumentParser:
     """The words of the three commands."""
     whole = Parser(prog="fzcheck-batch", allow_abbrev=False,
                    description=(__doc__ or "").split("\n")[0])
-    commands = whole.add_subparsers(dest="command", required=True, metavar="run|report|merge")
-
-    def command(name: str, text: str) -> argparse.ArgumentParser:
-        added = commands.add_parser(name, help=text, description=text, allow_abbrev=False)
-        added.add_argument("--results", required=True, metavar="DIR", help="the folder of results")
-        return added
-
-    runs = command("run", "Judges each stream against its model, and the claims. Words that aren't "
-                   "told here are options of `fzcheck check`, as --complete or --cut.")
-    runs.add_argument("--models", required=True, metavar="DIR",
-                      help="has NAME.fzn, also in folders")
-    runs.add_argument("--streams", required=True, metavar="TEMPLATE",
-                      help="where the streams are, with {solver} and {model}")
-    runs.add_argument("--names", metavar="TEMPLATE", help="tables of names, with {model}")
-    runs.add_argument("-j", type=int, default=len(os.sched_getaffinity(0)), metavar="N",
-                      help="so many jobs side by side (all processors)")
-    runs.add_argument("--limit", default="", metavar="cpu=SECONDS,memory=BYTES,time=SECONDS",
-                      help="what one job may take; 4G is 4 GiB (no limit)")
-    runs.add_argument("--shard", default="1/1", metavar="I/N", help="the I-th of N shares")
-    tables = command("report", "Tells who is wrong where.")
-    tables.add_argument("--html", metavar="FILE", help="writes a page")
-    tables.add_argument("--csv", metavar="FILE", help="writes a table, a line for each pair")
-    merged = command("merge", "Takes over the results of other folders.")
-    merged.add_argument("folders", nargs="+", metavar="FOLDER")
+    whole.add_argument("--version", action="store_true", help="tells the version")
+    commands = whole.add_subparsers(dest="command", metavar="|".join(COMMANDS))
+    for name, (text, options) in COMMANDS.items():
+        command = commands.add_parser(name, help=text.split(". ")[0].rstrip("."),
+                                      description=text, allow_abbrev=False)
+        for option, value, told in options:
+            command.add_argument(option, metavar=value, help=told, required=option in REQUIRED)
+        if name == "run":
+            command.add_argument("-j", type=int, default=len(os.sched_getaffinity(0)), metavar="N",
+                                 help="so many jobs side by side (all processors)")
+        elif name == "merge":
+            command.add_argument("folders", nargs="+", metavar="FOLDER")
     return whole
+
+
+def near_option(command: str, word: str) -> str:
+    """What is said of a word that is nearly an option of a command."""
+    return common.meant(word.split("=")[0], (option for option, _, _ in COMMANDS[command][1]))
 
 
 def options_of(words: List[str]) -> Tuple[str, ...]:
@@ -78,36 +95,55 @@ def setting_of(arguments: argparse.Namespace, words: List[str]) -> Setting:
     told = subprocess.run([program, "--version"], stdout=subprocess.PIPE, check=True).stdout
     limits = limits_of(arguments.limit) if arguments.limit else Limits()
     return Setting(program, sum_of(program), told.decode().strip(), options_of(words), limits,
-                   arguments.limit, Store(arguments.results))
+                   arguments.limit or "", Store(arguments.results))
 
 
 def run_season(arguments: argparse.Namespace, words: List[str]) -> int:
     setting = setting_of(arguments, words)
     wrong = check_words(setting)
     if wrong or arguments.j < 1:
-        raise ValueError(wrong or "-j wants at least one")
-    found = season(arguments.models, arguments.streams, shard_of(arguments.shard))
+        near = "".join(filter(None, (near_option("run", word) for word in words)))
+        raise ValueError(f"{wrong}{near}" or "-j wants at least one")
+    templates = Templates(arguments.streams, arguments.times, arguments.status)
+    found = season(arguments.models, templates, shard_of(arguments.shard or "1/1"))
     for line in found.told:
         tell(line)
-    if not found.pairs and arguments.shard == "1/1":
+    if not found.pairs and not arguments.shard:
         tell("there is no stream with a model")
         return NOT_READ
     return 0 if run(setting, found, arguments.names, arguments.j) else NOT_READ
 
 
-def main(words: List[str]) -> int:
-    arguments, others = parser().parse_known_args(words)
-    if others and arguments.command != "run":
-        parser().error(f"unrecognized arguments: {' '.join(others)}")
-    if arguments.command == "run":
-        return run_season(arguments, others)
-    if arguments.command == "report":
-        return report(Store(arguments.results), arguments.html, arguments.csv)
+def report_season(arguments: argparse.Namespace) -> int:
+    files = Files(arguments.html, arguments.csv, arguments.scores)
+    if arguments.title:
+        files = files._replace(title=arguments.title)
+    return report(Store(arguments.results), files)
+
+
+def merge_seasons(arguments: argparse.Namespace) -> int:
     count, differing = merge(Store(arguments.results), [Store(path) for path in arguments.folders])
     for line in differing:
         tell(line)
     print(f"{count} results, {len(differing)} of them differ from those before")
     return 1 if differing else 0
+
+
+def main(words: List[str]) -> int:
+    if words and not words[0].startswith("-") and words[0] not in COMMANDS:
+        parser().error(f"{words[0]} is no command{common.meant(words[0], COMMANDS)}")
+    arguments, others = parser().parse_known_args(words)
+    if arguments.version:
+        print(common.version_words("fzcheck-batch"))
+        return 0
+    if not arguments.command:
+        parser().error(f"a command is missing: {', '.join(COMMANDS)}")
+    if arguments.command == "run":
+        return run_season(arguments, others)
+    if others:
+        near = near_option(arguments.command, others[0])
+        parser().error(f"unexpected {others[0]}{near}")
+    return report_season(arguments) if arguments.command == "report" else merge_seasons(arguments)
 
 
 def stop(number: int, _: object) -> None:

@@ -1,8 +1,8 @@
-"""The results of a season: a folder with two files for each pair of a model and a solver.
+"""The results of a season: a folder with one file for each pair of a model and a solver.
 
-`report/MODEL/SOLVER.json` is what `fzcheck check --json` wrote, and `result/MODEL/SOLVER.json` sums
-it up and is written last. Time and memory, which alone differ from run to run, are in `usage`: a
-line for each job in a file for each process that ran some.
+`pairs/MODEL/SOLVER.json` has a line with the result, a line with what the job took, which alone
+differs from run to run, and then the report. It is written in `new` and renamed, so each file is
+whole, and all machines may write into one folder.
 """
 import enum
 import json
@@ -12,7 +12,9 @@ import socket
 from dataclasses import dataclass, field
 from typing import Any, Collection, Dict, Iterator, List, NamedTuple, Optional, Tuple
 
-KINDS = ("report", "result")  # the second says that the first is there
+PAIRS, NEW, ENDING = "pairs", "new", ".json"
+UNSATISFIABLE, COMPLETE = "=====UNSATISFIABLE=====", "=========="
+UNKNOWN, ERROR = "=====UNKNOWN=====", "=====ERROR====="
 
 
 class Outcome(str, enum.Enum):
@@ -24,14 +26,25 @@ class Outcome(str, enum.Enum):
     UNDECIDED = "undecided"
     NO_BLOCKS = "no blocks"
     ACCEPTED = "accepted"
+    MODEL = "model refused"
     OUT_OF_MEMORY = "out of memory"
     TIME_LIMIT = "time limit"
     FAILED = "failed"
 
 
 WRONG = (Outcome.VIOLATED, Outcome.REFUTED, Outcome.REFUSED)
-OF_NOBODY = ("refused: model", "refused: names")  # how words begin that blame no solver
 LIMITED = (Outcome.OUT_OF_MEMORY, Outcome.TIME_LIMIT)
+UNJUDGED = (*LIMITED, Outcome.FAILED)  # which say nothing of the solver
+
+
+class Finish(str, enum.Enum):
+    """What a solver says of its whole search, and what is known of that."""
+
+    PROVED = "proved"
+    CLAIMED = "claimed only"
+    REFUTED = "refuted"
+    GIVEN_UP = "given up"  # it says that it doesn't know, or that it failed
+    NONE = "unfinished"
 
 
 class Key(NamedTuple):
@@ -42,18 +55,38 @@ class Key(NamedTuple):
     model: str
     names: str
     stream: str
+    beside: Tuple[str, ...] = ()  # the sums of the files beside the stream
     known: Tuple[Tuple[str, str], ...] = ()  # solvers, and the sums of their streams
 
 
 @dataclass
 class Claim:
-    """A solver's claim behind so many blocks, with the objective of the last of them."""
+    """A solver's claim after so many blocks, with the objective of the last of them."""
 
     claim: str
     after: int
     objective: Optional[int] = None
     refuted_by: Optional[str] = None
     by_known: bool = False
+    proved: Optional[int] = None  # by so many nodes of a search
+
+    @property
+    def judgement(self) -> str:
+        if self.refuted_by:
+            return f"refuted by {self.refuted_by}"
+        if self.proved is not None:
+            return f"proved, {self.proved} node{'' if self.proved == 1 else 's'}"
+        return "not judged"
+
+
+@dataclass
+class Solving:
+    """What the solver took, as far as its stream and the files beside it tell."""
+
+    seconds: Optional[float] = None
+    best_at: Optional[float] = None  # when it printed its best satisfied block
+    memory: Optional[int] = None  # bytes
+    status: str = ""
 
 
 @dataclass
@@ -73,13 +106,14 @@ class Result:
     violated: int = 0
     undecided: int = 0
     claims: List[Claim] = field(default_factory=list)
-    cut: Optional[List[int]] = None
+    cut: str = ""
     best: Optional[int] = None  # the best objective of a satisfied block
     best_block: Optional[int] = None
     reach: Optional[int] = None  # the same of all blocks that might be satisfied by themselves
     might_be_solved: bool = False
-    # Of some blocks the number, the objective and whether it is satisfied, one after another.
-    points: List[int] = field(default_factory=list)
+    solving: Solving = field(default_factory=Solving)
+    # Of some blocks the number, the objective, whether it is satisfied, and the seconds or none.
+    points: List[List[Any]] = field(default_factory=list)
 
     @property
     def blocks(self) -> int:
@@ -88,11 +122,24 @@ class Result:
     @property
     def is_wrong(self) -> bool:
         """Whether the solver is to blame."""
-        return self.outcome in WRONG and not self.words.startswith(OF_NOBODY)
+        return self.outcome in WRONG
+
+    def claims_that_are(self, finish: Finish) -> List[Claim]:
+        return [claim for claim in self.claims if finish_of(claim) is finish]
 
     @property
-    def refuted(self) -> int:
-        return sum(1 for claim in self.claims if claim.refuted_by)
+    def last_claim(self) -> Optional[Claim]:
+        """The claim that tells most: one that is refuted, or else the last one."""
+        refuted = self.claims_that_are(Finish.REFUTED)
+        return refuted[0] if refuted else self.claims[-1] if self.claims else None
+
+    @property
+    def finish(self) -> Finish:
+        return finish_of(self.last_claim) if self.last_claim else Finish.NONE
+
+    @property
+    def says_unsatisfiable(self) -> bool:
+        return self.last_claim is not None and self.last_claim.claim == UNSATISFIABLE
 
     def is_of(self, key: Key, limits: str) -> bool:
         """Whether this is what a run would give, whatever streams were known."""
@@ -107,6 +154,14 @@ class Result:
         return other is None or (one < other if self.sense == "minimize" else one > other)
 
 
+def finish_of(claim: Claim) -> Finish:
+    if claim.refuted_by:
+        return Finish.REFUTED
+    if claim.proved is not None:
+        return Finish.PROVED
+    return Finish.GIVEN_UP if claim.claim in (UNKNOWN, ERROR) else Finish.CLAIMED
+
+
 class Usage(NamedTuple):
     """What the last job of a pair took."""
 
@@ -116,22 +171,44 @@ class Usage(NamedTuple):
     memory: int  # bytes
 
 
+class Stored(NamedTuple):
+    result: Result
+    usage: Usage
+
+
 class Row(NamedTuple):
-    """A model, with the best objective of a satisfied block, and the solvers that have it."""
+    """A model, with the best objective of a satisfied block, and the solvers that have it and are
+    nowhere wrong on it."""
 
     model: str
-    results: List[Result]
-    usages: List[Optional[Usage]]
+    pairs: List[Stored]
     best: Optional[int]
     holders: List[str]
+
+    @property
+    def fault(self) -> str:
+        """Why the model itself can't be judged by, where that is so."""
+        refused = [it.result for it in self.pairs if it.result.outcome is Outcome.MODEL]
+        return refused[0].words if refused else ""
+
+
+def row_of(model: str, pairs: List[Stored]) -> Row:
+    best = None
+    for result, _ in pairs:
+        best = result.best if result.better(result.best, best) else best
+    holders = [result.solver for result, _ in pairs
+               if best is not None and result.best == best and not result.is_wrong]
+    return Row(model, pairs, best, holders)
 
 
 def result_from(text: Dict[str, Any]) -> Result:
     key = text["key"]
     known = tuple((solver, stream) for solver, stream in key["known"])
-    text["key"] = Key(**{**key, "options": tuple(key["options"]), "known": known})
+    text["key"] = Key(**key)._replace(options=tuple(key["options"]), beside=tuple(key["beside"]),
+                                      known=known)
     text["claims"] = [Claim(**claim) for claim in text["claims"]]
     text["outcome"] = Outcome(text["outcome"])
+    text["solving"] = Solving(**text["solving"])
     return Result(**text)
 
 
@@ -155,57 +232,44 @@ class Store:
         self.folder = folder
         self.host = socket.gethostname()
 
-    def path(self, kind: str, model: str, solver: str) -> str:
-        return f"{self.folder}/{kind}/{escaped(model)}/{escaped(solver)}.json"
+    def path(self, model: str, solver: str) -> str:
+        return f"{self.folder}/{PAIRS}/{escaped(model)}/{escaped(solver)}{ENDING}"
 
     def prepare(self, models: Collection[str]) -> None:
         """Makes the folders."""
-        os.makedirs(os.path.join(self.folder, "usage"), exist_ok=True)
-        for kind in KINDS:
+        for kind in (PAIRS, NEW):
             os.makedirs(os.path.join(self.folder, kind), exist_ok=True)
-            for model in models:
-                os.makedirs(os.path.join(self.folder, kind, escaped(model)), exist_ok=True)
+        for model in models:
+            os.makedirs(os.path.join(self.folder, PAIRS, escaped(model)), exist_ok=True)
 
-    def put(self, result: Result, usage: Usage) -> None:
-        """Stores what a run gave, whose report is in its place. A result that isn't whole counts as
-        none, and so needs no care."""
-        line = json.dumps([result.model, result.solver, *usage]) + "\n"
-        with open(f"{self.folder}/usage/{self.host}.{os.getpid()}.json", "ab", buffering=0) as file:
-            file.write(line.encode())
-        path = self.path("result", result.model, result.solver)
-        with open(path, "wb", buffering=0) as file:
+    def new_path(self) -> str:
+        """A file of this process alone, which is renamed when it is whole."""
+        return f"{self.folder}/{NEW}/{self.host}.{os.getpid()}"
+
+    def put(self, result: Result, usage: Usage, report: List[str]) -> None:
+        """Stores what a run gave."""
+        new = self.new_path()
+        with open(new, "wb") as file:
             file.write(text_of(result).encode())
+            file.write((json.dumps(usage._asdict()) + "\n").encode())
+            file.write("".join(report).encode())
+        os.replace(new, self.path(result.model, result.solver))
 
-    def drop(self, model: str, solver: str) -> None:
-        """Takes a result away before its report is written anew."""
-        os.remove(self.path("result", model, solver))
-
-    def result(self, model: str, solver: str) -> Optional[Result]:
-        """What is stored of a pair, or nothing where that isn't whole."""
+    def stored(self, model: str, solver: str) -> Optional[Stored]:
+        """What is stored of a pair, or nothing where there is none that can be read."""
         try:
-            with open(self.path("result", model, solver), "rb") as file:
-                return result_from(json.loads(file.read()))
-        except (OSError, ValueError, KeyError, TypeError):
+            with open(self.path(model, solver), "rb") as file:
+                result = result_from(json.loads(file.readline()))
+                return Stored(result, Usage(**json.loads(file.readline())))
+        except (OSError, ValueError, KeyError, TypeError, AttributeError):
             return None
-
-    def usages(self) -> Dict[Tuple[str, str], Usage]:
-        """What the last job of each pair took."""
-        found: Dict[Tuple[str, str], Usage] = {}
-        folder = os.path.join(self.folder, "usage")
-        for name in os.listdir(folder):
-            with open(os.path.join(folder, name)) as file:
-                for line in filter(lambda line: line.endswith("\n"), file):
-                    model, solver, *numbers = json.loads(line)
-                    usage = Usage(*numbers)
-                    found[model, solver] = max(usage, found.get((model, solver), usage))
-        return found
 
     def names(self) -> Iterator[Tuple[str, List[str]]]:
         """Each model, with the solvers that have results on it."""
-        folder = os.path.join(self.folder, "result")
+        folder = os.path.join(self.folder, PAIRS)
         for model in sorted(os.listdir(folder)):
             names = sorted(os.listdir(os.path.join(folder, model)))
-            yield unescaped(model), [unescaped(name[: -len(".json")]) for name in names]
+            yield unescaped(model), [unescaped(name[: -len(ENDING)]) for name in names]
 
 
 def merge(store: Store, others: List[Store]) -> Tuple[int, List[str]]:
@@ -213,27 +277,17 @@ def merge(store: Store, others: List[Store]) -> Tuple[int, List[str]]:
     count, told = 0, []
     for other in others:
         found = list(other.names())
-        take_usages(store, other)
         store.prepare([model for model, _ in found])
         for model, solver in ((model, solver) for model, solvers in found for solver in solvers):
             count += 1
-            before, now = store.result(model, solver), other.result(model, solver)
-            if before and before != now:
+            before, now = store.stored(model, solver), other.stored(model, solver)
+            if before and (not now or before.result != now.result):
                 told.append(f"{solver} on {model} differs in {other.folder}, and isn't taken")
             elif not before:
                 take(store, other, model, solver)
     return count, told
 
 
-def take_usages(store: Store, other: Store) -> None:
-    store.prepare([])
-    for name in os.listdir(os.path.join(other.folder, "usage")):
-        with open(os.path.join(other.folder, "usage", name), "rb") as file:
-            lines = file.read()
-        with open(os.path.join(store.folder, "usage", name), "ab") as file:
-            file.write(lines)
-
-
 def take(store: Store, other: Store, model: str, solver: str) -> None:
-    for kind in KINDS:
-        shutil.copyfile(other.path(kind, model, solver), store.path(kind, model, solver))
+    shutil.copyfile(other.path(model, solver), store.new_path())
+    os.replace(store.new_path(), store.path(model, solver))

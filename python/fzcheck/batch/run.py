@@ -14,13 +14,12 @@ from multiprocessing.connection import Connection
 from typing import Any, Callable, Dict, Iterator, List, NamedTuple, Optional, Sequence, Tuple
 
 from fzcheck.batch.job import Done, Job, Running, Setting, judge
-from fzcheck.batch.results import Outcome, Result
+from fzcheck.batch.results import COMPLETE, UNSATISFIABLE, Finish, Outcome, Result, finish_of
 from fzcheck.batch.season import Facts, Pair, Season, facts_of, tell
 
 WRONG_WORDS = 5  # the status of `fzcheck`
 MOST_KNOWN = 64
 NUMBER = 8  # bytes of the number of an item
-UNSATISFIABLE, COMPLETE = "=====UNSATISFIABLE=====", "=========="
 ON_TERMINAL, ELSEWHERE = 0.2, 60.0  # seconds between two lines
 
 
@@ -81,7 +80,8 @@ def received(ends: Dict[Connection, Any]) -> Iterator[Any]:
     """What the workers send, until each has sent that there is no more."""
     waiting = list(ends)
     while waiting:
-        for end in multiprocessing.connection.wait(waiting):
+        for end in [end for end in multiprocessing.connection.wait(waiting)
+                    if isinstance(end, Connection)]:
             sent = end.recv()
             if sent is None:
                 waiting.remove(end)
@@ -142,7 +142,7 @@ class Claimant(NamedTuple):
 def refutable(claimant: Result, other: Result) -> bool:
     """Whether a block of the other stream might refute one of the claims."""
     for claim in claimant.claims:
-        if claim.refuted_by and not claim.by_known:
+        if claim.refuted_by and not claim.by_known or finish_of(claim) is Finish.PROVED:
             continue
         if claim.claim == UNSATISFIABLE and other.might_be_solved:
             return True
@@ -209,7 +209,7 @@ def run(setting: Setting, season: Season, names: Optional[str], workers: int) ->
     setting.store.prepare(facts)
     jobs = [Job(pair, facts[pair.model]) for pair in season.pairs if pair.model in facts]
     progress = Progress(len(jobs))
-    pairs = {pair[:2]: pair for pair in season.pairs}
+    pairs = {(pair.model, pair.solver): pair for pair in season.pairs}
     found: Dict[Pair, Result] = {}
     for is_second in (False, True):
         if is_second:

@@ -5,6 +5,8 @@ import re
 import sys
 from typing import Dict, Iterator, List, NamedTuple, Optional, Pattern, Tuple
 
+from fzcheck.batch.packed import ENDINGS
+
 ENDING = ".fzn"
 FIELD = re.compile(r"(\{solver\}|\{model\})")
 PIECE = 1 << 20
@@ -14,11 +16,17 @@ SENSE = re.compile(rb".*\b(satisfy|minimize|maximize)\b", re.S)
 
 
 class Pair(NamedTuple):
-    """A solver's stream on a model."""
+    """A solver's stream on a model, and the files beside it, where there are such."""
 
     model: str
     solver: str
     stream: str
+    times: str = ""  # when its blocks were printed
+    status: str = ""  # how the solver ended, and what it took
+
+    @property
+    def beside(self) -> Tuple[str, str]:
+        return self.times, self.status
 
 
 class Facts(NamedTuple):
@@ -36,6 +44,14 @@ class Season(NamedTuple):
     models: Dict[str, str]  # the path of each
     pairs: List[Pair]
     told: List[str]  # what has no counterpart
+
+
+class Templates(NamedTuple):
+    """Where the streams are, and the files beside them, with {solver} and {model}."""
+
+    streams: str
+    times: Optional[str] = None
+    status: Optional[str] = None
 
 
 class Shard(NamedTuple):
@@ -72,7 +88,8 @@ def pattern_of(template: str, solver: str) -> Pattern[str]:
             seen.add(name)
     if len(seen) < 2:
         raise ValueError(f"{template} has to have {{solver}} and {{model}}")
-    return re.compile("".join(parts), re.S)
+    packed = "|".join(map(re.escape, ENDINGS))
+    return re.compile(f"{''.join(parts)}(?:{packed})?", re.S)
 
 
 def files_below(folder: str) -> Iterator[str]:
@@ -101,27 +118,48 @@ def streams_of(template: str, models: Dict[str, str]) -> Iterator[Pair]:
             yield Pair(way["model"], way["solver"], path)
 
 
-def season(folder: str, template: str, shard: Shard) -> Season:
+def beside(template: Optional[str], pair: Pair) -> str:
+    """The file of a pair that the template names, where there is one."""
+    if not template:
+        return ""
+    path = template.replace("{model}", pair.model).replace("{solver}", pair.solver)
+    return path if os.path.exists(path) else ""
+
+
+def season(folder: str, templates: Templates, shard: Shard) -> Season:
     """The shard's part of the models in the folder and of the template's streams."""
     models = {name: path for name, path in models_in(folder).items() if shard.has(name)}
-    found = sorted(pair for pair in streams_of(template, models) if shard.has(pair.model))
-    pairs, told = [], []
+    found = sorted(pair for pair in streams_of(templates.streams, models)
+                   if shard.has(pair.model))
+    told: List[str] = []
+    taken: Dict[Tuple[str, str], Pair] = {}
     for pair in found:
         if pair.model not in models:
             told.append(f"no model for the stream {pair.stream}")
         elif not os.path.isfile(pair.stream):
             told.append(f"no file: {pair.stream}")
+        elif (pair.model, pair.solver) in taken:
+            other = taken[pair.model, pair.solver].stream
+            told.append(f"{pair.stream} isn't judged: {other} is of the same pair")
         else:
-            pairs.append(pair)
+            taken[pair.model, pair.solver] = pair._replace(
+                times=beside(templates.times, pair), status=beside(templates.status, pair))
+    pairs = list(taken.values())
+    return Season(models, pairs, told + lacking(models, pairs))
+
+
+def lacking(models: Dict[str, str], pairs: List[Pair]) -> List[str]:
+    """Which streams aren't there."""
+    told: List[str] = []
     solvers = {pair.solver for pair in pairs}
     has_stream = {pair[:2] for pair in pairs}
     for name in models:
-        lacking = sorted(solver for solver in solvers if (name, solver) not in has_stream)
-        if len(lacking) == len(solvers):
+        without = sorted(solver for solver in solvers if (name, solver) not in has_stream)
+        if len(without) == len(solvers):
             told.append(f"no stream for the model {models[name]}")
         else:
-            told.extend(f"no stream of {solver} for the model {models[name]}" for solver in lacking)
-    return Season(models, pairs, told)
+            told.extend(f"no stream of {solver} for the model {models[name]}" for solver in without)
+    return told
 
 
 def sum_of(path: str) -> str:

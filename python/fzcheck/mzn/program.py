@@ -1,13 +1,25 @@
 """Checks what `minizinc` printed for a model.
 
-    fzcheck-mzn MODEL.mzn [DATA.dzn|DATA.json ..] [-D TEXT] [-I FOLDER] [--output FILE]
-                [--keep FOLDER] [OPTION of fzcheck check ..]
+    fzcheck-mzn MODEL.mzn [DATA.dzn|DATA.json ..] [-D TEXT] [-I FOLDER] [-o|--output PLAN]
+                [--known PLAN ..] [--strict] [--first] [--flatzinc] [--html FILE] [--keep FOLDER]
+                [OPTION of fzcheck check ..]
+    fzcheck-mzn --help, fzcheck-mzn --version
 
-FILE, or standard input, is a plan as `minizinc` prints it: by the default output of a model without
-an output item, with --output-mode dzn or json, or with --json-stream; or a FlatZinc stream. The
-model is compiled, the plan turned into a stream, and `fzcheck check` judges that with --complete,
---cut and --explain: its report and its status are this program's. --keep leaves the model, the
-stream and the table of names in FOLDER.
+PLAN, or standard input, is what `minizinc` prints: by the default output of a model without an
+output item, with --output-mode dzn or json, or with --json-stream; or a FlatZinc stream. The model
+is compiled, the plan turned into a stream, and `fzcheck check` judges that with --complete, --cut
+and --explain=every. The report and what fails are in the words of the model, and the status is that
+of the check.
+
+  -o, --output PLAN   the plan's file, or - for standard input
+  --known PLAN        another plan, which may show that a claim of this one is wrong
+  --strict            status 2 where a solution doesn't print all names of the model
+  --first             stops at the first constraint that fails
+  --flatzinc          shows the FlatZinc behind each constraint that fails
+  --html FILE         writes a page of the plan
+  --keep FOLDER       leaves the model, the stream and the table of names in FOLDER
+
+An example: minizinc roster.mzn roster.dzn | fzcheck-mzn roster.mzn roster.dzn
 """
 import json
 import os
@@ -15,73 +27,21 @@ import shutil
 import subprocess
 import sys
 import tempfile
-from typing import Iterator, List, NamedTuple, NoReturn, Optional
+from typing import List, NamedTuple, NoReturn, Optional
 
 from fzcheck import common
-from fzcheck.mzn import told
-from fzcheck.mzn.model import MODEL, TABLE, Failed, Inputs, Model, compiled
-from fzcheck.mzn.plan import Plan, Refused
+from fzcheck.mzn.command import Words, Wrong, words_of
+from fzcheck.mzn.computed import OutputModel
+from fzcheck.mzn.model import MODEL, TABLE, Failed, Model, compiled
+from fzcheck.mzn.notes import Notes
+from fzcheck.mzn.page import page
+from fzcheck.mzn.plan import Plan, Refused, Solution
+from fzcheck.mzn.sources import SourceItem, declared, items_of
 from fzcheck.mzn.stream import Writer
+from fzcheck.mzn.told import Source, Told
 
-REFUSED, WRONG_WORDS, UNREAD, INTERRUPTED = 4, 5, 6, 130
-OF_CHECK = ("--large", "--complete", "--cut", "--claims", "--claims=prove", "--explain",
-            "--explain=all", "--json")
-WITH_DATA = ("-D", "--cmdline-data", "--cmdline-json-data")
-WITH_FOLDER = ("-I", "--search-dir")
-WITH_FILE = ("-d", "--data", "-m", "--model")
+DONE, REFUSED, WRONG_WORDS, UNREAD, INTERRUPTED = 0, 4, 5, 6, 130
 STREAM = "stream"
-
-
-class Words(NamedTuple):
-    inputs: Inputs
-    plan: Optional[str]  # its file
-    folder: Optional[str]  # where to keep what was made
-    options: List[str]  # of `fzcheck check`
-
-
-class Wrong(Exception):
-    """Words of the command line that aren't known."""
-
-
-def words_of(words: List[str]) -> Words:
-    inputs = Inputs([], [], [])
-    options: List[str] = []
-    places = {"--output": "", "--keep": ""}
-    rest = iter(words)
-    for word in rest:
-        if word in places:
-            places[word] = argument(word, rest)
-        elif word in ("--known", "--complete-steps", "--tree"):
-            options += [word, argument(word, rest)]
-        elif word in OF_CHECK:
-            options.append(word)
-        else:
-            add_input(inputs, word, rest)
-    if not any(path.endswith(".mzn") for path in inputs.files):
-        raise Wrong("there is no MODEL.mzn")
-    return Words(inputs, places["--output"] or None, places["--keep"] or None, options)
-
-
-def argument(word: str, rest: Iterator[str]) -> str:
-    for following in rest:
-        return following
-    raise Wrong(f"{word} wants a word behind it")
-
-
-def add_input(inputs: Inputs, word: str, rest: Iterator[str]) -> None:
-    """Adds what tells the compiler what the model and its data are."""
-    found = [word]
-    if word in WITH_DATA + WITH_FOLDER + WITH_FILE:
-        found.append(argument(word, rest))
-    is_folder = word in WITH_FOLDER or word.startswith("-I")
-    is_file = word in WITH_FILE or word.endswith((".mzn", ".dzn", ".json")) and word[0] != "-"
-    if not (is_file or is_folder or word.startswith("-D") or word in WITH_DATA):
-        raise Wrong(f"{word}: neither a file of MiniZinc nor an option")
-    inputs.words.extend(found)
-    if is_folder:
-        inputs.folders.append(found[1] if len(found) > 1 else word[2:])
-    if is_file:
-        inputs.files.append(found[-1])
 
 
 def say(text: str) -> None:
@@ -97,6 +57,8 @@ def doing(text: str) -> None:
 
 def text_of(path: Optional[str]) -> str:
     if path is None:
+        if sys.stdin.isatty():
+            say("the plan is read from standard input; -o FILE reads one from a file")
         return sys.stdin.buffer.read().decode(errors="surrogateescape")
     with open(path, "rb") as file:
         return file.read().decode(errors="surrogateescape")
@@ -106,12 +68,59 @@ def encoded(text: str) -> bytes:
     return text.encode(errors="surrogateescape")
 
 
-def checked(words: Words, model: Model, stream: str) -> "subprocess.CompletedProcess[str]":
+class Translated(NamedTuple):
+    """A plan, and the stream that it is turned into."""
+    name: str
+    text: str
+    plan: Plan
+    solutions: List[Solution]
+    writer: Writer
+    path: str  # of the stream
+
+
+class Translation:
+    """Turns plans into streams for a model."""
+
+    def __init__(self, model: Model, words: Words, scratch: str) -> None:
+        self.model, self.scratch = model, scratch
+        self.sources: List[SourceItem] = [
+            item for path in words.inputs.files for item in items_of(path)]
+
+    def translated(self, name: str, text: str, path: str) -> Translated:
+        try:
+            plan = Plan(text)
+            writer = Writer(self.model, OutputModel(self.model, self.scratch), self.sources)
+            parts = list(plan.parts())
+            stream = writer.stream(iter(parts))
+        except Refused as error:
+            error.plan = name
+            raise
+        with open(path, "w", encoding="utf-8", errors="surrogateescape") as file:
+            file.write(stream)
+        solutions = [part for part in parts if isinstance(part, Solution)]
+        return Translated(name, text, plan, solutions, writer, path)
+
+    def refuse_floats(self) -> None:
+        """A model with variables of floats is named by them and by their lines."""
+        found = []
+        for name in self.model.floats:
+            place = declared(self.sources, name)
+            if name in self.model.names or place:
+                found.append(f"{name}, {place.place}" if place else name)
+        if self.model.floats:
+            of = f": {'; '.join(found)}" if found else ""
+            raise Failed(f"refused: the model has variables of floats, which fzcheck can't check{of}")
+
+
+def checked(words: Words, model: Model, stream: str,
+            known: List[str]) -> "subprocess.CompletedProcess[str]":
     """Runs the program on the stream, which stands in this file."""
+    others = [word for path in known for word in ("--known", path)]
+    explain = "--explain" if words.has("--first") else "--explain=every"
+    options = common.with_defaults(words.options, ("--complete", "--cut", explain, "--json"))
     return subprocess.run(
-        [common.program() or "fzcheck", "check",
-         *common.with_defaults(words.options), "--names", os.path.join(model.folder, TABLE),
-         os.path.join(model.folder, MODEL), stream],
+        [common.program() or "fzcheck", "check", *options, *others,
+         "--names", os.path.join(model.folder, TABLE), os.path.join(model.folder, MODEL), stream],
         stdout=subprocess.PIPE, stderr=subprocess.PIPE, encoding="utf-8", errors="surrogateescape")
 
 
@@ -121,29 +130,18 @@ def judge(words: Words, scratch: str) -> int:
     model = compiled(words.inputs, scratch)
     doing("")
     say(model.told)
-    plan, writer = Plan(text), Writer(model)
-    try:
-        stream = writer.stream(plan.parts())
-    except Refused as error:
-        say(f"refused: {name}:{error.line}: {error}")
-        if "--json" in words.options:
-            print(json.dumps({"refused": "plan", "line": error.line, "message": str(error)}))
-        return REFUSED
+    translation = Translation(model, words, scratch)
+    translation.refuse_floats()
+    stream = os.path.join(words.folder or scratch, STREAM)
     if words.folder:
         model = copied(model, words.folder)
-    path = os.path.join(words.folder or scratch, STREAM)
-    with open(path, "w", encoding="utf-8", errors="surrogateescape") as file:
-        file.write(stream)
+    plan = translation.translated(name, text, stream)
+    known = [translation.translated(path, text_of(path), os.path.join(scratch, f"known {number}"))
+             for number, path in enumerate(words.known)]
     doing("checking")
-    ran = checked(words, model, path)
+    ran = checked(words, model, stream, [one.path for one in known])
     doing("")
-    cut = None if writer.cut is None else (len(encoded(text[: writer.cut])), len(encoded(text)))
-    told = told.Told(model, path, name, text.split("\n"), writer.lines, cut)
-    sys.stdout.buffer.write(encoded(told.report(ran.stdout)))
-    sys.stdout.flush()
-    print(told.explanation(ran.stderr), end="", file=sys.stderr)
-    tell(plan, writer)
-    return ran.returncode
+    return tell(words, model, plan, known, ran)
 
 
 def copied(model: Model, folder: str) -> Model:
@@ -154,32 +152,57 @@ def copied(model: Model, folder: str) -> Model:
     return model._replace(folder=folder)
 
 
-def tell(plan: Plan, writer: Writer) -> None:
-    """Says what isn't part of the report."""
-    for message in plan.messages:
+def tell(words: Words, model: Model, plan: Translated, known: List[Translated],
+         ran: "subprocess.CompletedProcess[str]") -> int:
+    """Reports what the program found, in the words of the model, and what isn't checked."""
+    writer, text = plan.writer, plan.text
+    cut = None if writer.cut is None else (len(encoded(text[: writer.cut])), len(encoded(text)))
+    source = Source(model, plan.name, text.split("\n"), plan.solutions, writer.lines, cut)
+    notes = Notes(writer, {one.path: one.name for one in known}, words.has("--strict"))
+    objects, status = notes.added(list(map(json.loads, ran.stdout.splitlines())), ran.returncode)
+    write(words, Told(source, objects))
+    sys.stderr.write(ran.stderr)
+    for message in plan.plan.messages:
         say(f"the plan tells of an error: {message}")
-    for message in writer.differing:
-        say(message)
-    if writer.unchecked:
-        say(f"not checked, since the FlatZinc hasn't them: {', '.join(writer.unchecked)}")
-    if writer.missing:
-        say(f"not in each solution: {', '.join(writer.missing)}")
-    if writer.cut is not None and writer.blocks == 0:
+    if writer.cut is not None and not writer.blocks:
         say("no line of ten dashes ends a solution: if the plan is whole, put one at its end")
+    return status
+
+
+def write(words: Words, told: Told) -> None:
+    """Writes the report, what fails, and the page."""
+    in_json = words.has("--json")
+    for line in told.in_json() if in_json else told.report():
+        sys.stdout.buffer.write(encoded(f"{line}\n"))
+    sys.stdout.flush()
+    for line in () if in_json else told.explanation(words.has("--flatzinc")):
+        print(line, file=sys.stderr)
+    if words.page:
+        with open(words.page, "w", encoding="utf-8", errors="replace") as file:
+            file.write(page(told, words.inputs.files))
 
 
 def main(words: List[str]) -> int:
     usage = __doc__ or ""
-    if not words or words[0] in ("-h", "--help"):
+    if "-h" in words or "--help" in words:
         print(usage, end="")
-        return WRONG_WORDS
+        return DONE
+    if "--version" in words:
+        print(f"fzcheck-mzn {common.version()}")
+        return DONE
     try:
         with tempfile.TemporaryDirectory(prefix="fzcheck") as scratch:
             return judge(words_of(words), scratch)
     except Wrong as error:
         print(usage.split("\n\n")[1], file=sys.stderr)
-        say(str(error))
+        say(f"{error} (--help says more)")
         return WRONG_WORDS
+    except Refused as error:
+        say(f"refused: {error.plan}:{error.line}: {error}")
+        if "--json" in words:
+            print(json.dumps({"refused": "plan", "file": error.plan, "line": error.line,
+                              "message": str(error)}))
+        return REFUSED
     except Failed as error:
         say(str(error))
         return error.status

@@ -1,29 +1,45 @@
 """Turns what was printed into a FlatZinc stream."""
 import re
-from typing import Any, Dict, Iterator, List, Optional, Set
+from typing import Any, Dict, Iterator, List, NamedTuple, Optional, Set, Tuple
 
-from fzcheck.mzn.model import Model, Name
+from fzcheck.mzn.computed import OutputModel, Wanted, is_close, is_same
+from fzcheck.mzn.fitting import Unfit, did_you_mean, fitted, literal, shown
+from fzcheck.mzn.model import Model
+from fzcheck.mzn.names import Name, element_names
 from fzcheck.mzn.plan import MARKER, Claim, Cut, Part, Printed, Refused
-from fzcheck.mzn.values import Array, Range, SetOf, Term, Unreadable, listing
+from fzcheck.mzn.sources import SourceItem, declared
+from fzcheck.mzn.values import Array, SetOf, Unreadable, listing
 
 # The compiler's own variables, whose numbers depend on how it is called, and such as `_output`.
 OF_NO_MODEL = re.compile(r"X_INTRODUCED_\d+_$|_")
 CUT_SHORT = "cut_short = 0;"  # an item without a marker behind it
 
 
+class Waiting(NamedTuple):
+    """A name that has to be computed, and the line of the stream that is kept free for it."""
+    place: int
+    block: int  # from 0
+    printed: Printed
+    elements: List[Any]
+
+
 class Writer:
     """Writes a stream, each item in a line of its own."""
 
-    def __init__(self, model: Model) -> None:
-        self.model, self.blocks = model, 0
+    def __init__(self, model: Model, output: OutputModel, sources: List[SourceItem]) -> None:
+        self.model, self.output, self.sources = model, output, sources
         self.pieces: List[str] = []
         self.lines: List[int] = []  # of the plan, for each line of the stream
         self.unchecked: Dict[str, None] = {}  # names, in order
         self.missing: Dict[str, None] = {}
-        self.differing: List[str] = []  # what the compiler says otherwise
+        self.bare = 0  # how many solutions have no name that is checked
+        # How a name differs that the FlatZinc hasn't, by the line of the stream, from 1.
+        self.differing: Dict[int, str] = {}
         self.cut: Optional[int] = None  # the place in the plan
         self.values: Dict[str, Any] = {}  # in the block, of FlatZinc's variables
         self.placed: Set[str] = set()  # those of them that are written
+        self.blocks: List[Wanted] = []
+        self.waiting: List[Waiting] = []
 
     def stream(self, parts: Iterator[Part]) -> str:
         for part in parts:
@@ -35,7 +51,7 @@ class Writer:
             else:
                 self.solution(part.values)
                 self.put(MARKER, part.line)
-                self.blocks += 1
+        self.compute()
         return "".join(self.pieces)
 
     def put(self, text: str, line: int) -> None:
@@ -44,94 +60,117 @@ class Writer:
 
     def solution(self, values: List[Printed]) -> None:
         self.values, self.placed = {}, set()
+        self.blocks.append(Wanted((), {}))
         printed = {value.name for value in values}
-        for value in sorted(values, key=self.is_optional):
-            try:
-                self.printed(value)
-            except Unreadable as error:
-                raise Refused(f"{value.name}: {error}", value.line) from None
-        for name, found in self.model.names.items():
-            if found.is_wanted and name not in printed:
-                self.missing[name] = None
+        unchecked = len([value for value in sorted(values, key=self.order)
+                         if not self.printed(value)])
+        wanted = [name for name, found in self.model.names.items() if found.is_wanted]
+        self.missing.update(dict.fromkeys(name for name in wanted if name not in printed))
+        self.bare += bool(wanted) and unchecked == len(values)
         last = values[-1].line if values else 0
         for name, value in self.values.items():
             if name not in self.placed:
                 self.put(f"{name} = {literal(value)};", last)
+                self.blocks[-1].values.setdefault(name, literal(value))
 
-    def is_optional(self, value: Printed) -> bool:
-        """Whether it stands for other variables, whose values have to be known before."""
+    def order(self, value: Printed) -> int:
+        """What stands for other variables comes behind them, so that their values are known."""
         found = self.model.names.get(value.name)
-        return found is not None and found.how == "optional"
+        return ("own", "single", "optional", "computed", "").index(found.how) if found else 0
 
-    def printed(self, value: Printed) -> None:
+    def printed(self, value: Printed) -> bool:
+        """Writes a value, and tells whether it can be checked."""
         found = self.model.names.get(value.name)
         if found is None and not OF_NO_MODEL.match(value.name):
-            raise Unreadable("the model has no such name")
+            meant = did_you_mean(value.name, self.model.names)
+            raise Refused(f"{value.name}: the model has no such name{meant}", value.line)
         if found is None or not found.how:
             self.unchecked[value.name] = None
+            return False
+        try:
+            self.fitted(value, found, fitted(value.value, value.name, found, self.model.enums))
+        except Unfit as error:
+            line = value.line if error.element is None else value.line_of(error.element)
+            told = str(error) if error.is_named else f"{value.name}: {error}"
+            raise Refused(told, line) from None
+        except Unreadable as error:
+            raise Refused(f"{value.name}: {error}", value.line) from None
+        return True
+
+    def fitted(self, value: Printed, found: Name, elements: List[Any]) -> None:
+        """Writes a value that has these elements in FlatZinc."""
+        if found.how == "computed":
+            names = (*self.blocks[-1].names, value.name)
+            self.blocks[-1] = self.blocks[-1]._replace(names=names)
+            self.waiting.append(Waiting(len(self.pieces), len(self.blocks) - 1, value, elements))
+            self.put("", value.line)
+        elif found.how == "optional":
+            self.optional(value, found, elements)
         else:
-            elements = self.elements(value.value, found)
-            if found.how == "optional":
-                self.optional(value, found, elements)
-            elif None in elements:
-                raise Unreadable("a value is absent that isn't optional in the model")
-            else:
-                is_list = found.is_array or found.how == "single"
-                text = literal(row(elements) if is_list else elements[0])
-                self.put(f"{value.name} = {text};", value.line)
-                self.values[value.name] = elements[0] if not is_list else row(elements)
-                self.placed.add(value.name)
+            is_list = found.is_array or found.how == "single"
+            whole = Array([len(elements)], [None], elements) if is_list else elements[0]
+            self.put(f"{found.flat} = {literal(whole)};", value.line)
+            self.values[found.flat] = whole
+            self.placed.add(found.flat)
+            self.note(value.name, found, elements)
 
-    def elements(self, value: Any, found: Name) -> List[Any]:
-        """The values of a name as those of FlatZinc, if it is of the model's shape."""
-        enum = self.model.enums.get(found.enum)
-        if isinstance(value, Array) != found.is_array:
-            raise Unreadable("it is an array here or in the model, and not in both")
-        if not isinstance(value, Array):
-            return [number(value, enum, found.enum)]
-        self.compare_shape(value, found)
-        return [number(element, enum, found.enum) for element in value.elements]
-
-    def compare_shape(self, value: Array, found: Name) -> None:
-        if len(value.elements) != found.size:
-            raise Unreadable(f"it has {len(value.elements)} elements here, and {found.size} in "
-                             "the model")
-        if not found.dimensions or not value.elements:
-            return
-        if len(value.lengths) != len(found.dimensions):
-            raise Unreadable(f"it has {len(value.lengths)} dimensions here, and "
-                             f"{len(found.dimensions)} in the model")
-        enums = found.index_enums or ("",) * len(value.lengths)
-        for place, (low, high) in enumerate(found.dimensions):
-            self.compare_indices(value, place, range(low, high + 1), enums[place])
-
-    def compare_indices(self, value: Array, place: int, wanted: range, enum: str) -> None:
-        """Whether the indices in one of the dimensions are those of the model."""
-        length, printed = value.lengths[place], value.indices[place]
-        if length >= 0 and length != len(wanted):
-            raise Unreadable(f"dimension {place + 1} has {length} indices here, and {len(wanted)} "
-                             "in the model")
-        names = self.model.enums.get(enum)
-        indices = [number(index, names, enum) for index in printed or ()]
-        if indices != list(wanted)[: len(indices)]:
-            raise Unreadable(f"the indices in dimension {place + 1} aren't those of the model")
+    def note(self, name: str, found: Name, elements: List[Any]) -> None:
+        """Notes a value for the output model, in which other variables may stand for it."""
+        at_hand = self.blocks[-1].values
+        for variable, element in zip(found.variables, elements):
+            at_hand.setdefault(variable, literal(element))
+        if found.is_array:
+            sets = found.dimensions or [[1, found.size]]
+            indices = ",".join(f"{low}..{high}" for low, high in sets)
+            texts = ",".join(map(literal, elements))
+            at_hand[name] = f"array{len(sets)}d({indices},[{texts}])"
+        elif found.how == "own":
+            at_hand[name] = literal(elements[0])
 
     def optional(self, value: Printed, found: Name, elements: List[Any]) -> None:
         """Gives the compiler's variables for an optional name the values that say the same."""
-        for (there, inner), element in zip(found.variables, elements):
-            if not self.agrees(there, inner, element):
-                self.differing.append(f"{value.name} is {shown(value.value)} in line {value.line}"
-                                      ", which the compiler's variables rule out")
-                self.put(f"{value.name} = false;", value.line)
-                return
+        clashes = [self.clash(there, inner, element, found)
+                   for (there, inner), element in zip(found.variables, elements)]
+        names = element_names(value.name, found, self.model.enums)
+        told = [(f"{name} {'is absent' if element is None else '= ' + self.shown(element, found)}"
+                 f", but {clash}", place) for place, (name, element, clash)
+                in enumerate(zip(names, elements, clashes)) if clash]
+        text, place = told[0] if told else ("", 0)
+        item = self.compared(found, text, len(self.lines) + 1)
+        self.put(item, value.line_of(place) if told else value.line)
 
-    def agrees(self, there: Any, inner: Any, element: Any) -> bool:
-        """Whether an optional element can have this value, which its variables then get."""
+    def compared(self, found: Name, told: str, line: int) -> str:
+        """The item for a value of which the FlatZinc only has a 0; `told` is how it differs, and
+        `line` where it stands in the stream, from 1."""
+        if told:
+            self.differing[line] = told
+        return f"{found.flat} = {int(bool(told))};"
+
+    def shown(self, value: Any, found: Name) -> str:
+        return shown(value, self.model.enums.get(found.enum, []))
+
+    def clash(self, there: Any, inner: Any, element: Any, found: Name) -> str:
+        """Why an optional element can't have this value, or nothing; its variables then get it."""
         if isinstance(there, list):
             name, absent = there
-            return element != absent and self.gives(name, absent if element is None else element)
+            if element == absent:
+                return "that is no value which the model has for it"
+            is_given = self.gives(name, absent if element is None else element)
+            return "" if is_given else self.other(self.values[name], found)
         is_there = element is not None
-        return self.gives(there, is_there) and (not is_there or self.gives(inner, element))
+        if not self.gives(there, is_there):
+            return "the model has it there" if there in (True, "true") or not is_there else \
+                "the model leaves it absent"
+        if is_there and not self.gives(inner, element):
+            return self.other(self.values.get(inner, inner), found)
+        if isinstance(inner, str) and not is_there:
+            # The output model reads it, whatever it is.
+            is_bool = found.kind == "bool"
+            self.blocks[-1].values.setdefault(inner, "false" if is_bool else "0")
+        return ""
+
+    def other(self, value: Any, found: Name) -> str:
+        return f"the model has {self.shown(value, found)} there"
 
     def gives(self, place: Any, value: Any) -> bool:
         """Whether a variable gets a value that it hasn't otherwise, or a literal is the value."""
@@ -139,43 +178,42 @@ class Writer:
             return literal(place) == literal(value)
         return literal(self.values.setdefault(place, value)) == literal(value)
 
+    def compute(self) -> None:
+        """Fills in the lines that were kept free, or leaves them empty where nothing is known."""
+        found = self.output.computed(self.blocks) if self.waiting else []
+        for place, block, value, elements in self.waiting:
+            name = self.model.names[value.name]
+            told = self.difference(value, name, elements, found[block].get(value.name))
+            if told is None:
+                self.unchecked[value.name] = None
+                continue
+            text, element = told
+            self.pieces[place] = self.compared(name, text, place + 1) + "\n"
+            self.lines[place] = value.line_of(element) if text else value.line
 
-def row(elements: List[Any]) -> Array:
-    return Array([len(elements)], [None], elements)
+    def difference(self, value: Printed, name: Name, elements: List[Any],
+                   computed: Any) -> Optional[Tuple[str, int]]:
+        """How a value differs from the one that was computed, and in which element: an empty text
+        where it doesn't, and nothing where that can't be told."""
+        try:
+            right = fitted(computed, value.name, name, self.model.enums)
+        except (Unfit, Unreadable):
+            return None
+        if len(right) != len(elements):
+            return None
+        pairs = [(normal(one), normal(other)) for one, other in zip(elements, right)]
+        differing = [place for place, pair in enumerate(pairs) if not is_same(*pair)]
+        if all(is_close(*pairs[place]) for place in differing):
+            return None if differing else ("", 0)
+        place = next(place for place in differing if not is_close(*pairs[place]))
+        named = list(element_names(value.name, name, self.model.enums))
+        source = declared(self.sources, value.name)
+        told = f": {source.value}, {source.place}".replace(": , ", ": ") if source else ""
+        return (f"{named[place] if place < len(named) else value.name} is printed as "
+                f"{self.shown(elements[place], name)} here, and is "
+                f"{self.shown(right[place], name)}{told}", place)
 
 
-def shown(value: Any) -> str:
-    return "absent" if value is None else str(value)
-
-
-def number(value: Any, enum: Optional[List[str]], name: str) -> Any:
-    """A value of FlatZinc: of an enum's value its number, from 1."""
-    if isinstance(value, Term) and str(value) == name and enum:
-        return SetOf((Range(1, len(enum)),))
-    if isinstance(value, Term):
-        found = [text.replace(", ", ",") for text in enum or ()]
-        if str(value) not in found:
-            raise Unreadable(f"{value} is no value of {name}" if name else
-                             f"{value} is no value here")
-        return found.index(str(value)) + 1
-    if isinstance(value, SetOf):
-        return SetOf(tuple(
-            Range(number(part.low, enum, name), number(part.high, enum, name))
-            if isinstance(part, Range) else number(part, enum, name) for part in value.parts))
-    return value
-
-
-def literal(value: Any) -> str:
-    """A value as it is printed in a stream."""
-    if isinstance(value, bool):
-        return "true" if value else "false"
-    if isinstance(value, Array):
-        return f"array1d(1..{len(value.elements)},[{','.join(map(literal, value.elements))}])"
-    if not isinstance(value, SetOf):
-        return str(value)
-    if len(value.parts) == 1 and isinstance(value.parts[0], Range):
-        return f"{value.parts[0].low}..{value.parts[0].high}"
-    listed = listing(value)
-    if listed is None or not all(isinstance(one, int) for one in listed):
-        raise Unreadable("a set of other values than numbers")
-    return "{" + ",".join(map(str, sorted(set(listed)))) + "}"
+def normal(value: Any) -> Any:
+    """A value, of a set its elements in order."""
+    return sorted(listing(value) or ()) if isinstance(value, SetOf) else value

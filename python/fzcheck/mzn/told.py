@@ -1,139 +1,173 @@
-"""Puts what `fzcheck check` tells into the words of the model: values of enums and indices by their
-names, and lines of the plan for those of the stream."""
+"""The report of `fzcheck check --json` in the planner's words, as text or as JSON."""
 import json
-import os
-import re
-from typing import Any, Dict, List, Match, NamedTuple, Optional, Tuple
+from typing import Any, Dict, Iterator, List, NamedTuple, Optional, Tuple
 
+from fzcheck.mzn.failures import Failure, Reader
+from fzcheck.mzn.groups import grouped
+from fzcheck.mzn.items import Items
 from fzcheck.mzn.model import Model
+from fzcheck.mzn.plan import Solution
+from fzcheck.mzn.wording import Wording, joined
 
-ELEMENT = re.compile(r"\b(\w+)\[(-?\d+(?:,-?\d+)*)\]")
-# A line that tells a variable's value, alone or as part of a reason, and what it is compared with.
-VALUED = re.compile(
-    r"^( *= +(?:element \d+ of |the domain of |\w+ \d+: |\w+ = (?:true|false): )?(\w+)"
-    r"(?:\[[^\]]*\])?(?: \(\w+\))? (?:=|is|is printed as|is narrowed to) )"
-    r"(\{[^}]*\}|-?\d+(?:\.\.-?\d+)?)"
-    r"(?:( here, and is |, not (?:[≠≤<≥>] )?)(\{[^}]*\}|-?\d+))?")
-WHOLE = re.compile(r"-?\d+")
-ONLY = re.compile(r"\belement 1 of (\w+)")
-QUOTED = re.compile(r" *(?:= +)?\d+ \| ")  # a line of the FlatZinc, or of the model
-MOST_COLUMNS = 120
+Object = Dict[str, Any]
 
-
-class Told(NamedTuple):
+class Source(NamedTuple):
+    """What is checked: the plan, its solutions, and the lines that the stream's are from."""
     model: Model
-    stream: str  # its path
     plan: str  # what the plan is called
-    text: List[str]  # the plan's lines
-    lines: List[int]  # which of them each line of the stream is from
+    text: List[str]  # its lines
+    solutions: List[Solution]
+    lines: List[int]  # of the plan, for each line of the stream
     cut: Optional[Tuple[int, int]]  # the bytes of the plan that are cut off
-
-    def report(self, text: str) -> str:
-        return "".join(map(self.report_line, text.splitlines(keepends=True)))
-
-    def report_line(self, line: str) -> str:
-        if line.startswith("cut: ") and self.cut:
-            return f"cut: {self.cut[0]}..{self.cut[1]}\n"
-        if not line.startswith("{"):
-            return line
-        found = json.loads(line)
-        if "cut" in found and self.cut:
-            found["cut"] = list(self.cut)
-        for variable in found.get("variables", ()):
-            self.name_variable(variable)
-        if "explained" in found:
-            self.name_texts(found, "reason", "notes")
-        self.name_texts(found, "unconstrained")
-        is_printed = "printed" in (found.get("point"), found.get("message", "").partition(" ")[0])
-        if "line" in found and (is_printed or found.get("refused") in ("stream", "block")):
-            found["line"] = self.line(found["line"])  # of the plan, whose columns are others
-            found.pop("column", None)
-        return json.dumps(found, ensure_ascii=False, separators=(",", ":")) + "\n"
-
-    def name_texts(self, found: Dict[str, Any], *keys: str) -> None:
-        """Puts the texts of these members, alone or listed, into the words of the model."""
-        for key in keys:
-            texts = found.get(key)
-            if isinstance(texts, str):
-                found[key] = self.in_words(f"= {texts}")[2:]
-            elif texts:
-                found[key] = [self.in_words(f"= {text}")[2:] for text in texts]
-
-    def name_variable(self, variable: Dict[str, Any]) -> None:
-        self.name_texts(variable, "behind")
-        element = variable.get("element", variable["name"])
-        enum = self.enum(element.partition("[")[0])
-        if "element" in variable:
-            variable["element"] = self.with_indices(element)
-        if not enum:
-            return
-        for key in ("value", "low", "high"):
-            value = variable.get(key)
-            if isinstance(value, int):
-                variable[key] = name_of(enum, value)
-            elif isinstance(value, list):
-                variable[key] = [[name_of(enum, bound) for bound in one] for one in value]
-
-    def explanation(self, text: str) -> str:
-        """An explanation, in the words of the model. The plan's line stands for the stream's."""
-        told = []
-        folder = self.model.folder + os.sep
-        lines = iter(text.splitlines(keepends=True))
-        for line in lines:
-            place = re.match(re.escape(self.stream) + r":(\d+):\d+: ", line)
-            if place:
-                number = self.line(int(place[1]))
-                told.append(f"{self.plan}:{number}: {line[place.end():]}")
-                told.append(f"   {number} | {self.text[number - 1][:MOST_COLUMNS]}\n")
-                next(lines, None)  # the line of the stream, and the mark below it
-                next(lines, None)
-            else:
-                told.append(self.in_words(line[line.startswith(folder) and len(folder):]))
-        return "".join(told)
-
-    def in_words(self, line: str) -> str:
-        if QUOTED.match(line):
-            return line
-        line = self.with_indices(VALUED.sub(self.valued, line))
-        return ONLY.sub(lambda found: found[1] if self.is_single(found[1]) else found[0], line)
-
-    def is_single(self, name: str) -> bool:
-        return name in self.model.names and self.model.names[name].how == "single"
 
     def line(self, number: int) -> int:
         """The line of the plan that a line of the stream is from."""
         return self.lines[min(number, len(self.lines)) - 1] if self.lines else 1
 
-    def enum(self, name: str) -> Optional[List[str]]:
-        found = self.model.names.get(name)
-        return self.model.enums.get(found.enum) if found else None
-
-    def with_indices(self, text: str) -> str:
-        return ELEMENT.sub(self.element, text)
-
-    def element(self, found: "Match[str]") -> str:
-        """An element of an array, with the names of its indices."""
-        name = self.model.names.get(found[1])
-        enums = name.index_enums if name else ()
-        indices = found[2].split(",")
-        if len(enums) != len(indices):
-            return found[0]
-        named = [name_of(self.model.enums.get(enum, []), int(index))
-                 for enum, index in zip(enums, indices)]
-        return f"{found[1]}[{','.join(map(str, named))}]"
-
-    def valued(self, found: "Match[str]") -> str:
-        enum = self.enum(found[2])
-        if not enum:
-            return found[0]
-        named = named_in(enum, found[3])
-        rest = f"{found[4]}{named_in(enum, found[5])}" if found[4] else ""
-        return found[1] + named + rest
+    def of_plan(self, found: Object) -> Object:
+        """An object of the report, with lines of the plan in the place of the stream's."""
+        found = dict(found)
+        is_printed = "printed" in (found.get("point"), found.get("message", "").partition(" ")[0])
+        if "line" in found and (is_printed or found.get("refused") in ("stream", "block")):
+            found["line"] = self.line(found["line"])
+            found.pop("column", None)
+        if "cut" in found and self.cut:
+            found["cut"] = list(self.cut)
+        return found
 
 
-def name_of(enum: List[str], value: int) -> Any:
-    return enum[value - 1] if 1 <= value <= len(enum) else value
+class Told:
+    """`objects` are what `fzcheck check` wrote, and what was found beside it."""
+
+    def __init__(self, source: Source, objects: List[Object]) -> None:
+        self.source = source
+        self.objects = [source.of_plan(found) for found in objects]
+        self.items = Items(source.model.folder)
+        self.wording = Wording(source.model, self.items)
+        verdicts = {found["block"]: found for found in self.objects if "verdict" in found}
+        reader = Reader(self.wording, source.solutions, source.plan, source.text)
+        self.failures: List[Failure] = []
+        self.first: Dict[int, Failure] = {}  # of each block
+        for found in self.objects:
+            if "explained" in found:
+                failure = reader.failure(found, verdicts[found["explained"]])
+                self.failures.append(failure)
+                self.first.setdefault(failure.block, failure)
+
+    def report(self) -> List[str]:
+        """The lines of the report."""
+        return [line for line in map(self.report_line, self.objects) if line]
+
+    def report_line(self, found: Object) -> str:
+        if "verdict" in found:
+            return self.verdict(found)
+        if "claim" in found:
+            return claim_line(found)
+        if "cut" in found:
+            return "cut: {}..{}".format(*found["cut"])
+        if "answer" in found:
+            return answer_line(found)
+        if "not_checked" in found:
+            return f"not checked: {', '.join(found['not_checked'])}"
+        if "not_printed" in found:
+            fit = ", found values that fit" if found["found"] else ""
+            *names, last = found["not_printed"]
+            return f"not printed: {', '.join(names)}{' and ' * bool(names)}{last}{fit}"
+        return ""
+
+    def verdict(self, found: Object) -> str:
+        """The line of a block."""
+        line = f"block {found['block']}: {found['verdict']}"
+        if found["verdict"] == "satisfied":
+            return line
+        if found["block"] in self.first:
+            return f"{line}: {self.first[found['block']].head}"
+        return f"{line}: {self.point(found)}"
+
+    def point(self, found: Object) -> str:
+        """The point of a block that isn't explained."""
+        if found.get("point") == "objective":
+            return f"objective {found['now']} not better than {found['before']}"
+        if found.get("point") == "printed" or "line" not in found:
+            return " ".join(str(found[key]) for key in ("point", "name") if key in found)
+        constraint = self.items.constraints.get(found["line"])
+        return str(constraint or self.items.row(found["line"]).name)
+
+    def explanation(self, with_flatzinc: bool) -> Iterator[str]:
+        """The lines on what fails, and what the report's last object says besides."""
+        for group in grouped(self.failures):
+            yield from group.lines(with_flatzinc)
+        for found in self.objects:
+            if "untold" in found:
+                yield f"... and {found['untold']} more that fail ..."
+            if found.get("unconstrained"):
+                left = found.get("unconstrained_left_out")
+                more = f" and {left} more" if left else ""
+                yield f"printed, and in no constraint: {', '.join(found['unconstrained'])}{more}"
+            if "refused" in found and "message" in found:
+                yield found["message"]
+
+    def in_json(self) -> Iterator[str]:
+        """The objects in the words of the model, a line each."""
+        failures = iter(self.failures)
+        for found in self.objects:
+            if "explained" in found:
+                found = self.explained(found, next(failures))
+            elif found.get("block") in self.first and "verdict" in found:
+                found = {**found, "model": model_of(self.first[found["block"]])}
+            yield json.dumps(found, ensure_ascii=False, separators=(",", ":"))
+
+    def explained(self, found: Object, failure: Failure) -> Object:
+        """An explanation with its texts and values in words."""
+        variables = list(map(self.variable, found["variables"]))
+        model = {**found.get("model", {}), **model_of(failure)}
+        return {**self.in_words(found), "model": model, "variables": variables}
+
+    def in_words(self, found: Object) -> Object:
+        """The object with its texts, and their parts, in words."""
+        found = dict(found)
+        for key in ("reason", "notes", "behind"):
+            parts = found.get(f"{key}_parts")
+            if parts is not None and isinstance(found[key], str):
+                found[f"{key}_parts"] = self.wording.parts(parts)
+                found[key] = joined(found[f"{key}_parts"])
+            elif parts is not None:
+                found[f"{key}_parts"] = list(map(self.wording.parts, parts))
+                found[key] = list(map(joined, found[f"{key}_parts"]))
+        return found
+
+    def variable(self, found: Object) -> Object:
+        name = found.get("element") or self.items.name(found["name"])
+        words = {key: self.wording.value(name, found[key])
+                 for key in ("value", "low", "high") if key in found}
+        return {**self.in_words(found), **words}
 
 
-def named_in(enum: List[str], value: str) -> str:
-    return WHOLE.sub(lambda number: str(name_of(enum, int(number[0]))), value)
+def model_of(failure: Failure) -> Object:
+    """What fails in the model."""
+    place = {"place": str(failure.place)} if failure.place else {}
+    return {"names": [failure.subject], **place, "loops": list(failure.loops)}
+
+
+def claim_line(found: Object) -> str:
+    line, refuted = f"claim: {found['claim']}", found.get("refuted_by")
+    if "proved" in found:
+        return f"{line} proved, {found['proved']} node{'s' * (found['proved'] != 1)}"
+    if not refuted:
+        return f"{line} not judged"
+    if "file" in refuted:
+        return f"{line} refuted by known block {refuted['block']} of {refuted['file']}"
+    if refuted["block"] > found["after"]:
+        line = f"claim after block {found['after']}: {found['claim']}"
+    return f"{line} refuted by block {refuted['block']}"
+
+
+def answer_line(found: Object) -> str:
+    answer = str(found["answer"])
+    if "claim_after" in found:
+        return f"{answer}: claim after block {found['claim_after']}"
+    if answer == "accepted":
+        return f"{answer}: blocks {found['blocks']}"
+    if "why" in found:
+        return f"{answer}: {found['why']}"
+    return f"{answer}: block {found['block']}" if "block" in found else answer

@@ -1,9 +1,9 @@
-"""Values as MiniZinc prints them: the text of data files and of the default output, and JSON.
+"""Values as MiniZinc prints them in the text of data files and in the default output.
 
 A value is a Python int, float, bool or str, None where it is absent, or one of the classes below.
 """
 import re
-from typing import Any, Dict, Iterator, List, NamedTuple, Optional, Sequence, Tuple
+from typing import Any, Iterator, List, NamedTuple, Optional, Sequence, Tuple
 
 TOKEN = re.compile(
     r"(?P<blank>[ \t\r\n]+|%[^\n]*)"
@@ -48,6 +48,14 @@ class Array(NamedTuple):
     elements: List[Any]
 
 
+class Item(NamedTuple):
+    """A name with its value, the place of the name, and those of an array's elements."""
+    name: str
+    value: Any
+    start: int
+    starts: List[int]
+
+
 class Token(NamedTuple):
     sort: str
     text: str
@@ -62,13 +70,16 @@ class Unreadable(Exception):
         self.start, self.at_end = start, at_end
 
 
-def tokens_of(text: str) -> Iterator[Token]:
-    at = 0
+class Misformed(Unreadable):
+    """A text that isn't of the form that MiniZinc prints."""
+
+
+def tokens_of(text: str, at: int = 0) -> Iterator[Token]:
     while at < len(text):
         found = TOKEN.match(text, at)
         if not found:
             is_cut = text[at] in "\"'" or at + 1 == len(text)
-            raise Unreadable(f"{text[at]!r} isn't expected", at, is_cut)
+            raise Misformed(f"{text[at]!r} isn't expected", at, is_cut)
         if found.lastgroup != "blank":
             yield Token(str(found.lastgroup), found[0], at)
         at = found.end()
@@ -86,6 +97,7 @@ class Reader:
 
     def __init__(self, text: str) -> None:
         self.tokens, self.at, self.level = list(tokens_of(text)), 0, 0
+        self.starts: List[int] = []  # of the elements of arrays
 
     @property
     def next(self) -> Token:
@@ -93,8 +105,8 @@ class Reader:
 
     def fail(self) -> Unreadable:
         token = self.next
-        return Unreadable(f"{token.text!r} isn't expected" if token.text else "it ends too soon",
-                          token.start, token.sort == "end")
+        return Misformed(f"{token.text!r} isn't expected" if token.text else "it ends too soon",
+                         token.start, token.sort == "end")
 
     def has(self, text: str) -> bool:
         if self.next.text != text or self.next.sort not in ("mark", "word"):
@@ -106,17 +118,17 @@ class Reader:
         if not self.has(text):
             raise self.fail()
 
-    def items(self) -> Iterator[Tuple[str, Any, int]]:
-        """The name, the value and the place of each item."""
+    def items(self) -> Iterator[Item]:
         while self.next.sort != "end":
             token = self.next
             if token.sort not in ("word", "quoted"):
                 raise self.fail()
             self.at += 1
             self.take("=")
+            self.starts = []
             value = self.value()
             self.take(";")
-            yield token.text.strip("'"), value, token.start
+            yield Item(token.text.strip("'"), value, token.start, self.starts)
 
     def value(self) -> Any:
         self.level += 1
@@ -173,8 +185,12 @@ class Reader:
 
     def indexed(self) -> Tuple[Any, bool]:
         """A value, and whether it is an index, which has a colon behind it."""
+        start = self.next.start
         value = self.value()
-        return value, self.has(":")
+        is_index = self.has(":")
+        if not is_index:
+            self.starts.append(start)
+        return value, is_index
 
     def row(self) -> Array:
         indices: List[Any] = []
@@ -183,7 +199,7 @@ class Reader:
             value, is_index = self.indexed()
             if is_index:
                 indices.append(value)
-                value = self.value()
+                value, _ = self.indexed()
             elements.append(value)
             if not self.has(","):
                 self.take("]")
@@ -198,11 +214,12 @@ class Reader:
         rows: List[List[Any]] = []
         self.has("|")  # right behind the other where there is nothing at all
         while not self.has("]"):
+            start = self.next.start
             line = self.line(columns, names)
+            if line and rows and len(line) != len(rows[0]):
+                raise uneven(len(line), len(rows[0]), start)
             if line:
                 rows.append(line)
-        if len({len(row) for row in rows}) > 1:
-            raise Unreadable("the rows aren't of one length", self.tokens[self.at - 1].start)
         elements = [value for row in rows for value in row]
         width = len(rows[0]) if rows else len(columns)
         return Array([len(rows), width], [names or None, columns or None], elements)
@@ -252,43 +269,6 @@ def listing(value: Any) -> Optional[List[Any]]:
     return listed
 
 
-def from_json(value: Any) -> Any:
-    """What a value of JSON stands for, in MiniZinc's way of writing sets and enums."""
-    if isinstance(value, list):
-        return nested([from_json(element) for element in value])
-    if not isinstance(value, dict):
-        return value
-    if "set" in value and isinstance(value["set"], list):
-        return SetOf(tuple(map(set_part, value["set"])))
-    if set(value) == {"e"}:
-        return Term(str(value["e"]))
-    if set(value) == {"e", "i"}:
-        return Term("to_enum", (Term(str(value["e"])), value["i"]))
-    if set(value) == {"c", "e"}:
-        return Term(str(value["c"]), (from_json(value["e"]),))
-    raise Unreadable(f"{value!r:.60} is no value")
-
-
-def set_part(part: Any) -> Any:
-    if isinstance(part, list) and len(part) == 2:
-        return Range(*map(from_json, part))
-    return from_json(part)
-
-
-def nested(values: List[Any]) -> Array:
-    """The array of a list; lists in it are further dimensions."""
-    inner = [value for value in values if isinstance(value, Array)]
-    if not inner:
-        return Array([len(values)], [None], values)
-    if len(inner) < len(values) or len({tuple(value.lengths) for value in inner}) > 1:
-        raise Unreadable("the rows aren't of one length")
-    elements = [element for value in inner for element in value.elements]
-    return Array([len(values), *inner[0].lengths], [None, *inner[0].indices], elements)
-
-
-def without_repeats(pairs: Sequence[Tuple[str, Any]]) -> Dict[str, Any]:
-    """The members of an object of JSON, of which no name may come twice."""
-    found = dict(pairs)
-    if len(found) < len(pairs):
-        raise Unreadable("a name comes twice")
-    return found
+def uneven(length: int, first: int, start: int) -> Unreadable:
+    """What is wrong with a row of another length than the first."""
+    return Unreadable(f"this row has {length} elements, and the first has {first}", start)

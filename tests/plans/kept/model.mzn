@@ -18,4 +18,5 @@ var int: total = sum(start);
 constraint start[dig] + 3 <= start[pour] /\ start[pour] + 2 <= start[build];
 constraint three = 3 /\ left = right /\ start[first] = 0 /\ card(odd) = 2;
 constraint tool != Own(dig) /\ with[1] subset with[2] /\ crew[dig, 0] != crew[build, 1];
+var int: last = max(start) + n;
 solve minimize total;
