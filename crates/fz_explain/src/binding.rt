@@ -6,7 +6,7 @@ use crate::naming::best_name;
 use crate::notes::name_at;
 use fz_places::NameTable;
 use fz_store::{Argument, Goal, Model, Scalar, Slot, Term, What, scalar_at};
-use fz_syntax::{Offer, PredicateItems};
+use fz_syntax::{DeclItems, Offer, PredicateItems};
 use fz_tree::{Ast, Decl, Goal as GoalItem, Limits, Note, Solve, SyntaxError};
 use indexmap::IndexSet;
 use std::alloc::{AllocError, Global};
@@ -113,18 +113,28 @@ fn has_output(decl: &Decl<'_>) -> bool {
     decl.notes.iter().any(|note| is_output(note))
 }
 
-/// The declarations of a text that have something printed. No other item is held, and the text is
-/// read no further than to its last declaration.
-fn printed_decls<'a>(alloc: Global, source: &'a [u8]) -> Result<Vec<Decl<'a>>, SyntaxError> {
-    let mut predicates = PredicateItems::new(alloc, source, Limits::LARGE)?;
-    let mut items = loop {
-        match predicates.next()? {
-            Offer::Item(_, more) => predicates = more,
-            Offer::End(behind) => break behind,
+/// The declarations of a text from its predicate items on; none where more of these come.
+fn past_predicates<'a>(
+    mut items: PredicateItems<'a>,
+    most: usize,
+) -> Result<Option<DeclItems<'a>>, SyntaxError> {
+    for _ in 0..most {
+        match items.next()? {
+            Offer::Item(_, more) => items = more,
+            Offer::End(decls) => return Ok(Some(decls)),
         }
-    };
+    }
+    Ok(None)
+}
+
+/// Those of the declarations that have something printed. The lists of the others are given back.
+fn printed_of<'a>(
+    alloc: Global,
+    mut items: DeclItems<'a>,
+    most: usize,
+) -> Result<Vec<Decl<'a>>, SyntaxError> {
     let mut printed = Vec::new(alloc);
-    loop {
+    for _ in 0..most {
         match items.next()? {
             Offer::Item(decl, mut more) => {
                 if has_output(&decl) {
@@ -134,8 +144,21 @@ fn printed_decls<'a>(alloc: Global, source: &'a [u8]) -> Result<Vec<Decl<'a>>, S
                 }
                 items = more;
             }
-            Offer::End(_) => return Ok(printed),
+            Offer::End(_) => break,
         }
+    }
+    Ok(printed)
+}
+
+/// The declarations of a text that have something printed. No other item is held, and the text is
+/// read no further than to its last declaration.
+fn printed_decls<'a>(alloc: Global, source: &'a [u8]) -> Result<Vec<Decl<'a>>, SyntaxError> {
+    // Each item takes a byte at least, and so does the solve item behind all.
+    let most = source.len();
+    let predicates = PredicateItems::new(alloc, source, Limits::LARGE)?;
+    match past_predicates(predicates, most)? {
+        Some(decls) => printed_of(alloc, decls, most),
+        None => Ok(Vec::new(alloc)),
     }
 }
 
