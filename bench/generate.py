@@ -1,5 +1,6 @@
 #!/usr/bin/env python3
-"""Writes a model and a solver's output for it, of which every block is satisfied by the way they are made.
+"""Writes a model and a solver's output for it, of which every block is satisfied by the way
+they are made, except that of `broken`.
 
     generate.py SORT MEGABYTES FOLDER [SEED]
 
@@ -10,6 +11,7 @@ writes FOLDER/SORT-MEGABYTES.fzn and FOLDER/SORT-MEGABYTES.out, the same bytes f
     stream   a stream of that size, of blocks of 1,500 bytes that get better and a claim, and a model for it
     chain    a model of that size whose definitions are posted in reverse order of their dependence, and a
              stream that prints the first value alone
+    broken   such a chain with a constraint that its last value fails
     lines    a stream of that size, of blocks of one line, and a model of a variable
     long     a stream of that size, of 200 blocks that get better, and a model over the whole table for it, at
              90 MB one of 16 MB
@@ -561,6 +563,13 @@ def make_chain(size, rand):
     return "\n".join(lines) + "\nsolve satisfy;\n", "X_INTRODUCED_0_ = 3;\n----------\n"
 
 
+def make_broken(size, rand):
+    """A chain whose last value is too large, so that all values are behind the explanation."""
+    model, stream = make_chain(size, rand)
+    last = f"constraint int_le(X_INTRODUCED_{size // 150 - 1}_,2);\n"
+    return model.replace("solve satisfy;", last + "solve satisfy;"), stream
+
+
 def make_long(size, rand):
     """A large model, and 200 blocks of which each prints the arrays and so many of the other variables by name."""
     blocks = 200
@@ -626,6 +635,7 @@ SORTS = {
     "model": make_model,
     "stream": make_stream,
     "chain": make_chain,
+    "broken": make_broken,
     "lines": make_lines,
     "long": make_long,
 }

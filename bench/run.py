@@ -24,20 +24,22 @@ SORTS = ["model", "stream", "chain", "lines"]
 REAL = ["clauses", "queens", "reified", "recurrence"]
 GLOBALS = ["lists", "tasks"]
 LONG = "90"  # megabytes of the stream that comes through a pipe
+BROKEN = "3"  # megabytes of the chain that is explained, of 20,000 steps
+REJECTED = 1
 NO_BLOCKS = 3
 
 
 class Row:
     """A line of the table: what both programs are run on, and the best that each of them did."""
 
-    def __init__(self, name, word, model, stream=None, piped=False, alone=False, large=False):
+    def __init__(self, name, word, model, stream=None, piped=False, alone=False, options=()):
         self.name = name
-        self.alone = alone  # the plain program can't judge it
-        self.words = [word, *["--large"] * large, model]
+        self.alone = alone  # the plain program can't judge it, or has no such option
+        self.words = [word, *options, model]
         if stream and not piped:
             self.words.append(stream)
         self.input = stream if piped else os.devnull
-        self.status = NO_BLOCKS if stream == os.devnull else 0
+        self.status = NO_BLOCKS if stream == os.devnull else REJECTED if "--explain" in options else 0
         self.size = sum(os.path.getsize(path) for path in (model, stream) if path)
         self.seconds = [float("inf")] * 2
         self.kilobytes = [0] * 2
@@ -94,10 +96,22 @@ def made(folder, sort, size):
 
 
 def real(folder, name):
-    """Two rows for a real model: the first block of its stream, and all of it."""
+    """Rows for a real model: the first block of its stream, as JSON too, and all of it."""
     base = os.path.join(folder, name)
-    yield Row(f"`check` {name}, one block", "check", base + ".fzn", base + "-first.out")
+    first = (base + ".fzn", base + "-first.out")
+    yield Row(f"`check` {name}, one block", "check", *first)
+    yield Row(f"`check --json` {name}, one block", "check", *first, alone=True, options=["--json"])
     yield Row(f"`check` {name}, all blocks", "check", base + ".fzn", base + ".out")
+
+
+def with_options(folder, size):
+    """Rows for options that the plain program hasn't."""
+    complete = ["--complete"]
+    for options in (complete, [*complete, "--claims"]):
+        files = made(folder, "stream", size)
+        yield Row(f"`check {' '.join(options)}` stream", "check", *files, alone=True, options=options)
+    files = made(folder, "broken", BROKEN)
+    yield Row("`check --explain` broken", "check", *files, alone=True, options=["--explain"])
 
 
 def large_rows(folder, size):
@@ -109,7 +123,7 @@ def large_rows(folder, size):
         if not os.path.exists(f"{base}-{size}.out"):
             subprocess.run([os.path.join(HERE, "copies.py"), name, size, folder], check=True)
         files = (f"{base}-{size}.fzn", f"{base}-{size}.out")
-        yield Row(f"`check --large` copies of {name}", "check", *files, large=True)
+        yield Row(f"`check --large` copies of {name}", "check", *files, options=["--large"])
 
 
 def rows_of(folder, sizes):
@@ -122,6 +136,7 @@ def rows_of(folder, sizes):
     ]
     for sort in SORTS:
         rows += [Row(f"`check` {sort}", "check", *made(folder, sort, size)) for size in sizes]
+    rows += with_options(folder, sizes[0])
     # By a program of its own, since what this one once held counts as its children's memory.
     subprocess.run([os.path.join(HERE, "real", "unpack.py"), folder], check=True)
     for name in REAL:

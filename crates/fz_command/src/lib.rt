@@ -9,5 +9,5 @@ mod words;
 
 pub use pages::{HELP, USAGE, VERSION};
 pub use words::{
-    CheckOptions, Explaining, Form, Judging, Printing, Refused, Request, Size, read_words,
+    Check, Explaining, Form, Judging, Printing, Refused, Request, Show, Size, read_words,
 };

@@ -13,23 +13,17 @@ use std::alloc::{AllocError, Global};
 #[derive(Drop)]
 pub enum Request<'a> {
     /// Print the canonical text of the model in a file.
-    Show {
-        model: &'a str,
-        printing: Printing,
-        size: Size,
-    },
+    Show(Show<'a>),
     /// Check the stream in a file, or on standard input, against the model in a file.
-    Check {
-        model: &'a str,
-        stream: Option<&'a str>,
-        /// The file of the table of names, where one is given.
-        names: Option<&'a str>,
-        /// The file of a solver's search tree, where one is given.
-        tree: Option<&'a str>,
-        /// The files of the known streams.
-        known: Vec<&'a str>,
-        options: CheckOptions,
-    },
+    Check(Check<'a>),
+}
+
+/// What `show` is asked for.
+#[derive(Clone, Copy)]
+pub struct Show<'a> {
+    pub model: &'a str,
+    pub printing: Printing,
+    pub size: Size,
 }
 
 /// Which variables the shown model marks as output.
@@ -46,9 +40,17 @@ pub enum Size {
     Large,
 }
 
-/// The options of `check`.
-#[derive(Clone, Copy)]
-pub struct CheckOptions {
+/// What `check` is asked for.
+#[derive(Drop)]
+pub struct Check<'a> {
+    pub model: &'a str,
+    pub stream: Option<&'a str>,
+    /// The file of the table of names, where one is given.
+    pub names: Option<&'a str>,
+    /// The file of a solver's search tree, where one is given.
+    pub tree: Option<&'a str>,
+    /// The files of the known streams.
+    pub known: Vec<&'a str>,
     /// Whether values that the solver left out are searched for.
     pub completes: bool,
     /// The most steps of a search, where a number is asked for.
@@ -135,17 +137,17 @@ impl From<AllocError> for Refused {
 pub fn read_words<'a>(alloc: Global, words: &'a [String]) -> Result<Request<'a>, Refused> {
     match command(alloc)?.try_get_matches_from(words) {
         Ok(matches) => request_of(alloc, &matches),
-        Err(error) => Err(refusal_of(alloc, &error)),
+        Err(error) => Err(refusal_of(alloc, &error, words)),
     }
 }
 
 /// What an error of `clap` says of the words.
-fn refusal_of(alloc: Global, error: &Error) -> Refused {
+fn refusal_of(alloc: Global, error: &Error, words: &[String]) -> Refused {
     match error.kind() {
         ErrorKind::OutOfMemory => Refused::Memory,
         ErrorKind::DisplayHelp => Refused::Help,
         ErrorKind::DisplayVersion => Refused::Version,
-        _ => match told(alloc, error) {
+        _ => match told(alloc, error, words) {
             Ok(text) => Refused::Wrong(text),
             Err(_) => Refused::Memory,
         },
@@ -153,17 +155,26 @@ fn refusal_of(alloc: Global, error: &Error) -> Refused {
 }
 
 /// The first paragraph of the message of an error, since the usage of `clap` follows there, and
-/// what the words may have meant.
-fn told(alloc: Global, error: &Error) -> Result<String, AllocError> {
+/// what helps.
+fn told(alloc: Global, error: &Error, words: &[String]) -> Result<String, AllocError> {
     let text = format!(in alloc; "{error}")?;
-    let Some((front, behind)) = text.split_once("\n\n") else {
-        return Ok(text);
-    };
-    match meant(behind) {
-        Some(word) => format!(in alloc; "{front}\ndid you mean {word}"),
-        None => String::from_str(alloc, front),
+    let (front, behind) = text.split_once("\n\n").unwrap_or((&text, ""));
+    let mut told = String::from_str(alloc, front)?;
+    if let Some(word) = meant(behind) {
+        write!(told, "\ndid you mean {word}")?;
+    } else if error.kind() == ErrorKind::InvalidSubcommand {
+        told.push_str("\ndid you mean check")?;
+        for word in words.iter().skip(1) {
+            write!(told, " {word}")?;
+        }
+    } else if front.contains("'--complete-steps <N>'") {
+        write!(told, "\n{WANTED_STEPS}")?;
     }
+    Ok(told)
 }
+
+/// What is told where no number of steps follows the option for it.
+const WANTED_STEPS: &str = "--complete-steps wants a number, as --complete-steps 1000000";
 
 /// The word that `clap` knows for a wrong one, where its message has a tip such as
 /// `a similar argument exists: '--complete'` or `'check --complete' exists`.
@@ -185,44 +196,38 @@ fn last_quoted(text: &str) -> Option<&str> {
 /// The command of the words that `clap` read.
 fn request_of<'a>(alloc: Global, matches: &ArgMatches<'a>) -> Result<Request<'a>, Refused> {
     match matches.subcommand() {
-        Some(("show", given)) => Ok(Request::Show {
+        Some(("show", given)) => Ok(Request::Show(Show {
             model: model_of(given)?,
             printing: printing_of(given),
             size: size_of(given),
-        }),
-        Some(("check", given)) => check_of(alloc, given),
+        })),
+        Some(("check", given)) => Ok(Request::Check(check_of(alloc, given)?)),
         _ => Err(Refused::Help),
     }
 }
 
 /// The command `check` of the words behind it.
-fn check_of<'a>(alloc: Global, given: &ArgMatches<'a>) -> Result<Request<'a>, Refused> {
-    let model = model_of(given)?;
-    let names = only(alloc, given, "names")?;
-    let tree = only(alloc, given, "tree")?;
+fn check_of<'a>(alloc: Global, given: &ArgMatches<'a>) -> Result<Check<'a>, Refused> {
     let steps = only(alloc, given, "complete-steps")?;
-    let explains = explaining_of(only(alloc, given, "explain")?);
     let known = known_of(alloc, given)?;
-    let options = CheckOptions {
+    let check = Check {
+        model: model_of(given)?,
+        stream: given.get_str("STREAM"),
+        names: only(alloc, given, "names")?,
+        tree: only(alloc, given, "tree")?,
         completes: given.get_flag("complete"),
         steps: steps.and_then(|number| number.parse().ok()),
         cuts: given.get_flag("cut"),
         judging: Judging::of(given.get_strs("claims"), &known),
-        explains,
+        explains: explaining_of(only(alloc, given, "explain")?),
         form: form_of(given),
         size: size_of(given),
+        known,
     };
-    if tree.is_some() && options.judging != Judging::Proving {
+    if check.tree.is_some() && check.judging != Judging::Proving {
         return Err(Refused::Wrong(String::from_str(alloc, TREE_ALONE)?));
     }
-    Ok(Request::Check {
-        model,
-        stream: given.get_str("STREAM"),
-        names,
-        tree,
-        known,
-        options,
-    })
+    Ok(check)
 }
 
 /// The file of the model, which both commands require.

@@ -4,11 +4,10 @@
 
 use crate::naming::best_name;
 use crate::notes::name_at;
-use crate::scalars::push_list;
-use crate::variables::{Variables, add, add_all, add_point, add_term};
 use fz_places::NameTable;
-use fz_store::{Goal, Model, PointParts, Scalars, What};
-use fz_tree::{Ast, Decl, Note};
+use fz_store::{Argument, Goal, Model, Scalar, Slot, Term, What, scalar_at};
+use fz_syntax::{DeclItems, Offer, PredicateItems};
+use fz_tree::{Ast, Decl, Goal as GoalItem, Limits, Note, Solve, SyntaxError};
 use indexmap::IndexSet;
 use std::alloc::{AllocError, Global};
 
@@ -29,90 +28,188 @@ pub struct Unbound {
     pub left_out: usize,
 }
 
-/// Adds the variables of a constraint or a definition.
-fn add_bound(
-    alloc: Global,
-    variables: &mut Variables,
-    parts: PointParts<'_, '_>,
-) -> Result<(), AllocError> {
-    match parts {
-        PointParts::Domain(_, _) | PointParts::Elements(_, _, _) => Ok(()),
-        PointParts::Definition(_, _, _) | PointParts::Constraint(_) => {
-            add_point(alloc, variables, parts)
+/// Which variables a constraint, a definition or the objective mentions, and which arrays a
+/// constraint does, by their numbers.
+#[derive(Drop)]
+struct Mentioned {
+    variables: Vec<bool>,
+    arrays: Vec<bool>,
+}
+
+/// Marks what has this number.
+fn mark(marks: &mut [bool], number: usize) {
+    if let Some(mark) = marks.get_mut(number) {
+        *mark = true;
+    }
+}
+
+impl Mentioned {
+    /// What a model mentions: one pass over what it stores.
+    fn of(alloc: Global, model: &Model<'_>) -> Result<Mentioned, AllocError> {
+        let constraints = model.constraints();
+        let mut mentioned = Mentioned {
+            variables: vec![in alloc; false; constraints.variables.len()]?,
+            arrays: vec![in alloc; false; constraints.arrays.len()]?,
+        };
+        for argument in &constraints.store.arguments {
+            if let Argument::One(slot) = argument {
+                mentioned.mark_slot(*slot);
+            }
+        }
+        mentioned.mark_slots(&constraints.store.slots);
+        for (number, array) in constraints.arrays.iter().enumerate() {
+            if mentioned.arrays.get(number) == Some(&true) {
+                mentioned.mark_slots(&array.elements.slots);
+            }
+        }
+        mentioned.mark_definitions(model);
+        Ok(mentioned)
+    }
+
+    fn mark_slot(&mut self, slot: Slot) {
+        match slot {
+            Slot::Variable(number) => mark(&mut self.variables, number as usize),
+            Slot::Array(number) => mark(&mut self.arrays, number as usize),
+            Slot::Number(_) | Slot::Truth(_) | Slot::Constant(_) => {}
         }
     }
-}
 
-/// Adds the variable that is minimized or maximized.
-fn add_goal(variables: &mut Variables, goal: &Goal) -> Result<(), AllocError> {
-    match goal {
-        Goal::Satisfy => Ok(()),
-        Goal::Minimize(term) | Goal::Maximize(term) => add_term(variables, term),
+    fn mark_slots(&mut self, slots: &[Slot]) {
+        for slot in slots {
+            self.mark_slot(*slot);
+        }
     }
-}
 
-/// The variables that a constraint, a definition or the objective mentions.
-fn mentioned(alloc: Global, model: &Model<'_>) -> Result<Variables, AllocError> {
-    let mut variables = IndexSet::new(alloc);
-    for point in 0..model.points() {
-        add_bound(alloc, &mut variables, model.point_parts(point))?;
+    fn mark_term(&mut self, term: &Term) {
+        if let Term::Var(number) = term {
+            mark(&mut self.variables, *number);
+        }
     }
-    add_goal(&mut variables, model.goal())?;
-    Ok(variables)
+
+    /// Marks the variables of definitions and of the objective.
+    fn mark_definitions(&mut self, model: &Model<'_>) {
+        for (number, variable) in model.variables().iter().enumerate() {
+            if let Some(term) = &variable.definition {
+                mark(&mut self.variables, number);
+                self.mark_term(term);
+            }
+        }
+        if let Goal::Minimize(term) | Goal::Maximize(term) = model.goal() {
+            self.mark_term(term);
+        }
+    }
+
+    /// Whether this variable is in none.
+    fn leaves(&self, variable: usize) -> bool {
+        self.variables.get(variable) == Some(&false)
+    }
 }
 
 fn is_output(note: &Note<'_>) -> bool {
     note.name.text == OUTPUT_VAR || note.name.text == OUTPUT_ARRAY
 }
 
-fn has_output(notes: &[Note<'_>]) -> bool {
-    notes.iter().any(|note| is_output(note))
+fn has_output(decl: &Decl<'_>) -> bool {
+    decl.notes.iter().any(|note| is_output(note))
 }
 
-/// Adds the variables among the elements of an array.
-fn add_elements(
+/// The declarations of a text from its predicate items on; none where more of these come.
+fn past_predicates<'a>(
+    mut items: PredicateItems<'a>,
+    most: usize,
+) -> Result<Option<DeclItems<'a>>, SyntaxError> {
+    for _ in 0..most {
+        match items.next()? {
+            Offer::Item(_, more) => items = more,
+            Offer::End(decls) => return Ok(Some(decls)),
+        }
+    }
+    Ok(None)
+}
+
+/// Those of the declarations that have something printed. The lists of the others are given back.
+fn printed_of<'a>(
     alloc: Global,
-    variables: &mut Variables,
-    scalars: Scalars<'_>,
+    mut items: DeclItems<'a>,
+    most: usize,
+) -> Result<Vec<Decl<'a>>, SyntaxError> {
+    let mut printed = Vec::new(alloc);
+    for _ in 0..most {
+        match items.next()? {
+            Offer::Item(decl, mut more) => {
+                if has_output(&decl) {
+                    printed.push(decl)?;
+                } else {
+                    more.give_back(decl);
+                }
+                items = more;
+            }
+            Offer::End(_) => break,
+        }
+    }
+    Ok(printed)
+}
+
+/// The declarations of a text that have something printed. No other item is held, and the text is
+/// read no further than to its last declaration.
+fn printed_decls<'a>(alloc: Global, source: &'a [u8]) -> Result<Vec<Decl<'a>>, SyntaxError> {
+    // Each item takes a byte at least, and so does the solve item behind all.
+    let most = source.len();
+    let predicates = PredicateItems::new(alloc, source, Limits::LARGE)?;
+    match past_predicates(predicates, most)? {
+        Some(decls) => printed_of(alloc, decls, most),
+        None => Ok(Vec::new(alloc)),
+    }
+}
+
+/// A tree with these declarations alone.
+fn tree_of<'a>(alloc: Global, decls: Vec<Decl<'a>>) -> Ast<'a> {
+    Ast {
+        predicates: Vec::new(alloc),
+        decls,
+        constraints: Vec::new(alloc),
+        solve: Solve {
+            notes: Vec::new(alloc),
+            goal: GoalItem::Satisfy,
+        },
+    }
+}
+
+/// Adds a scalar, where it is a variable that nothing mentions.
+fn add_left(
+    left: &mut IndexSet<usize>,
+    mentioned: &Mentioned,
+    scalar: Scalar<'_>,
 ) -> Result<(), AllocError> {
-    let mut elements = Vec::new(alloc);
-    push_list(&mut elements, scalars.slots, scalars.constants)?;
-    add_all(variables, &elements)
+    if let Scalar::Variable(variable) = scalar
+        && mentioned.leaves(variable)
+    {
+        left.insert(variable)?;
+    }
+    Ok(())
 }
 
-/// Adds the variables that a declaration has printed.
-fn add_printed(
+/// The variables that these declarations have printed and nothing mentions, each once, in their
+/// order.
+fn left_of(
     alloc: Global,
-    variables: &mut Variables,
     model: &Model<'_>,
-    decl: &Decl<'_>,
-) -> Result<(), AllocError> {
-    if !has_output(&decl.notes) {
-        return Ok(());
+    mentioned: &Mentioned,
+    decls: &[Decl<'_>],
+) -> Result<IndexSet<usize>, AllocError> {
+    let mut left = IndexSet::new(alloc);
+    for decl in decls {
+        match model.find(decl.name.text).map(|found| found.what) {
+            Some(What::Scalar(scalar)) => add_left(&mut left, mentioned, scalar)?,
+            Some(What::Array(_, scalars)) => {
+                for slot in scalars.slots {
+                    let scalar = scalar_at(scalars.constants, *slot);
+                    add_left(&mut left, mentioned, scalar)?;
+                }
+            }
+            None => {}
+        }
     }
-    let Some(found) = model.find(decl.name.text) else {
-        return Ok(());
-    };
-    match found.what {
-        What::Scalar(scalar) => add(variables, scalar),
-        What::Array(_, scalars) => add_elements(alloc, variables, scalars),
-    }
-}
-
-/// The variables that declarations have printed.
-fn printed(alloc: Global, model: &Model<'_>, ast: &Ast<'_>) -> Result<Variables, AllocError> {
-    let mut variables = IndexSet::new(alloc);
-    for decl in &ast.decls {
-        add_printed(alloc, &mut variables, model, decl)?;
-    }
-    Ok(variables)
-}
-
-/// The numbers of the printed variables that nothing binds, each once, in the order of the text.
-fn unconstrained(alloc: Global, model: &Model<'_>, ast: &Ast<'_>) -> Result<Variables, AllocError> {
-    let mentioned = mentioned(alloc, model)?;
-    let mut left = printed(alloc, model, ast)?;
-    left.retain(|variable| !mentioned.contains(variable));
     Ok(left)
 }
 
@@ -132,21 +229,30 @@ fn names_of(
 }
 
 impl Unbound {
-    /// Those of a model, by the tree that it was loaded from and the table of its names; none where
-    /// there are none.
+    /// Those of a model, by the text that it was loaded from and the table of its names; none where
+    /// there are none. The text is read only where a variable is left that nothing mentions.
     pub(crate) fn of(
         alloc: Global,
         model: &Model<'_>,
-        ast: &Ast<'_>,
+        source: &[u8],
         table: &NameTable<'_>,
     ) -> Result<Option<Unbound>, AllocError> {
-        let numbers = unconstrained(alloc, model, ast)?;
-        if numbers.is_empty() {
+        let mentioned = Mentioned::of(alloc, model)?;
+        if !mentioned.variables.contains(&false) {
+            return Ok(None);
+        }
+        // The text was loaded, under limits that these are no less than.
+        let Ok(decls) = printed_decls(alloc, source) else {
+            return Err(AllocError);
+        };
+        let ast = tree_of(alloc, decls);
+        let left = left_of(alloc, model, &mentioned, &ast.decls)?;
+        if left.is_empty() {
             return Ok(None);
         }
         Ok(Some(Unbound {
-            names: names_of(alloc, model, ast, table, numbers.as_slice())?,
-            left_out: numbers.len().saturating_sub(MOST_NAMES),
+            names: names_of(alloc, model, &ast, table, left.as_slice())?,
+            left_out: left.len().saturating_sub(MOST_NAMES),
         }))
     }
 

@@ -22,9 +22,6 @@ pub struct Case<'e, 'a> {
     pub stream: Text<'e>,
 }
 
-/// The most bytes of a text that is parsed to tell the printed variables that nothing binds.
-const MOST_BYTES: usize = 16_777_216;
-
 /// Explains the verdicts on blocks. The text of the model is parsed at the first explanation.
 #[derive(Drop)]
 pub struct Explainer<'a, 'n> {
@@ -94,24 +91,17 @@ impl<'a, 'n> Explainer<'a, 'n> {
     }
 
     /// The printed variables of the model that nothing binds but their own domains; none where
-    /// there are none, and of a text of more than 16 MiB.
+    /// there are none.
     ///
     /// # Errors
     ///
     /// Out of memory.
     pub fn unconstrained(
-        &mut self,
+        &self,
         alloc: Global,
         model: &Model<'_>,
     ) -> Result<Option<Unbound>, AllocError> {
-        if self.text.bytes.len() > MOST_BYTES {
-            return Ok(None);
-        }
-        self.parse(alloc);
-        match &self.ast {
-            Some(ast) => Unbound::of(alloc, model, ast, &self.names),
-            None => Err(AllocError),
-        }
+        Unbound::of(alloc, model, self.text.bytes, &self.names)
     }
 
     /// The same, where the model is parsed.

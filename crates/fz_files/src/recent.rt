@@ -9,9 +9,6 @@ use std::cell::RefCell;
 use std::io;
 use std::io::Read;
 
-/// The line that ends a block.
-const MARKER: &[u8] = b"----------";
-
 /// How many bytes, lines and blocks come before something in a stream.
 #[derive(Clone, Copy)]
 pub struct Passed {
@@ -27,16 +24,18 @@ pub const NOTHING: Passed = Passed {
     blocks: 0,
 };
 
-/// What was read of a stream since the last block ended that ended before the last read. Where
-/// memory runs out, nothing is stored from then on.
+/// What was read of a stream since the end of the block that was the last one to be judged before
+/// the last read. Where memory runs out, nothing is stored from then on.
 #[derive(Drop)]
 pub struct Recent {
     alloc: Global,
     keeps: bool,
     bytes: Vec<u8>,
-    /// The index in `bytes` of the first line that wasn't looked at.
-    next: usize,
+    /// What was given before these bytes.
     passed: Passed,
+    /// Where the text of the last block ends that was judged, and how many were.
+    end: usize,
+    blocks: usize,
 }
 
 impl Recent {
@@ -46,50 +45,46 @@ impl Recent {
             alloc,
             keeps: true,
             bytes: Vec::new(alloc),
-            next: 0,
             passed: NOTHING,
+            end: 0,
+            blocks: 0,
         }
     }
 
-    /// The bytes that are stored, and what was given before them; none where nothing is stored.
+    /// Hears of a block that was judged, whose text ends at this offset.
+    pub fn end_block(&mut self, end: usize) {
+        self.end = end;
+        self.blocks = self.blocks.saturating_add(1);
+    }
+
+    /// What is stored from the end of the last block on that was judged, and what was given before
+    /// that; none where nothing is stored.
     pub fn kept(&self) -> Option<(&[u8], Passed)> {
-        if self.keeps {
-            Some((&self.bytes, self.passed))
-        } else {
-            None
-        }
+        let passed = Passed {
+            bytes: self.end,
+            lines: self.lines_before(self.end)?,
+            blocks: self.blocks,
+        };
+        Some((behind(&self.bytes, self.ended()), passed))
     }
 
     /// How many lines of the stream end before this offset; none where what is stored doesn't tell.
     pub fn lines_before(&self, offset: usize) -> Option<usize> {
-        let (bytes, passed) = self.kept()?;
-        let front = before(bytes, offset.checked_sub(passed.bytes)?);
-        Some(passed.lines.saturating_add(count_ends(front)))
-    }
-
-    /// Drops the blocks that have ended, since what was given is judged before more is read.
-    fn drop_ended(&mut self) -> Result<(), AllocError> {
-        let mut next = self.next;
-        let mut ended = 0;
-        let mut blocks = self.passed.blocks;
-        for line in behind(&self.bytes, next).split_inclusive(|byte| *byte == b'\n') {
-            // The last line may go on: it is looked at again when more has come.
-            if line.last() != Some(&b'\n') {
-                break;
-            }
-            next = next.saturating_add(line.len());
-            if is_marker(line) {
-                ended = next;
-                blocks = blocks.saturating_add(1);
-            }
+        if !self.keeps {
+            return None;
         }
-        self.next = next.saturating_sub(ended);
-        self.passed.blocks = blocks;
-        self.drop_front(ended)
+        let front = before(&self.bytes, offset.checked_sub(self.passed.bytes)?);
+        Some(self.passed.lines.saturating_add(count_ends(front)))
     }
 
-    /// Drops so many bytes at the front.
-    fn drop_front(&mut self, count: usize) -> Result<(), AllocError> {
+    /// How many of the bytes are of blocks that were judged.
+    fn ended(&self) -> usize {
+        self.end.saturating_sub(self.passed.bytes)
+    }
+
+    /// Drops the blocks that were judged: all are that ended in what was given so far.
+    fn drop_ended(&mut self) -> Result<(), AllocError> {
+        let count = self.ended();
         if count == 0 {
             return Ok(());
         }
@@ -126,14 +121,6 @@ fn count_ends(bytes: &[u8]) -> usize {
     bytes.iter().filter(|byte| **byte == b'\n').count()
 }
 
-/// How many blocks end in these bytes.
-pub fn count_blocks(bytes: &[u8]) -> usize {
-    bytes
-        .split_inclusive(|byte| *byte == b'\n')
-        .filter(|line| is_marker(line))
-        .count()
-}
-
 /// The first `count` bytes, or all.
 fn before(bytes: &[u8], count: usize) -> &[u8] {
     bytes.split_at(count.min(bytes.len())).0
@@ -142,10 +129,6 @@ fn before(bytes: &[u8], count: usize) -> &[u8] {
 /// What is behind the first `count` bytes.
 fn behind(bytes: &[u8], count: usize) -> &[u8] {
     bytes.split_at(count.min(bytes.len())).1
-}
-
-fn is_marker(line: &[u8]) -> bool {
-    line.trim_ascii() == MARKER
 }
 
 /// A reader that gives what another one gives. It stores that where there is a cell for it, and the

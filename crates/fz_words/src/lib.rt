@@ -6,7 +6,6 @@
 #![tactic(auto)]
 
 mod expected;
-mod grammar;
 mod looks;
 mod text;
 

@@ -1,6 +1,6 @@
 //! What a file is that is no model or no stream.
 
-use crate::grammar::begins_item;
+use crate::expected::begins_item;
 use crate::text::Given;
 use fz_tree::{Mark, TokenKind, Tokens};
 

@@ -5,177 +5,165 @@ use crate::detail::{Detail, refuse_fault};
 use crate::events::unread_line;
 use crate::explain::explanation;
 use crate::known::claims_of;
-use crate::names::check_with_names;
-use crate::options::{completion_of, options_of};
+use crate::names::{read_table, table_of};
+use crate::options::{completion_of, limits_of, options_of};
 use crate::reading::{Unread, most_bytes, open_file, read_whole};
 use crate::refusing::{refuse, refuse_file};
+use crate::screen::{Report, Screen};
 use crate::teller::{JsonTeller, Teller};
 use crate::tree::{branches_of, read_tree};
-use fz_check::{Answer, CheckError, Claims, MOST_READS, Taker, check_events, status};
-use fz_command::{CheckOptions, Explaining, Form};
+use fz_check::{
+    Answer, CheckError, Claims, MOST_READS, Model, Taker, check_loaded, read_model, status,
+};
+use fz_command::{Check, Explaining, Form, Size};
 use fz_explain::{Explainer, Message, NameTable, Text};
 use fz_files::{NOTHING, Recent, Recorder, find_input};
 use std::alloc::Global;
 use std::cell::RefCell;
-use std::io::{Read, Write};
+use std::fs::File;
+use std::io::{IsTerminal, Read, Write};
 
 /// The name of the stream in messages, where it is on standard input.
 const STANDARD_INPUT: &str = "(standard input)";
 
-/// The names of the files, and how they are checked.
-#[derive(Clone, Copy)]
-pub struct Task<'a> {
-    model: &'a str,
-    stream: &'a str,
-    /// The file of the table of names, where one is given.
-    pub names: Option<&'a str>,
-    /// The file of a solver's search tree, where one is given.
-    tree: Option<&'a str>,
-    pub options: CheckOptions,
+/// What a terminal is told on which the stream is to be written.
+const AWAITED: &str = "fzcheck: waits for the stream on this terminal; Ctrl-D ends it";
+
+/// The name of the stream in messages.
+pub fn name_of_stream<'a>(asked: &Check<'a>) -> &'a str {
+    asked.stream.unwrap_or(STANDARD_INPUT)
 }
 
 /// Checks the file of a stream, or standard input, against the file of a model.
-pub fn check_files<'a>(
-    rt: &HostRuntime,
-    model: &'a str,
-    stream: Option<&'a str>,
-    names: Option<&'a str>,
-    tree: Option<&'a str>,
-    known: &'a [&'a str],
-    options: CheckOptions,
-) -> u8 {
-    let task = Task {
-        model,
-        stream: stream.unwrap_or(STANDARD_INPUT),
-        names,
-        tree,
-        options,
-    };
-    match check_opened(rt, &task, stream, known) {
+pub fn check_files(rt: &HostRuntime, asked: &Check<'_>) -> u8 {
+    match check_opened(rt, asked) {
         Ok(status) => status,
-        Err(unread) => refuse_reading(rt, &task, &unread),
+        Err(unread) => refuse_reading(rt, asked.form, &unread),
     }
 }
 
 /// Opens the files of the model and of the stream, before anything is read, and checks them.
-fn check_opened<'a>(
-    rt: &HostRuntime,
-    task: &Task<'a>,
-    stream: Option<&'a str>,
-    known: &'a [&'a str],
-) -> Result<u8, Unread<'a>> {
-    if stream.is_none()
-        && let Err(failure) = find_input(rt)
-    {
-        return Err(Unread::new(CheckError::Read, task.stream, Some(failure)));
-    }
-    let model = open_file(rt, task.model)?;
-    match stream {
-        Some(name) => check_readers(rt, task, known, model, open_file(rt, name)?),
-        None => check_readers(rt, task, known, model, rt.stdin()),
-    }
+fn check_opened<'a>(rt: &HostRuntime, asked: &Check<'a>) -> Result<u8, Unread<'a>> {
+    let Some(name) = asked.stream else {
+        if let Err(failure) = find_input(rt) {
+            return Err(Unread::new(CheckError::Read, STANDARD_INPUT, Some(failure)));
+        }
+        let model = open_file(rt, asked.model)?;
+        if rt.stdin().is_terminal() {
+            let _ = eprintln!(rt; "{AWAITED}");
+        }
+        return check_readers(rt, asked, model, rt.stdin());
+    };
+    let model = open_file(rt, asked.model)?;
+    check_readers(rt, asked, model, open_file(rt, name)?)
 }
 
-/// Checks the stream that one reader gives against the model that the other gives. Before each read
-/// of the stream, the lines for what was read so far are written.
-fn check_readers<'a, M: Read + Drop, S: Read + Drop>(
+/// Checks the stream that a reader gives against the model in a file, which is read and loaded once.
+fn check_readers<'a, S: Read + Drop>(
     rt: &HostRuntime,
-    task: &Task<'a>,
-    known: &'a [&'a str],
-    model: M,
+    asked: &Check<'a>,
+    model: File,
     stream: S,
 ) -> Result<u8, Unread<'a>> {
-    let most = most_bytes(task.options.size);
-    let bytes = read_whole(rt.alloc(), model, task.model, most)?;
-    let tree = read_tree(rt, task.tree)?;
-    let branches = branches_of(rt, task.tree, &tree)?;
-    let claims = claims_of(rt, task.options, &bytes, known, &branches)?;
-    check_with_names(rt, task, claims, &bytes, stream)
+    let bytes = read_whole(rt.alloc(), model, asked.model, most_bytes(asked.size))?;
+    let tree = read_tree(rt, asked.tree)?;
+    let branches = branches_of(rt, asked.tree, &tree)?;
+    let table = read_table(rt, asked.names)?;
+    let names = match table_of(rt, asked, &table) {
+        Ok(names) => names,
+        Err(status) => return Ok(status),
+    };
+    let text = Text {
+        name: asked.model,
+        bytes: &bytes,
+        passed: NOTHING,
+    };
+    let model = match read_model(rt.alloc(), &bytes, limits_of(asked.size)) {
+        Ok(model) => model,
+        Err(error) => return Ok(refuse_model(rt, asked, &text, &error)),
+    };
+    let claims = claims_of(rt, asked, &model, &branches)?;
+    Ok(check_stream(rt, asked, &model, claims, text, names, stream))
 }
 
-/// Checks the stream against the text of the model, with the table of its names.
-pub fn check_stream<'x, S: Read + Drop>(
-    rt: &'x HostRuntime,
-    task: &'x Task<'x>,
+/// Checks the stream against the loaded model, whose text and table of names are these.
+fn check_stream<S: Read + Drop>(
+    rt: &HostRuntime,
+    asked: &Check<'_>,
+    model: &Model<'_>,
     claims: Claims<'_>,
-    model: &'x [u8],
+    text: Text<'_>,
     names: NameTable<'_>,
     stream: S,
 ) -> u8 {
     let recent = RefCell::new(Recent::new(rt.alloc()));
-    let detail = Detail::of(rt, task.options.explains != Explaining::Nothing);
-    let stored = match (detail, task.options.form) {
+    let screen = RefCell::new(Screen::new(rt));
+    let detail = detail_of(rt, asked);
+    let stored = match (detail, asked.form) {
         (Detail::Nothing, Form::Text) => None,
         _ => Some(&recent),
     };
-    let text = Text {
-        name: task.model,
-        bytes: model,
-        passed: NOTHING,
-    };
-    let explainer = Explainer::new(text, names, completion_of(task.options.completes));
-    let teller = Teller::new(rt, task.options, explainer, task.stream, &recent);
+    let explainer = Explainer::new(text, names, completion_of(asked.completes));
+    let mut teller = Teller::new(rt, asked, explainer, &recent, &screen);
     let mut stream = Recorder::new(stream, stored);
-    match check_and_tell(rt, task, claims, model, &mut stream, teller) {
-        Ok(answer) => status(&Ok(answer)),
-        Err(CheckError::Read) => {
-            let unread = Unread::new(CheckError::Read, task.stream, stream.into_failure());
-            refuse_reading(rt, task, &unread)
-        }
-        Err(error) => refuse_check(rt, task, &text, stored, &error, detail),
-    }
-}
-
-/// Checks a stream, and tells what belongs to the answer.
-fn check_and_tell<S: Read>(
-    rt: &HostRuntime,
-    task: &Task<'_>,
-    claims: Claims<'_>,
-    model: &[u8],
-    stream: &mut S,
-    mut teller: Teller<'_, '_>,
-) -> Result<Answer, CheckError> {
-    let outcome = match task.options.form {
-        Form::Text => check_to(rt, task, claims, model, stream, &mut teller),
+    let outcome = match asked.form {
+        Form::Text => check_to(rt, asked, model, claims, &mut stream, &screen, &mut teller),
         Form::Json => {
             let mut taker = JsonTeller {
                 teller: &mut teller,
             };
-            check_to(rt, task, claims, model, stream, &mut taker)
+            check_to(rt, asked, model, claims, &mut stream, &screen, &mut taker)
         }
     };
-    teller.clear();
-    let answer = outcome?;
-    teller.tell();
-    teller.tell_unconstrained();
-    Ok(answer)
+    teller.end(outcome.is_ok());
+    match outcome {
+        Ok(answer) => status(&Ok(answer)),
+        Err(CheckError::Read) => {
+            let name = name_of_stream(asked);
+            let unread = Unread::new(CheckError::Read, name, stream.into_failure());
+            refuse_reading(rt, asked.form, &unread)
+        }
+        Err(error) => {
+            let message = stored.and_then(|recent| stream_message(rt, asked, recent, &error));
+            refuse_check(rt, asked, &error, name_of_stream(asked), message.as_ref())
+        }
+    }
 }
 
 /// Checks a stream, and writes the report to standard output.
 fn check_to<S: Read, T: Taker>(
     rt: &HostRuntime,
-    task: &Task<'_>,
+    asked: &Check<'_>,
+    model: &Model<'_>,
     claims: Claims<'_>,
-    model: &[u8],
     stream: &mut S,
+    screen: &RefCell<Screen<'_>>,
     taker: &mut T,
 ) -> Result<Answer, CheckError> {
-    let options = options_of(task.options, claims);
-    let mut out = rt.stdout();
-    check_events(
+    let mut report = Report {
+        out: rt.stdout(),
+        screen,
+    };
+    let options = options_of(asked, claims);
+    check_loaded(
         rt.alloc(),
         model,
         stream,
-        &mut out,
+        &mut report,
         taker,
         MOST_READS,
         options,
     )
 }
 
+/// How much is told of the place of a refusal.
+fn detail_of(rt: &HostRuntime, asked: &Check<'_>) -> Detail {
+    Detail::of(rt, asked.explains != Explaining::Nothing)
+}
+
 /// Refuses the check since a file can't be read.
-fn refuse_reading(rt: &HostRuntime, task: &Task<'_>, unread: &Unread<'_>) -> u8 {
-    if let Form::Json = task.options.form
+pub fn refuse_reading(rt: &HostRuntime, form: Form, unread: &Unread<'_>) -> u8 {
+    if let Form::Json = form
         && let Ok(line) = unread_line(rt.alloc(), unread)
     {
         let _ = rt.stdout().write_all(&line);
@@ -183,51 +171,54 @@ fn refuse_reading(rt: &HostRuntime, task: &Task<'_>, unread: &Unread<'_>) -> u8 
     refuse_file(rt, unread)
 }
 
-/// Refuses the check. Where its fault is, is told with `--explain`, to a terminal, and in JSON.
+/// Refuses the model, with its text.
+fn refuse_model(rt: &HostRuntime, asked: &Check<'_>, text: &Text<'_>, error: &CheckError) -> u8 {
+    let message = match (detail_of(rt, asked), asked.form) {
+        (Detail::Nothing, Form::Text) => None,
+        _ => message_in(rt.alloc(), text, error, asked.size),
+    };
+    refuse_check(rt, asked, error, asked.model, message.as_ref())
+}
+
+/// Refuses the check for a fault of the file of this name. Where it is, is told with `--explain`, to
+/// a terminal, and in JSON.
 fn refuse_check(
     rt: &HostRuntime,
-    task: &Task<'_>,
-    model: &Text<'_>,
-    stored: Option<&RefCell<Recent>>,
+    asked: &Check<'_>,
     error: &CheckError,
-    detail: Detail,
+    name: &str,
+    message: Option<&Message>,
 ) -> u8 {
-    let message = match stored {
-        Some(recent) => fault_message(rt.alloc(), task, model, recent, error),
-        None => None,
-    };
-    let name = match error {
-        CheckError::Model(_) => task.model,
-        _ => task.stream,
-    };
-    match task.options.form {
-        Form::Text => { refuse_fault(rt, error, name, message.as_ref(), detail, task.options.size) }
+    match asked.form {
+        Form::Text => refuse_fault(rt, error, name, message, detail_of(rt, asked), asked.size),
         Form::Json => {
-            write_refusal(rt, error, message.as_ref());
+            write_refusal(rt, error, message);
             refuse(rt, error)
         }
     }
 }
 
-/// The message on the fault of a refusal; none where it has no byte range, or memory runs out.
-fn fault_message(
-    alloc: Global,
-    task: &Task<'_>,
-    model: &Text<'_>,
+/// The message on the fault of a refusal in a text; none where it has no byte range, or memory runs
+/// out.
+fn message_in(alloc: Global, text: &Text<'_>, error: &CheckError, size: Size) -> Option<Message> {
+    explanation(alloc, text, error, size).ok()?
+}
+
+/// The message on a fault of the stream, of which the last is stored.
+fn stream_message(
+    rt: &HostRuntime,
+    asked: &Check<'_>,
     recent: &RefCell<Recent>,
     error: &CheckError,
 ) -> Option<Message> {
-    if let CheckError::Model(_) | CheckError::Names(_) = error {
-        return explanation(alloc, model, error, task.options.size).ok()?;
-    }
     let recent = recent.try_borrow().ok()?;
     let (bytes, passed) = recent.kept()?;
     let stream = Text {
-        name: task.stream,
+        name: name_of_stream(asked),
         bytes,
         passed,
     };
-    explanation(alloc, &stream, error, task.options.size).ok()?
+    message_in(rt.alloc(), &stream, error, asked.size)
 }
 
 /// Writes the refusal in the place of the answer, unless it was a write that failed.

@@ -2,6 +2,7 @@
 
 use crate::explain::{LARGER, has_larger, meaning};
 use crate::refusing::{is_told, refuse};
+use crate::screen::show_message;
 use fz_check::CheckError;
 use fz_command::Size;
 use fz_explain::Message;
@@ -56,8 +57,8 @@ fn tell_message(rt: &HostRuntime, message: &Message, detail: Detail) {
     let Ok(text) = message.text(rt.alloc()) else {
         return;
     };
-    let _ = match text.split_once('\n') {
-        Some((line, _)) if detail == Detail::Line => eprintln!(rt; "{line}"),
-        _ => eprint!(rt; "{text}"),
-    };
+    match text.split_once('\n') {
+        Some((line, _)) if detail == Detail::Line => show_message(rt, line),
+        _ => show_message(rt, &text),
+    }
 }

@@ -4,7 +4,7 @@
 use fz_check::{BlockError, CheckError, ModelError, StreamError, SyntaxError, Told, refusal_fault};
 use fz_command::Size;
 use fz_explain::{Message, Phrase, Text, message_at};
-use fz_files::{Passed, count_blocks};
+use fz_files::Passed;
 use fz_words::{Given, Refused, meaning as syntax_meaning};
 use std::alloc::{AllocError, Global};
 
@@ -46,13 +46,12 @@ pub fn explanation(
         _ => return Ok(None),
     };
     let start = place.start.saturating_sub(text.passed.bytes);
-    let before = text.bytes.get(..start).unwrap_or(text.bytes);
     let refused = refused_text(text, start, error);
     let said = match refused.and_then(Refused::look) {
         Some(look) => String::from_str(alloc, look)?,
         None => {
             let wrong = wrong(alloc, refused, error)?;
-            match block_number(before, text.passed, error) {
+            match block_number(text.passed, error) {
                 Some(number) => format!(in alloc; "{wrong}, in block {number}")?,
                 None => wrong,
             }
@@ -99,13 +98,10 @@ fn wrong(
 }
 
 /// The number of the block that a fault is in, where it is a fault of the stream.
-fn block_number(before: &[u8], passed: Passed, error: &CheckError) -> Option<usize> {
+fn block_number(passed: Passed, error: &CheckError) -> Option<usize> {
     match error {
         CheckError::Block(number, _) => Some(*number),
-        CheckError::Stream(_) => {
-            let blocks = passed.blocks.saturating_add(count_blocks(before));
-            Some(blocks.saturating_add(1))
-        }
+        CheckError::Stream(_) => Some(passed.blocks.saturating_add(1)),
         _ => None,
     }
 }

@@ -4,30 +4,29 @@ ghost use Rattle.std.specs.Prelude.{◌≡◌, ◌≢◌, IfOk};
 ghost use Rattle.fz_check.specs.declared.claims.Claims.TheVariants.{NotJudged};
 ghost use Rattle.fz_command.specs.declared.words.Judging.TheVariants.{Nothing};
 
-use crate::options::{limits_of, options_of};
+use crate::options::options_of;
 use crate::reading::{Unread, open_file};
 use fz_check::{
     BlockError, Branch, CheckError, Claims, Known, Listener, MOST_READS, Model, Proofs, Source,
-    Verdict, block_text, learn, read_model, refusal_text,
+    Verdict, block_text, learn, refusal_text,
 };
-use fz_command::{CheckOptions, Judging};
+use fz_command::{Check, Judging};
 use fz_files::Recorder;
 use std::alloc::AllocError;
 use std::io::Write;
 
-/// Whether claims are judged, and with what is known by the streams in these files. What refutes
-/// nothing in them is told on standard error.
+/// Whether claims are judged, and with what is known by the known streams. What refutes nothing in
+/// them is told on standard error.
 pub fn claims_of<'k: 't, 't>(
     rt: &HostRuntime,
-    options: CheckOptions,
-    model: &[u8],
-    names: &[&'k str],
+    asked: &Check<'k>,
+    model: &Model<'_>,
     tree: &'t [Branch<'t>],
 ) -> Result<Claims<'t>, Unread<'k>>
-    ensures unasked { options.judging ≡ Nothing → IfOk result (λ claims. claims ≡ NotJudged) }
-    ensures asked { options.judging ≢ Nothing → IfOk result (λ claims. claims ≢ NotJudged) }
+    ensures unasked { asked.now.judging ≡ Nothing → IfOk result (λ claims. claims ≡ NotJudged) }
+    ensures asked { asked.now.judging ≢ Nothing → IfOk result (λ claims. claims ≢ NotJudged) }
 {
-    let proofs = match options.judging {
+    let proofs = match asked.judging {
         Judging::Nothing => return Ok(Claims::NotJudged),
         Judging::Asked => Proofs::Off,
         Judging::Proving => Proofs::On(tree),
@@ -36,32 +35,21 @@ pub fn claims_of<'k: 't, 't>(
             Proofs::Off
         }
     };
-    Ok(Claims::Judged(known_of(rt, options, model, names)?, proofs))
+    Ok(Claims::Judged(known_of(rt, asked, model)?, proofs))
 }
 
 /// What is told where claims are judged for their streams alone.
 const AS_IF_ASKED: &str = "--known without --claims: claims are judged as if it were there";
 
-/// What is known by the streams in these files.
+/// What is known by the known streams.
 fn known_of<'k>(
     rt: &HostRuntime,
-    options: CheckOptions,
-    model: &[u8],
-    names: &[&'k str],
+    asked: &Check<'k>,
+    model: &Model<'_>,
 ) -> Result<Known<'k>, Unread<'k>> {
     let mut known = Known::nothing();
-    if names.is_empty() {
-        return Ok(known);
-    }
-    let model = match read_model(rt.alloc(), model, limits_of(options.size)) {
-        Ok(model) => model,
-        Err(CheckError::Memory) => return Err(Unread::new(CheckError::Memory, "", None)),
-        // The check refuses it too, and tells why.
-        Err(_) => return Ok(known),
-    };
-    let is_only = names.len() == 1;
-    for name in names {
-        learn_file(rt, options, &model, name, is_only, &mut known)?;
+    for name in &asked.known {
+        learn_file(rt, asked, model, *name, &mut known)?;
     }
     Ok(known)
 }
@@ -69,17 +57,16 @@ fn known_of<'k>(
 /// Learns of the stream in a file.
 fn learn_file<'k>(
     rt: &HostRuntime,
-    options: CheckOptions,
+    asked: &Check<'k>,
     model: &Model<'_>,
     name: &'k str,
-    is_only: bool,
     known: &mut Known<'k>,
 ) -> Result<(), Unread<'k>> {
     let mut reader = Recorder::new(open_file(rt, name)?, None);
     let mut listener = Told { rt, name };
     let source = Source {
         file: name.as_bytes(),
-        is_only,
+        is_only: asked.known.len() == 1,
         block: 0,
     };
     let outcome = learn(
@@ -90,7 +77,7 @@ fn learn_file<'k>(
         MOST_READS,
         source,
         known,
-        options_of(options, Claims::NotJudged),
+        options_of(asked, Claims::NotJudged),
     );
     match outcome {
         Ok(()) => Ok(()),

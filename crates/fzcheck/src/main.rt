@@ -14,6 +14,7 @@ mod names;
 mod options;
 mod reading;
 mod refusing;
+mod screen;
 mod show;
 mod teller;
 mod tree;
@@ -39,35 +40,14 @@ fn run(rt: &HostRuntime) -> u8 {
         Ok(args) => args,
         Err(error) => return refuse_words(rt, error.kind()),
     };
-    let words: Result<Vec<String>, _> = args.collect(rt.alloc());
-    match words {
-        Ok(words) => obey(rt, &words),
-        Err(_) => refuse(rt, &CheckError::Memory),
-    }
-}
-
-fn obey(rt: &HostRuntime, words: &[String]) -> u8 {
-    match read_words(rt.alloc(), words) {
-        Ok(request) => carry_out(rt, &request),
+    let words: Vec<String> = match args.collect(rt.alloc()) {
+        Ok(words) => words,
+        Err(_) => return refuse(rt, &CheckError::Memory),
+    };
+    match read_words(rt.alloc(), &words) {
+        Ok(Request::Show(asked)) => show_file(rt, asked),
+        Ok(Request::Check(asked)) => check_files(rt, &asked),
         Err(refused) => refuse_request(rt, &refused),
-    }
-}
-
-fn carry_out(rt: &HostRuntime, request: &Request<'_>) -> u8 {
-    match request {
-        Request::Show {
-            model,
-            printing,
-            size,
-        } => show_file(rt, model, *printing, *size),
-        Request::Check {
-            model,
-            stream,
-            names,
-            tree,
-            known,
-            options,
-        } => check_files(rt, model, *stream, *names, *tree, known, *options),
     }
 }
 

@@ -1,7 +1,7 @@
 //! What the words of the command line ask of a check.
 
 use fz_check::{Claims, Completion, Ending, Limits, Options};
-use fz_command::{CheckOptions, Size};
+use fz_command::{Check, Size};
 
 /// Whether blocks are completed by steps.
 pub fn completion_of(completes: bool) -> Completion {
@@ -21,7 +21,7 @@ pub fn limits_of(size: Size) -> Limits {
 }
 
 /// How a stream is checked, where claims are judged in this way.
-pub fn options_of(asked: CheckOptions, claims: Claims<'_>) -> Options<'_> {
+pub fn options_of<'k>(asked: &Check<'_>, claims: Claims<'k>) -> Options<'k> {
     Options {
         completion: completion_of(asked.completes),
         steps: asked.steps.unwrap_or(Options::STANDARD.steps),

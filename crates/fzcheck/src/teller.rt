@@ -5,12 +5,14 @@ ghost use Rattle.std.specs.Prelude.{⊤};
 ghost use Rattle.fz_check.specs.Report.{by, event_line};
 
 use crate::as_json::{answer_line, explanation_lines};
+use crate::check::name_of_stream;
 use crate::events::{Counts, block_line, claim_line, cut_line, refuted_line};
 use crate::reading::read_file;
+use crate::screen::Screen;
 use fz_check::{Answer, Event, Judged, Taker, TextTaker, Verdict};
-use fz_command::{CheckOptions, Explaining, Form};
+use fz_command::{Check, Explaining, Form};
 use fz_explain::{Case, Explainer, Faults, Remarks, Text, Unbound};
-use fz_files::{Passed, Progress, Recent};
+use fz_files::{Passed, Recent};
 use std::alloc::AllocError;
 use std::cell::RefCell;
 
@@ -22,14 +24,12 @@ const MOST_QUOTED: u32 = 16_777_216;
 
 /// Takes the events of a check whose report is text. Explanations go to standard error.
 #[derive(Drop)]
-pub struct Teller<'r, 'n> {
+pub struct Teller<'s, 'r, 'n> {
     rt: &'r HostRuntime,
-    options: CheckOptions,
-    explainer: Explainer<'r, 'n>,
-    /// The name of the stream.
-    stream: &'r str,
-    recent: &'r RefCell<Recent>,
-    progress: Progress<'r>,
+    asked: &'s Check<'s>,
+    explainer: Explainer<'s, 'n>,
+    recent: &'s RefCell<Recent>,
+    screen: &'s RefCell<Screen<'r>>,
     counts: Counts,
     /// The number and the explanation of the block that the answer so far names.
     told: Option<(usize, Faults)>,
@@ -37,58 +37,65 @@ pub struct Teller<'r, 'n> {
     unconstrained: Option<Unbound>,
 }
 
-impl<'r, 'n> Teller<'r, 'n> {
+impl<'s, 'r, 'n> Teller<'s, 'r, 'n> {
     /// Before the first block. What is stored of the stream is in the cell.
     pub fn new(
         rt: &'r HostRuntime,
-        options: CheckOptions,
-        explainer: Explainer<'r, 'n>,
-        stream: &'r str,
-        recent: &'r RefCell<Recent>,
-    ) -> Teller<'r, 'n> {
+        asked: &'s Check<'s>,
+        explainer: Explainer<'s, 'n>,
+        recent: &'s RefCell<Recent>,
+        screen: &'s RefCell<Screen<'r>>,
+    ) -> Teller<'s, 'r, 'n> {
         Teller {
             rt,
-            options,
+            asked,
             explainer,
-            stream,
             recent,
-            progress: Progress::new(rt),
+            screen,
             counts: Counts::new(),
             told: None,
             unconstrained: None,
         }
     }
 
-    /// Removes the line of progress.
-    pub fn clear(&mut self) {
-        self.progress.clear();
-    }
-
-    /// Tells why the block isn't satisfied that the answer names, where that wasn't told before.
-    pub fn tell(&mut self) {
-        // Without memory for an explanation there is none.
-        if let Some((_, faults)) = self.told.take()
-            && let Ok(text) = faults.text(self.rt.alloc())
-        {
-            self.progress.clear();
-            let _ = eprint!(self.rt; "{text}");
+    /// Ends the check. Where it has an answer, tells why the block isn't satisfied that this names,
+    /// where that wasn't told before, and which printed variables nothing binds.
+    pub fn end(&mut self, has_answer: bool) {
+        if has_answer {
+            self.add_told();
+            self.add_unconstrained();
+        }
+        if let Ok(mut screen) = self.screen.try_borrow_mut() {
+            screen.show();
+            screen.clear();
         }
     }
 
-    /// Tells which printed variables nothing binds.
-    pub fn tell_unconstrained(&self) {
-        if let Form::Text = self.options.form
+    /// Adds the explanation that waits to what is shown behind the lines that come next.
+    fn add_told(&mut self) {
+        // Without memory for an explanation there is none.
+        if let Some((_, faults)) = self.told.take()
+            && let Ok(text) = faults.text(self.rt.alloc())
+            && let Ok(mut screen) = self.screen.try_borrow_mut()
+        {
+            screen.add(&text);
+        }
+    }
+
+    fn add_unconstrained(&self) {
+        if let Form::Text = self.asked.form
             && let Some(printed) = &self.unconstrained
             && let Ok(text) = printed.text(self.rt.alloc())
+            && let Ok(mut screen) = self.screen.try_borrow_mut()
         {
-            let _ = eprint!(self.rt; "{text}");
+            screen.add(&text);
         }
     }
 
     /// Finds them at the first block, where they are to be told. Without memory none are.
     #[inline(never)]
     fn find_unconstrained(&mut self, judged: &Judged<'_, '_>) {
-        if let (Explaining::Nothing, Form::Text) = (self.options.explains, self.options.form) {
+        if let (Explaining::Nothing, Form::Text) = (self.asked.explains, self.asked.form) {
             return;
         }
         if let Ok(found) = self.explainer.unconstrained(self.rt.alloc(), judged.model) {
@@ -126,15 +133,20 @@ impl<'r, 'n> Teller<'r, 'n> {
             Verdict::Violated(_) => violated == 0,
         };
         self.counts.add(&judged.verdict);
-        self.progress
-            .note(matches!(judged.verdict, Verdict::Satisfied));
-        let is_explained = match self.options.explains {
+        if let Ok(mut screen) = self.screen.try_borrow_mut() {
+            screen.count(matches!(judged.verdict, Verdict::Satisfied));
+        }
+        let is_explained = match self.asked.explains {
             Explaining::Nothing => false,
             Explaining::Answer | Explaining::Every => is_named,
             Explaining::All => true,
         };
         if is_explained {
             self.explain(judged);
+        }
+        if let Ok(mut recent) = self.recent.try_borrow_mut() {
+            let block = judged.block;
+            recent.end_block(block.offset.saturating_add(block.text.len()));
         }
     }
 
@@ -144,11 +156,11 @@ impl<'r, 'n> Teller<'r, 'n> {
     fn explain(&mut self, judged: &Judged<'_, '_>) {
         self.told = None;
         let alloc = self.rt.alloc();
-        let most = match self.options.explains {
+        let most = match self.asked.explains {
             Explaining::Every => MOST_POINTS,
             Explaining::Nothing | Explaining::Answer | Explaining::All => 1,
         };
-        if let Ok(case) = case_of(self.stream, self.recent, judged)
+        if let Ok(case) = case_of(name_of_stream(self.asked), self.recent, judged)
             && let Ok(Some(mut faults)) = self.explainer.faults(alloc, judged.model, &case, most)
         {
             for place in 0..faults.messages.len() {
@@ -171,7 +183,7 @@ impl<'r, 'n> Teller<'r, 'n> {
         match event {
             Event::Block(judged) => {
                 let mut lines = self.block_line(judged)?;
-                if let Explaining::All = self.options.explains {
+                if let Explaining::All = self.asked.explains {
                     self.add_explanation(&mut lines);
                 }
                 Ok(lines)
@@ -207,7 +219,7 @@ impl<'r, 'n> Teller<'r, 'n> {
         if let Verdict::Satisfied = judged.verdict {
             return block_line(alloc, judged, None);
         }
-        let case = case_of(self.stream, self.recent, judged)?;
+        let case = case_of(name_of_stream(self.asked), self.recent, judged)?;
         block_line(alloc, judged, self.explainer.place(alloc, &case)?)
     }
 }
@@ -255,14 +267,14 @@ fn quote(rt: &HostRuntime, remarks: &mut Remarks) {
     }
 }
 
-impl Taker for Teller<'_, '_> {
+impl Taker for Teller<'_, '_, '_> {
     ghost text = { by event_line };
 
     fn take(&mut self, event: &Event<'_, '_>, line: &mut Vec<u8>) -> Result<(), AllocError> {
         TextTaker.take(event, line)?;
         self.hear(event);
-        if let Explaining::All = self.options.explains {
-            self.tell();
+        if let Explaining::All = self.asked.explains {
+            self.add_told();
         }
         Ok(())
     }
@@ -270,11 +282,11 @@ impl Taker for Teller<'_, '_> {
 
 /// Takes the events of a check whose report is JSON, explanations included.
 #[derive(Drop)]
-pub struct JsonTeller<'t, 'r, 'n> {
-    pub teller: &'t mut Teller<'r, 'n>,
+pub struct JsonTeller<'t, 's, 'r, 'n> {
+    pub teller: &'t mut Teller<'s, 'r, 'n>,
 }
 
-impl Taker for JsonTeller<'_, '_, '_> {
+impl Taker for JsonTeller<'_, '_, '_, '_> {
     ghost text = { λ _ _. ⊤ };
 
     fn take(&mut self, event: &Event<'_, '_>, line: &mut Vec<u8>) -> Result<(), AllocError> {
