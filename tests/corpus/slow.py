@@ -16,7 +16,7 @@ HERE = os.path.dirname(os.path.abspath(__file__))
 sys.path.insert(0, os.path.join(HERE, os.pardir, os.pardir, "python"))
 # The tests that import this module take the tables from here.
 from fzcheck.fuzz.rows import EITHER, FORMS, OTHER_TESTS, RESULTS, TESTS
-from fzcheck.fuzz.rows import NotKnown, Row, same, total, where
+from fzcheck.fuzz.rows import NotKnown, Row, row_named, same, total, where
 
 TOKEN = re.compile(
     rb"(?P<blank>[ \t\r\n]+|%[^\n]*)|(?P<word>[A-Za-z_][A-Za-z0-9_]*)"
@@ -353,7 +353,7 @@ class Model:
 
     def constraint(self, name, args, notes):
         """The name, the row or none, the arguments, the target or none."""
-        row, found = Row(name), []
+        row, found = row_named(name, len(args)), []
         for arg in args:
             if isinstance(arg, list):
                 terms = [self.scalar(a) for a in arg]

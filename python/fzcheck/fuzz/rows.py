@@ -202,3 +202,8 @@ class Row:
         place = min(self.results)
         value = self.value_at(place, args)
         return value is not None and same(value, args[place])
+
+
+def row_named(name: str, count: int) -> Row:
+    """The row of a constraint with so many arguments: `bool_xor` of two is `bool_ne`."""
+    return Row("bool_ne" if (name, count) == ("bool_xor", 2) else name)

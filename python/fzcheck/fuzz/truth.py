@@ -3,7 +3,7 @@ from typing import Any, Callable, Dict, List, NamedTuple, Optional, Tuple
 
 from fzcheck.flatzinc import (
     Argument, Constraint, Declaration, Model, Name, Numbers, Scalar, Value, elements)
-from fzcheck.fuzz.rows import NotKnown, Row
+from fzcheck.fuzz.rows import NotKnown, Row, row_named
 
 MOST_TRIED = 100_000  # assignments
 Assignment = Tuple[Value, ...]
@@ -142,7 +142,7 @@ def kind_of(model: Dict[Name, Declaration], argument: Argument) -> str:
 
 def fitting_row(name: str, model: Model, arguments: List[Argument]) -> Optional[Row]:
     """The row of the name, where the arguments fit it."""
-    row, declared = Row(name), model.declared()
+    row, declared = row_named(name, len(arguments)), model.declared()
     if not row.known or len(row.kinds) != len(arguments):
         return None
     for kind, argument in zip(row.kinds, arguments):
