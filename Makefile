@@ -11,7 +11,7 @@
 #                  ANEW=--anew takes nothing of what an earlier run on this machine passed
 # make prove       proves one crate, CRATE=fz_model, with what it stands on
 # make corpus      runs the longer tests, as make test does: random models beside the second checker
-#                  (tests/corpus/slow.py), with minizinc/, inside MiniZinc, and on plans of it, where
+#                  (tests/corpus/slow.py); with minizinc/, inside MiniZinc and on plans of it, where
 #                  that is installed; and inside a bare Debian, where debootstrap is
 # make fuzz        runs it beside that checker on random broken texts, for SECONDS (600), and on
 #                  20,000 damaged blocks and the claims of 10,000 random models, by SEED
@@ -49,9 +49,10 @@ build/fzcheck: $(SOURCES)
 	cp crates/fzcheck/out/fzcheck build/fzcheck
 	sha256sum build/fzcheck >>build/log
 
-# The gate proves and builds the programs too, so nothing is proved twice here. With RT_JOBS it works
-# on so many crates at a time, and a fourth would only wait for the longest chain of them; without,
-# it keeps back some for memory that they don't take (docs/ARCHITECTURE.md, "Time of the gate").
+# The gate proves and builds the programs too, so nothing is proved twice here. With RT_JOBS it
+# works on so many crates at a time, and a fourth would only wait for the longest chain of them;
+# without, it keeps back some for memory that they don't take (docs/ARCHITECTURE.md, "Time of the
+# gate").
 gate:
 	@$(NEEDS_RT)
 	@rm -rf build/prove build/wrong

@@ -1,9 +1,9 @@
 #!/usr/bin/env python3
 """Installs Debian's package in a Debian 12 that has no toolchain, and uses it there.
 
-    tests/debian.py FOLDER [ROOT]
+    tests/debian.py [ROOT]
 
-The package is the newest in FOLDER. ROOT is a bare root, which `debootstrap` makes where it isn't
+The package is made of what was proved here, by `make dist`. ROOT is a bare root, which `debootstrap` makes where it isn't
 there (700 MB, from Debian's mirrors); it is outside the checkout, where `rt ci` takes no links.
 Where debootstrap isn't installed, or this isn't run by root, it says so, and tries nothing."""
 import glob
@@ -66,12 +66,13 @@ def make_root(root: str) -> None:
         open(f"{root}/is-made", "w").close()
 
 
-def main(folder: str, root: str = HERE) -> int:
+def main(root: str = HERE) -> int:
     if not shutil.which("debootstrap") or os.geteuid() != 0:
         print("debootstrap isn't installed, or this isn't root: no Debian was tried")
         return 0
     make_root(root)
-    package = max(glob.glob(f"{folder}/fzcheck_*_amd64.deb"), key=os.path.getmtime)
+    subprocess.run(["make", "-s", "-o", "build/fzcheck", "-C", ROOT, "dist"], check=True)
+    package = max(glob.glob(f"{ROOT}/build/fzcheck_*_amd64.deb"), key=os.path.getmtime)
     shutil.copy(package, f"{root}/tmp/fzcheck.deb")
     words = ("unshare", "--mount", "--pid", "--fork", "sh", "-c", ENTER, root, SCRIPT)
     told = subprocess.run(words, stdin=subprocess.DEVNULL, stdout=subprocess.PIPE, text=True,

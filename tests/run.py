@@ -70,7 +70,7 @@ LONG_TESTS = [
     Test("plans", "tests/plans.py {fzcheck}", 150, "minizinc"),
     Test("differ", "tests/corpus/differ.py {fzcheck} - 300", 60),
     Test("minizinc", "tests/minizinc.py {fzcheck}", 50, "minizinc"),
-    Test("inside", "tests/inside.py {fzcheck}", 50, "minizinc"),
+    Test("inside", "tests/inside.py {fzcheck}", 50, "minizinc fzn-gecode"),
     Test("debian", "tests/debian.py", 50, "debootstrap root log"),
     *WHOLE_REPORTS,
 ]

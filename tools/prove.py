@@ -122,7 +122,8 @@ class Build:
         self.running: List[Crate] = []
         self.proved: List[Crate] = []
         self.began = time.monotonic()
-        self.behind: Dict[Crate, int] = {}  # the lines of the longest chain of crates that begins with a crate
+        # The lines of the longest chain of crates that begins with a crate.
+        self.behind: Dict[Crate, int] = {}
         for it in reversed(crates):
             above = (self.behind[other] for other in self.behind if it in other.deps)
             self.behind[it] = it.lines + max(above, default=0)

@@ -1,10 +1,10 @@
 // Refuses memory, reads and writes to the program that it is preloaded into (LD_PRELOAD), by the
 // environment. It is a part of the tests alone.
 //
-//   REFUSE_EACH=FD   each growth of memory, in a copy of the process that is made for it and goes on
-//                    to its end; what it gave is told to this descriptor, as "STATUS OUT ERR\n", with
-//                    the numbers of bytes of its two outputs, and these. The process itself goes on
-//                    with each growth granted. Its standard streams have to be files
+//   REFUSE_EACH=FD   each growth of memory, in a copy of the process that is made for it and goes
+//                    on to its end. What that gave is told to this descriptor: "STATUS OUT ERR\n",
+//                    with the numbers of bytes of its two outputs, and these. The process itself
+//                    goes on with each growth granted. Its standard streams have to be files
 //   REFUSE_READ=N    the Nth read, of whatever descriptor
 //   REFUSE_WRITE=N   the Nth write to standard output
 //   REFUSE_BYTES=K   that read or write and those behind it take K bytes in all before one fails
@@ -62,7 +62,8 @@ static int is_refused(struct refused *kind) {
 static void copy(int from, int to) {
     char bytes[PIECE];
     off_t at = 0;
-    for (ssize_t n; (n = pread(from, bytes, PIECE, at)) > 0; at += n) syscall(SYS_write, to, bytes, n);
+    for (ssize_t n; (n = pread(from, bytes, PIECE, at)) > 0; at += n)
+        syscall(SYS_write, to, bytes, n);
 }
 
 static long size_of(int fd) {

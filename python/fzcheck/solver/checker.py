@@ -1,4 +1,4 @@
-"""The program `fzcheck` beside a solver: it is fed what the solver prints, and tells what it finds."""
+"""The program `fzcheck` beside a solver: it is fed what that prints, and tells what it finds."""
 import collections
 import os
 import queue

@@ -1,4 +1,4 @@
-"""What a run that is checked writes: the solver's output, and lines of its own on standard error."""
+"""What a run that is checked writes: the solver's output, and on standard error its own lines."""
 import os
 
 

@@ -1,5 +1,5 @@
-"""What a solver prints, piece by piece: fed to the checker, and passed on at once, or block by block
-once that has told each one's verdict."""
+"""What a solver prints, piece by piece: fed to the checker, and passed on at once, or block by
+block once that has told each one's verdict."""
 import os
 from typing import Iterator, List, Tuple
 

@@ -51,8 +51,8 @@ def guard(child: Process, soon: Callable[[], None] = nothing,
     MiniZinc and a terminal send a signal to the whole group, so the child has it too. One that
     still runs a moment later was left out, and gets it from here. What is to be told is told soon,
     since MiniZinc may kill all after 0.2 seconds. Once the child has ended, a checker has a while
-    for the blocks that are left, before what is done at last. Where nobody reads the output any more, the child is ended, also if
-    it prints nothing by which it would notice."""
+    for the blocks that are left, before what is done at last. Where nobody reads the output any
+    more, the child is ended, also if it prints nothing by which it would notice."""
 
     def wind_down(number: int) -> None:
         time.sleep(SOON)
