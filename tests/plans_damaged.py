@@ -55,20 +55,22 @@ class Model:
         """What a damage is called, the plan with it, its status, and what is named."""
         what, *lines = text.rstrip("\n").split("\n")
         parts = {mark: [line[2:] for line in lines if line[0] == mark] for mark in "-+=>"}
-        [old], [new] = parts["-"], parts["+"]
-        if self.plan.count(old) != 1:
-            raise ValueError(f"{self.name}: {what}: {old!r} stands {self.plan.count(old)} times")
+        plan = self.plan
+        for old, new in zip(parts["-"], parts["+"]):
+            if plan.count(old) != 1:
+                raise ValueError(f"{self.name}: {what}: {old!r} stands {plan.count(old)} times")
+            plan = plan.replace(old, new)
         status = int(parts["="][0]) if parts["="] else 1
-        return what, self.plan.replace(old, new), status, parts[">"]
+        return what, plan, status, parts[">"]
 
 
 def given(folder, model, plan):
     """The files that give a model the plan's values: as data, or as constraints those of names that
-    are defined."""
+    are defined, or optional, of which MiniZinc can't evaluate `deopt` where they are absent."""
     texts = {"dzn": "", "mzn": ""}
     for item in plan.replace("----------\n", "").split(";\n"):
         name = item.partition("=")[0].strip()
-        is_defined = re.search(rf": {name} = ", model.text) if name else None
+        is_defined = re.search(rf": {name} = |var opt [^:]+: {name};", model.text)
         if name:
             texts["mzn" if is_defined else "dzn"] += f"{'constraint ' * bool(is_defined)}{item};\n"
     for ending, text in texts.items():

@@ -12,7 +12,7 @@ from fzcheck.mzn.names import Name, element_names, index_name
 
 ELEMENT = re.compile(r"(\w+)\[(\d+(?:,\d+)*)\]$")
 LOOP = re.compile(r"([^;|\t]+)\|(\d+)\|(\d+)\|(\d+)\|(\d+)\|(\w+)=(\d+)(?=;)")
-THROUGH = re.compile(rb"(\w+)(?:\s*,\s*\w+)*\s+in\s+(\w+)(?!\w|\s*\()")
+THROUGH = re.compile(rb"(\w+)(?:\s*,\s*\w+)*\s+in\s+\{?\s*(\w+)(?!\w|\s*\()")
 UNFIT = re.compile(r"[;|\t\n]")  # what would end a part of the line
 NO_NAMES = ("true", "false")
 
@@ -71,10 +71,17 @@ class Table:
         return number if UNFIT.search(name) else name
 
     def goes_through(self, path: str, line: str, column: str, name: str) -> str:
-        """The word that a loop variable goes through, by what stands in this place of a file."""
+        """The enum that a loop variable goes through, by what stands in this place of a file."""
         behind = self.source(path).split(b"\n", int(line) - 1)[int(line) - 1 :]
         found = THROUGH.match(b"".join(behind)[int(column) - 1 :])
-        return found[2].decode() if found and found[1] == name.encode() else ""
+        return self.enum_of(found[2].decode()) if found and found[1] == name.encode() else ""
+
+    def enum_of(self, word: str) -> str:
+        """The enum that a word stands for: itself, one that has this value, or of a set's."""
+        if word in self.names:
+            return self.names[word].enum
+        with_value = (name for name, values in self.enums.items() if word in values)
+        return word if word in self.enums else next(with_value, "")
 
     def source(self, path: str) -> bytes:
         if path not in self.sources:
