@@ -29,6 +29,12 @@ FOLDER = os.path.join(ROOT, "tests", "plans", "damaged")
 FORMS = ("dzn", "json", "jsonl")
 UNSATISFIABLE = "=====UNSATISFIABLE====="
 VALUE = re.compile(r"(?<![\w.])-?\d+(?![\w.:])|\b[A-Za-z]\w*\b(?!\s*[=:(])|<>")
+# MiniZinc can't evaluate `deopt` of what is absent in data.
+OPTIONAL = """constraint let {{
+  array [int] of opt int: given = array1d({1}); array [int] of var opt int: own = array1d({0})
+}} in forall(i in index_set(given))(
+  if absent(given[i]) then absent(own[i]) else occurs(own[i]) /\\ deopt(own[i]) = deopt(given[i]) endif);
+"""
 WORKERS = 2
 passed = failed = 0
 
@@ -66,13 +72,16 @@ class Model:
 
 def given(folder, model, plan):
     """The files that give a model the plan's values: as data, or as constraints those of names that
-    are defined, or optional, of which MiniZinc can't evaluate `deopt` where they are absent."""
+    are defined, or optional."""
     texts = {"dzn": "", "mzn": ""}
     for item in plan.replace("----------\n", "").split(";\n"):
-        name = item.partition("=")[0].strip()
-        is_defined = re.search(rf": {name} = |var opt [^:]+: {name};", model.text)
-        if name:
-            texts["mzn" if is_defined else "dzn"] += f"{'constraint ' * bool(is_defined)}{item};\n"
+        name, _, value = map(str.strip, item.partition("="))
+        if re.search(rf"array [^:]*var opt [^:]*: {name};", model.text):
+            texts["mzn"] += OPTIONAL.format(name, value)
+        elif re.search(rf": {name} = ", model.text):
+            texts["mzn"] += f"constraint {item};\n"
+        elif name:
+            texts["dzn"] += f"{item};\n"
     for ending, text in texts.items():
         path = os.path.join(folder, f"given.{ending}")
         with open(path, "w", encoding="utf-8") as file:

@@ -4,8 +4,9 @@ A failure is a constraint, a domain, a definition, a printed value or the object
 can't hold, under the values of a block, or that leaves it undecided."""
 from typing import Any, Dict, Iterator, List, NamedTuple, Optional, Tuple
 
-from fzcheck.mzn.items import Place, place_in, words
+from fzcheck.mzn.items import Place, place_in, words, written_name
 from fzcheck.mzn.plan import Solution
+from fzcheck.mzn.stream import OF_NO_MODEL
 from fzcheck.mzn.wording import Wording, json_text, printed_values, value_text
 
 NAMELESS = "constraint"  # the subject where the model has no name for it
@@ -99,7 +100,9 @@ class Reader:
             model = found.get("model", {})
             return (", ".join(model.get("names", ())) or self.items.subject(found["line"])
                     or (NAMELESS if "place" in model else str(constraint)))
-        name = self.items.row(found["line"]).name
+        name, path = self.items.row(found["line"])
+        if OF_NO_MODEL.match(name) and path:
+            return written_name(path) or NAMELESS
         return f"{point} of {name}" if point in ("domain", "definition") else name
 
     def undecided(self, verdict: Dict[str, Any], subject: str) -> str:
@@ -108,8 +111,9 @@ class Reader:
 
     def reasons(self, found: Dict[str, Any]) -> Tuple[str, ...]:
         """The reason, where it speaks of the model's variables alone, and the notes."""
-        texts = list(map(self.wording.text, found.get("notes_parts", ())))
-        texts += found["notes"][len(texts):]
+        notes = found.get("notes_parts", ())
+        texts = [self.wording.text(parts) for parts in notes if self.wording.is_named(parts)]
+        texts += found["notes"][len(notes):]
         if "reason_parts" in found and all(map(self.named, found["variables"])):
             texts.insert(0, self.wording.text(found["reason_parts"]))
         return tuple(texts)
@@ -126,9 +130,20 @@ class Reader:
             if name:
                 facts.setdefault(name, Fact(name, self.fact(name, variable)))
                 continue
-            for behind in self.behind([variable["name"]], found["explained"]):
-                facts.setdefault(behind, Fact(behind, self.printed(behind, found["explained"])))
+            behind = self.behind([variable["name"]], found["explained"])
+            if not behind and self.items.row(found["line"]).path:
+                behind = self.behind(self.items.around(found["line"]), found["explained"])
+            for name in behind:
+                facts.setdefault(name, Fact(name, self.printed(name, found["explained"])))
+        for fixed in found.get("fixed", ()):
+            name = self.named(fixed)
+            if name:
+                facts.setdefault(name, Fact(name, f"{name} = {self.fixed(fixed)}, fixed"))
         return tuple(facts.values())
+
+    def fixed(self, found: Dict[str, Any]) -> str:
+        parts = found.get("value_parts")
+        return self.wording.text(parts) if parts else str(found["value"])
 
     def behind(self, variables: List[str], block: int) -> List[str]:
         values = self.printed_in(block)

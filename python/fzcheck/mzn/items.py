@@ -131,10 +131,29 @@ class Items:
         noted = NOTED.search(self.constraints[line].notes)
         return noted[1] if noted else written_name(self.row(line).path)
 
+    def head(self, line: int) -> str:
+        """What the constraint in this line is called, where it is, and with which values of loop
+        variables."""
+        path = self.row(line).path
+        if line not in self.constraints or not path:
+            return str(self.constraints.get(line, self.row(line).name))
+        place, loops = item_of(path), loops_of(path)
+        subject = self.subject(line)
+        front = f"{subject}, " if subject else "constraint at "
+        with_values = f", with {', '.join(loops)}" if loops else ""
+        return f"{front}{place.path}:{place.line}{with_values}"
+
     def name(self, variable: str) -> str:
         """What the model calls a variable of the FlatZinc; an empty text where it has no name."""
         found = self.rows[variable].name if variable in self.rows else variable
         return "" if OF_NO_MODEL.match(found) else found
+
+    def around(self, line: int) -> List[str]:
+        """The variables in all constraints that come from the same expression of the model, with
+        the same values of loop variables, as the item in this line."""
+        origin = origin_of(self.row(line).path)
+        return [word for number, constraint in self.constraints.items()
+                if self.row(number).path.startswith(origin) for word in words(constraint.arguments)]
 
     def behind(self, names: Iterable[str], is_known: Callable[[str], bool]) -> List[str]:
         """The model's names for these variables, or, of those that have none or aren't known, for
@@ -156,6 +175,18 @@ class Items:
         return list(found)
 
 
+def origin_of(path: str) -> str:
+    """The front of a path up to its last loop variable, or else its first segment."""
+    segments = path.split(";")
+    last = max((at for at, segment in enumerate(segments) if is_loop(segment.split("|"))), default=0)
+    return ";".join(segments[: last + 1]) + ";"
+
+
+def is_loop(fields: List[str]) -> bool:
+    """Whether a segment is a loop variable with its value."""
+    return len(fields) == 6 and "=" in fields[5]
+
+
 def item_of(path: str) -> Place:
     """The place of the model's item that a path begins with."""
     fields = path.split(";")[0].split("|")
@@ -166,7 +197,7 @@ def loops_of(path: str) -> List[str]:
     """The values of the loop variables in a path, in the file that the path begins with."""
     segments = [segment.split("|") for segment in path.split(";")]
     return [fields[5].replace("=", " = ", 1) for fields in segments
-            if fields[0] == segments[0][0] and len(fields) == 6 and "=" in fields[5]]
+            if fields[0] == segments[0][0] and is_loop(fields)]
 
 
 def written_name(path: str) -> str:

@@ -4,7 +4,8 @@ an element of an array, or for an optional value.
 
 A line is a name of the FlatZinc, the model's name of it, and the path to it, with tabs between. A
 path's segment on a loop variable is `FILE|LINE|COLUMN|LINE|COLUMN|NAME=NUMBER;`: what the variable
-goes through stands in that place of the model, as `NAME in ENUM`."""
+goes through stands in that place of the model, as `NAME in ENUM`, `NAME in SET` or
+`NAME in {VALUE, ..}`."""
 import re
 from typing import Any, Dict, Iterator, List, Match, Tuple
 
@@ -12,7 +13,7 @@ from fzcheck.mzn.names import Name, element_names, index_name
 
 ELEMENT = re.compile(r"(\w+)\[(\d+(?:,\d+)*)\]$")
 LOOP = re.compile(r"([^;|\t]+)\|(\d+)\|(\d+)\|(\d+)\|(\d+)\|(\w+)=(\d+)(?=;)")
-THROUGH = re.compile(rb"(\w+)(?:\s*,\s*\w+)*\s+in\s+\{?\s*(\w+)(?!\w|\s*\()")
+THROUGH = re.compile(r"(\w+)(?:\s*,\s*\w+)*\s+in\s+\{?\s*('[^'\n]+'|\w+)(?!\w|\s*\()")
 UNFIT = re.compile(r"[;|\t\n]")  # what would end a part of the line
 NO_NAMES = ("true", "false")
 
@@ -73,15 +74,17 @@ class Table:
     def goes_through(self, path: str, line: str, column: str, name: str) -> str:
         """The enum that a loop variable goes through, by what stands in this place of a file."""
         behind = self.source(path).split(b"\n", int(line) - 1)[int(line) - 1 :]
-        found = THROUGH.match(b"".join(behind)[int(column) - 1 :])
-        return self.enum_of(found[2].decode()) if found and found[1] == name.encode() else ""
+        text = b"".join(behind)[int(column) - 1 :].decode(errors="replace")
+        found = THROUGH.match(text)
+        return self.enum_of(found[2].strip("'")) if found and found[1] == name else ""
 
     def enum_of(self, word: str) -> str:
-        """The enum that a word stands for: itself, one that has this value, or of a set's."""
+        """The enum that a word is, or is of: a name of the model, or one of the enum's values."""
+        if word in self.enums:
+            return word
         if word in self.names:
             return self.names[word].enum
-        with_value = (name for name, values in self.enums.items() if word in values)
-        return word if word in self.enums else next(with_value, "")
+        return next((enum for enum, values in self.enums.items() if word in values), "")
 
     def source(self, path: str) -> bytes:
         if path not in self.sources:

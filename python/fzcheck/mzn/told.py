@@ -88,18 +88,17 @@ class Told:
         """The point of a block that isn't explained."""
         if found.get("point") == "objective":
             return f"objective {found['now']} not better than {found['before']}"
-        if found.get("point") == "printed" or "line" not in found:
-            return " ".join(str(found[key]) for key in ("point", "name") if key in found)
-        constraint = self.items.constraints.get(found["line"])
-        return str(constraint or self.items.row(found["line"]).name)
+        if found.get("point", "constraint") == "constraint" and found.get("line"):
+            return self.items.head(found["line"])
+        return "{} {}".format(found.get("point", found.get("reason")), found.get("name", ""))
 
     def explanation(self, with_flatzinc: bool) -> Iterator[str]:
         """The lines on what fails, and what the report's last object says besides."""
         for group in grouped(self.failures):
             yield from group.lines(with_flatzinc)
         for found in self.objects:
-            if "untold" in found:
-                yield f"... and {found['untold']} more that fail ..."
+            if "points_left_out" in found:
+                yield f"... and {found['points_left_out']} more points fail"
             if found.get("unconstrained"):
                 left = found.get("unconstrained_left_out")
                 more = f" and {left} more" if left else ""

@@ -86,6 +86,10 @@ class Wording:
     def text(self, parts: List[Part]) -> str:
         return joined(self.parts(parts))
 
+    def is_named(self, parts: List[Part]) -> bool:
+        """Whether the model has names for all variables that a text speaks of."""
+        return all(self.part_name(part) for part in parts if "variable" in part)
+
     def parts(self, parts: List[Part]) -> List[Part]:
         """The parts of a text, each in words."""
         return [{**part, "text": self.part(part)} for part in parts]
