@@ -9,6 +9,7 @@ from functools import cached_property
 from typing import Callable, Dict, Iterable, List, NamedTuple
 
 from fzcheck.mzn.model import MODEL, TABLE
+from fzcheck.mzn.sources import shown_path
 from fzcheck.mzn.stream import OF_NO_MODEL
 
 WORD = re.compile(r"[A-Za-z_]\w*")
@@ -49,12 +50,6 @@ def text_of(path: str) -> str:
         return file.read()
 
 
-def shortened(path: str) -> str:
-    """The path from the working directory, where the file is below that."""
-    below = os.path.relpath(path)
-    return path if below.startswith(os.pardir) else below
-
-
 def place_in(path: str, told: str) -> Place:
     """The place that is told as `FILE:LINE:COLUMN`, with the folder that the path has for FILE."""
     name, line, column = told.rsplit(":", 2)
@@ -63,7 +58,7 @@ def place_in(path: str, told: str) -> Place:
         if os.path.basename(fields[0]) == name and fields[1:3] == [line, column]:
             is_line = fields[1] == fields[3]
             length = int(fields[4]) - int(fields[2]) + 1 if is_line else 1
-            return Place(shortened(fields[0]), int(line), int(column), length)
+            return Place(shown_path(fields[0]), int(line), int(column), length)
     return Place(name, int(line), int(column))
 
 
@@ -195,7 +190,7 @@ def is_loop(fields: List[str]) -> bool:
 def item_of(path: str) -> Place:
     """The place of the model's item that a path begins with."""
     fields = path.split(";")[0].split("|")
-    return Place(shortened(fields[0]), int(fields[1]), int(fields[2]))
+    return Place(shown_path(fields[0]), int(fields[1]), int(fields[2]))
 
 
 def loops_of(path: str) -> List[str]:
