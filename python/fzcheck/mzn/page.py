@@ -85,7 +85,8 @@ class Body:
             return "Accepted: every constraint holds"
         names = list(dict.fromkeys(group.failures[0].subject for group in self.groups))
         if self.verdict != "rejected" or not names:
-            return self.verdict.capitalize()
+            why = f": {self.answer['why']}" if "why" in self.answer else ""
+            return f"{self.verdict.capitalize()}{why}"
         if len(names) == 1:
             return f"Rejected: {names[0]} fails"
         last = names[-1] if len(names) <= MOST_NAMED else f"{len(names) - MOST_NAMED + 1} more"
