@@ -29,6 +29,12 @@ FOLDER = os.path.join(ROOT, "tests", "plans", "damaged")
 FORMS = ("dzn", "json", "jsonl")
 UNSATISFIABLE = "=====UNSATISFIABLE====="
 VALUE = re.compile(r"(?<![\w.])-?\d+(?![\w.:])|\b[A-Za-z]\w*\b(?!\s*[=:(])|<>")
+# MiniZinc can't evaluate `deopt` of what is absent in data.
+OPTIONAL = """constraint let {{
+  array [int] of opt int: given = array1d({1}); array [int] of var opt int: own = array1d({0})
+}} in forall(i in index_set(given))(
+  if absent(given[i]) then absent(own[i]) else occurs(own[i]) /\\ deopt(own[i]) = deopt(given[i]) endif);
+"""
 WORKERS = 2
 passed = failed = 0
 
@@ -55,22 +61,27 @@ class Model:
         """What a damage is called, the plan with it, its status, and what is named."""
         what, *lines = text.rstrip("\n").split("\n")
         parts = {mark: [line[2:] for line in lines if line[0] == mark] for mark in "-+=>"}
-        [old], [new] = parts["-"], parts["+"]
-        if self.plan.count(old) != 1:
-            raise ValueError(f"{self.name}: {what}: {old!r} stands {self.plan.count(old)} times")
+        plan = self.plan
+        for old, new in zip(parts["-"], parts["+"]):
+            if plan.count(old) != 1:
+                raise ValueError(f"{self.name}: {what}: {old!r} stands {plan.count(old)} times")
+            plan = plan.replace(old, new)
         status = int(parts["="][0]) if parts["="] else 1
-        return what, self.plan.replace(old, new), status, parts[">"]
+        return what, plan, status, parts[">"]
 
 
 def given(folder, model, plan):
     """The files that give a model the plan's values: as data, or as constraints those of names that
-    are defined."""
+    are defined, or optional."""
     texts = {"dzn": "", "mzn": ""}
     for item in plan.replace("----------\n", "").split(";\n"):
-        name = item.partition("=")[0].strip()
-        is_defined = re.search(rf": {name} = ", model.text) if name else None
-        if name:
-            texts["mzn" if is_defined else "dzn"] += f"{'constraint ' * bool(is_defined)}{item};\n"
+        name, _, value = map(str.strip, item.partition("="))
+        if re.search(rf"array [^:]*var opt [^:]*: {name};", model.text):
+            texts["mzn"] += OPTIONAL.format(name, value)
+        elif re.search(rf": {name} = ", model.text):
+            texts["mzn"] += f"constraint {item};\n"
+        elif name:
+            texts["dzn"] += f"{item};\n"
     for ending, text in texts.items():
         path = os.path.join(folder, f"given.{ending}")
         with open(path, "w", encoding="utf-8") as file:

@@ -1,4 +1,5 @@
-"""The items of a model's FlatZinc: which names of the model they are about, and where they are from.
+"""The items of a model's FlatZinc: which names of the model they are about, and where in it they
+come from.
 
 The compiler writes each item in a line. In its table of names a line is a name of the FlatZinc, or
 a constraint's number from 0, then the model's name, and the path to it, with tabs between. A path
@@ -9,11 +10,13 @@ from functools import cached_property
 from typing import Callable, Dict, Iterable, List, NamedTuple
 
 from fzcheck.mzn.model import MODEL, TABLE
+from fzcheck.mzn.sources import shown_path
 from fzcheck.mzn.stream import OF_NO_MODEL
 
 WORD = re.compile(r"[A-Za-z_]\w*")
 DECLARED = re.compile(r"[^:]+: (\w+)")
 DEFINES = re.compile(r"defines_var\((\w+)\)")
+TO_THE_END = 1_000_000  # the length of what goes on in the next line
 NOTED = re.compile(r'mzn_constraint_name\(("(?:[^"\\]|\\.)*")\)')
 NAMED = re.compile(r'\bconstraint\s*::\s*("(?:[^"\\\n]|\\.)*")\s*$')
 
@@ -49,12 +52,6 @@ def text_of(path: str) -> str:
         return file.read()
 
 
-def shortened(path: str) -> str:
-    """The path from the working directory, where the file is below that."""
-    below = os.path.relpath(path)
-    return path if below.startswith(os.pardir) else below
-
-
 def place_in(path: str, told: str) -> Place:
     """The place that is told as `FILE:LINE:COLUMN`, with the folder that the path has for FILE."""
     name, line, column = told.rsplit(":", 2)
@@ -62,8 +59,8 @@ def place_in(path: str, told: str) -> Place:
         fields = segment.split("|")
         if os.path.basename(fields[0]) == name and fields[1:3] == [line, column]:
             is_line = fields[1] == fields[3]
-            length = int(fields[4]) - int(fields[2]) + 1 if is_line else 1
-            return Place(shortened(fields[0]), int(line), int(column), length)
+            length = int(fields[4]) - int(fields[2]) + 1 if is_line else TO_THE_END
+            return Place(shown_path(fields[0]), int(line), int(column), length)
     return Place(name, int(line), int(column))
 
 
@@ -183,7 +180,8 @@ class Items:
 def origin_of(path: str) -> str:
     """The front of a path up to its last loop variable, or else its first segment."""
     segments = path.split(";")
-    last = max((at for at, segment in enumerate(segments) if is_loop(segment.split("|"))), default=0)
+    loops = [at for at, segment in enumerate(segments) if is_loop(segment.split("|"))]
+    last = max(loops, default=0)
     return ";".join(segments[: last + 1]) + ";"
 
 
@@ -195,7 +193,7 @@ def is_loop(fields: List[str]) -> bool:
 def item_of(path: str) -> Place:
     """The place of the model's item that a path begins with."""
     fields = path.split(";")[0].split("|")
-    return Place(shortened(fields[0]), int(fields[1]), int(fields[2]))
+    return Place(shown_path(fields[0]), int(fields[1]), int(fields[2]))
 
 
 def loops_of(path: str) -> List[str]:

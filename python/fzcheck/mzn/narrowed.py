@@ -8,7 +8,7 @@ import time
 from typing import Any, Callable, Dict, List, NamedTuple, Optional
 
 from fzcheck.mzn.model import Failed, Inputs, Model, compiled_beside
-from fzcheck.mzn.sources import SourceItem, declared
+from fzcheck.mzn.sources import SourceItem, declared, shown_path
 
 Object = Dict[str, Any]
 MOST_TRIED, MOST_SECONDS = 20, 30.0
@@ -49,14 +49,14 @@ class Narrowing:
         notes = [*found["notes"], text]
         parts = [*found.get("notes_parts", ()), [{"kind": "words", "text": text}]]
         more = {"narrowed": {"name": guilty.name, "line": guilty.item.text.partition("\n")[0],
-                             "place": f"{guilty.item.path}:{guilty.item.line}:1"}} if guilty else {}
+                             "place": f"{shown_path(guilty.item.path)}:{guilty.item.line}:1"}} if guilty else {}
         return {**found, "notes": notes, "notes_parts": parts, **more}
 
     def text(self, found: Object, guilty: Optional[Guilty]) -> str:
         """The line on what a domain was, and what narrowed it."""
         by = "another constraint"
         if guilty:
-            by = f"{guilty.name or 'the constraint'}, {guilty.item.path}:{guilty.item.line}"
+            by = f"{guilty.name or 'the constraint'}, {shown_path(guilty.item.path)}:{guilty.item.line}"
         source = declared(self.sources, element(found).partition("[")[0])
         kind = re.sub(r"^(?:array\s*\[.*?\]\s*of\s+)?(?:var\s+)?(?:opt\s+)?", "",
                       source.kind if source else "")

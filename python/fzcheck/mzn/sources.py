@@ -1,4 +1,5 @@
 """The items of a model's own files: constraints, and where its names are declared."""
+import os
 import re
 from typing import Iterable, Iterator, List, NamedTuple, Optional
 
@@ -63,13 +64,19 @@ def declared(items: Iterable[SourceItem], name: str) -> Optional[Declared]:
         match = declaration.match(item.text) or assignment.match(item.text)
         if match and not NOT_DECLARED.match(item.text):
             kind, value = match[1] or (found.kind if found else ""), match[2] or ""
-            found = Declared(f"{item.path}:{item.line}", kind, shortened(value))
+            found = Declared(f"{shown_path(item.path)}:{item.line}", kind, abridged(value))
             if value:
                 break
     return found
 
 
-def shortened(text: str) -> str:
+def shown_path(path: str) -> str:
+    """The path from the working directory, where the file is below that."""
+    below = os.path.relpath(path)
+    return path if below.startswith(os.pardir) else below
+
+
+def abridged(text: str) -> str:
     """A text in one line, and not too long for a message."""
     text = SPACES.sub(" ", text).strip()
     return text if len(text) <= MOST_WORDS else text[:MOST_WORDS] + " .."

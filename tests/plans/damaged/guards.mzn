@@ -11,5 +11,5 @@ constraint :: "pattern" forall(g in Guard)(
     [| 1, 2, 3 | 0, 0, 3 | 1, 2, 0 |], 1, 1..3));
 constraint :: "someone at night" forall(w in 1..weeks)(exists(g in Guard)(duty[g, w] = Night));
 constraint :: "fair" forall(g in Guard)(
-  global_cardinality_low_up([duty[g, w] | w in 1..weeks], [Day, Night, Rest], [1, 1, 1], [4, 3, 3]));
+  global_cardinality_low_up([duty[g, w] | w in 1..weeks], [Day, Night, Rest], [1, 1, 1], [4, 3, 2]));
 solve satisfy;

@@ -6,7 +6,7 @@ array [Part] of var 0..9: count;
 array [Part] of var int: price = [unit[p] * count[p] | p in Part];
 var 0..1000: total = sum(price);
 var float: weight = 0.25 * sum(count);
-var set of Part: used = {p | p in Part where count[p] > 0};
+array [Part] of var bool: some = [count[p] > 0 | p in Part];
 
 constraint :: "budget" sum(price) <= budget;
 constraint :: "enough nuts" count[Nut] >= count[Bolt];
@@ -14,4 +14,4 @@ constraint :: "plates" count[Plate] in {2, 3};
 constraint :: "a rod for each plate" count[Rod] >= count[Plate];
 solve satisfy;
 output ["count = \(count);\nprice = \(price);\ntotal = \(total);\nweight = \(weight);\n",
-        "used = \(used);\n"];
+        "some = \(some);\n"];

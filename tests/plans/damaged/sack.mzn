@@ -11,6 +11,6 @@ var opt Thing: spare;
 constraint :: "weight" kilos <= 16;
 constraint :: "volume" sum(t in Thing)(volume[t] * takes[t]) <= 15;
 constraint :: "a stove needs water" takes[Stove] -> takes[Water];
-constraint :: "spare" occurs(spare) -> not takes[deopt(spare)];
+constraint :: "spare" forall(t in Thing)(spare = t -> not takes[t]);
 solve maximize value;
 output ["takes = \(takes);\nvalue = \(value);\nkilos = \(kilos);\nspare = \(spare);\n"];
