@@ -50,6 +50,8 @@ TESTS = [
     Test("fuzz", "tests/fuzz.py {fzcheck}", 150),
     Test("claims", "tests/corpus/claims.py {fzcheck} 500", 40),
     Test("plan", "tests/plan.py {fzcheck}", 25),
+    Test("pages", "tests/pages.py {fzcheck}", 30),
+    Test("plan_told", "tests/plan_told.py {fzcheck}", 10),
     Test("batch", "tests/batch.py {fzcheck}", 25),
     Test("damaged", "tests/corpus/damaged.py {fzcheck} 2000", 20),
     Test("program", "tests/program/run.py {fzcheck}", 5),

@@ -4,7 +4,7 @@ A failure is a constraint, a domain, a definition, a printed value or the object
 can't hold, under the values of a block, or that leaves it undecided."""
 from typing import Any, Dict, Iterator, List, NamedTuple, Optional, Tuple
 
-from fzcheck.mzn.items import Place, place_in, words, written_name
+from fzcheck.mzn.items import Items, Place, place_in, words, written_name
 from fzcheck.mzn.plan import Solution
 from fzcheck.mzn.stream import OF_NO_MODEL
 from fzcheck.mzn.wording import Wording, json_text, printed_values, value_text
@@ -54,6 +54,12 @@ class Failure(NamedTuple):
         return ", ".join(filter(None, (place, self.values)))
 
 
+def undecided(items: Items, verdict: Dict[str, Any], subject: str) -> str:
+    """What leaves a block undecided; `subject` is a constraint."""
+    name = items.name(verdict.get("name", "")) or verdict.get("name", "")
+    return REASONS[verdict["reason"]].format(**{**verdict, "name": name, "subject": subject})
+
+
 class Reader:
     """Makes failures of explanations, in the words of the model."""
 
@@ -73,7 +79,7 @@ class Reader:
         if is_printed:
             verb = "differs"
         elif verdict["verdict"] == "undecided":
-            subject, verb = self.undecided(verdict, subject), "is undecided"
+            subject, verb = undecided(self.items, verdict, subject), "is undecided"
         facts = self.facts(found)
         return Failure(
             found["explained"], subject, verb, place, source,
@@ -104,10 +110,6 @@ class Reader:
         if OF_NO_MODEL.match(name) and path:
             return written_name(path) or NAMELESS
         return f"{point} of {name}" if point in ("domain", "definition") else name
-
-    def undecided(self, verdict: Dict[str, Any], subject: str) -> str:
-        name = self.items.name(verdict.get("name", "")) or verdict.get("name", "")
-        return REASONS[verdict["reason"]].format(**{**verdict, "name": name, "subject": subject})
 
     def reasons(self, found: Dict[str, Any]) -> Tuple[str, ...]:
         """The reason, where it speaks of the model's variables alone, and the notes."""

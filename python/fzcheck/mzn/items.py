@@ -15,6 +15,7 @@ from fzcheck.mzn.stream import OF_NO_MODEL
 WORD = re.compile(r"[A-Za-z_]\w*")
 DECLARED = re.compile(r"[^:]+: (\w+)")
 DEFINES = re.compile(r"defines_var\((\w+)\)")
+TO_THE_END = 1_000_000  # the length of what goes on in the next line
 NOTED = re.compile(r'mzn_constraint_name\(("(?:[^"\\]|\\.)*")\)')
 NAMED = re.compile(r'\bconstraint\s*::\s*("(?:[^"\\\n]|\\.)*")\s*$')
 
@@ -57,7 +58,7 @@ def place_in(path: str, told: str) -> Place:
         fields = segment.split("|")
         if os.path.basename(fields[0]) == name and fields[1:3] == [line, column]:
             is_line = fields[1] == fields[3]
-            length = int(fields[4]) - int(fields[2]) + 1 if is_line else 1
+            length = int(fields[4]) - int(fields[2]) + 1 if is_line else TO_THE_END
             return Place(shown_path(fields[0]), int(line), int(column), length)
     return Place(name, int(line), int(column))
 

@@ -8,7 +8,7 @@ from typing import Any, Dict, Iterator, List, Sequence
 from fzcheck.mzn.chart import Task, charts
 from fzcheck.mzn.failures import Failure
 from fzcheck.mzn.groups import grouped, shown
-from fzcheck.mzn.items import item_of
+from fzcheck.mzn.items import item_of, shortened
 from fzcheck.mzn.svg import drawn
 from fzcheck.mzn.tables import Notes, Tables
 from fzcheck.mzn.told import Told
@@ -20,7 +20,7 @@ TEMPLATE = os.path.join(os.path.dirname(__file__), "page.html")
 
 def page(told: Told, files: Sequence[str]) -> str:
     """The text of the page. `files` are those of the model and its data."""
-    body = Body(told, ", ".join(files))
+    body = Body(told, ", ".join(map(shortened, files)))
     with open(TEMPLATE, encoding="utf-8") as file:
         template = Template(file.read())
     return template.substitute(
@@ -85,7 +85,8 @@ class Body:
             return "Accepted: every constraint holds"
         names = list(dict.fromkeys(group.failures[0].subject for group in self.groups))
         if self.verdict != "rejected" or not names:
-            return self.verdict.capitalize()
+            why = f": {self.answer['why']}" if "why" in self.answer else ""
+            return f"{self.verdict.capitalize()}{why}"
         if len(names) == 1:
             return f"Rejected: {names[0]} fails"
         last = names[-1] if len(names) <= MOST_NAMED else f"{len(names) - MOST_NAMED + 1} more"

@@ -9,10 +9,15 @@ from fzcheck.mzn.stream import OF_NO_MODEL
 from fzcheck.mzn.wording import printed_indices, value_text
 
 OBJECTIVE = "_objective"
-MOST_ACROSS = 12  # indices of a list that are columns; of more each is a row
+MOST_ACROSS = 150  # letters of a list whose indices are columns; of a longer one they are rows
 MOST_NOTES = 3  # footnotes of an element
 MOST_COLOURED = 8  # values of an enum that have colours
+LONG = 30  # letters of a value that may be broken into lines
 BLANKS = 2  # around the text of a cell, in letters
+
+
+Cell = Tuple[str, str]  # its text, and its HTML
+Row = Tuple[str, List[Cell]]
 
 
 class Notes(NamedTuple):
@@ -49,9 +54,9 @@ class Tables:
 
     def lists(self, indices: List[str], names: List[str]) -> str:
         """Arrays of one index set."""
-        if len(indices) <= MOST_ACROSS:
-            rows = [(name, [self.cell(f"{name}[{index}]") for index in indices]) for name in names]
-            return table("", indices, rows)
+        across = [(name, [self.cell(f"{name}[{index}]") for index in indices]) for name in names]
+        if letters_of(indices, across) <= MOST_ACROSS:
+            return table("", indices, across)
         rows = [(index, [self.cell(f"{name}[{index}]") for name in names]) for index in indices]
         return table("", names, rows)
 
@@ -64,12 +69,12 @@ class Tables:
                 (row, [self.cell(f"{name}[{front}{row},{column}]") for column in columns])
                 for row in rows])
 
-    def cell(self, element: str) -> Tuple[str, str]:
+    def cell(self, element: str) -> Cell:
         """The text of an element, and its cell."""
         found = self.model.names.get(element.partition("[")[0])
         enum = self.model.enums.get(found.enum, []) if found else []
         text = value_text(self.printed[element], enum)
-        kinds = []
+        kinds = ["long"] if len(text) > LONG else []
         if text in enum and len(enum) <= MOST_COLOURED:
             kinds.append(f"v{enum.index(text) + 1}")
         numbers = self.notes.numbers.get(element, [])
@@ -86,13 +91,18 @@ def attribute(name: str, words: List[str]) -> str:
     return f' {name}="{escape(" ".join(words))}"' if words else ""
 
 
-def table(caption: str, columns: List[str], rows: List[Tuple[str, List[Tuple[str, str]]]]) -> str:
-    """A table, with the letters that its widest lines take, by which it fits on paper."""
+def letters_of(columns: List[str], rows: List[Row]) -> int:
+    """The letters that the widest lines of a table take."""
     letters = max((len(name) for name, _ in rows), default=0) + BLANKS
     for at in range(max((len(cells) for _, cells in rows), default=0)):
-        texts = [*columns[at : at + 1], *(cells[at][0] for _, cells in rows)]
+        texts = [*columns[at : at + 1], *(cells[at][0][:LONG] for _, cells in rows)]
         letters += max(map(len, texts)) + BLANKS
-    lines = [f'<div class="wide"><table style="--letters:{letters}">']
+    return letters
+
+
+def table(caption: str, columns: List[str], rows: List[Row]) -> str:
+    """A table, with its letters, by which it fits on paper."""
+    lines = [f'<div class="wide"><table style="--letters:{letters_of(columns, rows)}">']
     if caption:
         lines.append(f"<caption>{escape(caption)}</caption>")
     if columns:

@@ -2,7 +2,7 @@
 import json
 from typing import Any, Dict, Iterator, List, NamedTuple, Optional, Tuple
 
-from fzcheck.mzn.failures import Failure, Reader
+from fzcheck.mzn.failures import Failure, Reader, undecided
 from fzcheck.mzn.groups import grouped
 from fzcheck.mzn.items import Items
 from fzcheck.mzn.model import Model
@@ -86,11 +86,13 @@ class Told:
 
     def point(self, found: Object) -> str:
         """The point of a block that isn't explained."""
-        if found.get("point") == "objective":
+        point = found.get("point", found.get("reason"))
+        subject = self.items.head(found["line"]) if "number" in found else ""
+        if "reason" in found:
+            return undecided(self.items, found, subject)
+        if point == "objective":
             return f"objective {found['now']} not better than {found['before']}"
-        if found.get("point", "constraint") == "constraint" and found.get("line"):
-            return self.items.head(found["line"])
-        return "{} {}".format(found.get("point", found.get("reason")), found.get("name", ""))
+        return subject or f"{point} of {found['name']}".replace("printed of", "printed")
 
     def explanation(self, with_flatzinc: bool) -> Iterator[str]:
         """The lines on what fails, and what the report's last object says besides."""
