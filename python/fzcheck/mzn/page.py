@@ -8,7 +8,8 @@ from typing import Any, Dict, Iterator, List, Sequence
 from fzcheck.mzn.chart import Task, charts
 from fzcheck.mzn.failures import Failure
 from fzcheck.mzn.groups import grouped, shown
-from fzcheck.mzn.items import item_of, shortened
+from fzcheck.mzn.items import item_of
+from fzcheck.mzn.sources import shown_path
 from fzcheck.mzn.svg import drawn
 from fzcheck.mzn.tables import Notes, Tables
 from fzcheck.mzn.told import Told
@@ -20,7 +21,7 @@ TEMPLATE = os.path.join(os.path.dirname(__file__), "page.html")
 
 def page(told: Told, files: Sequence[str]) -> str:
     """The text of the page. `files` are those of the model and its data."""
-    body = Body(told, ", ".join(map(shortened, files)))
+    body = Body(told, ", ".join(map(shown_path, files)))
     with open(TEMPLATE, encoding="utf-8") as file:
         template = Template(file.read())
     return template.substitute(
