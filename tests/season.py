@@ -211,7 +211,8 @@ def dump(path: pathlib.Path, place: str) -> str:
     with tempfile.TemporaryDirectory() as folder:
         words = ("chromium", "--headless", "--no-sandbox", "--disable-gpu", "--dump-dom",
                  f"--user-data-dir={folder}", path.as_uri() + place)
-        ran = subprocess.run(words, stdout=subprocess.PIPE, stderr=subprocess.DEVNULL, timeout=1000)
+        ran = subprocess.run(words, stdout=subprocess.PIPE, stderr=subprocess.DEVNULL,
+                             timeout=1000)
     return ran.stdout.decode()
 
 
@@ -370,22 +371,26 @@ def try_packed(place: Place) -> None:
     for solver in (*(f"by_{kind}" for kind in kinds), "plainly"):
         expect(f"{solver}", ("accepted", ""), found.get(solver))
     expect("a packed one refutes", "refuted claim", found["liar"][0])
-    expect("and is told by name", True, bool(re.search("refuted by block [12] of by_", found["liar"][1])))
+    expect("and is told by name", True,
+           bool(re.search("refuted by block [12] of by_", found["liar"][1])))
     for solver, kind in (("broken", "gzip"), ("rotten", "xz")):
         words = f"refused: stream: this {kind} file is broken: "
         expect(solver, ("refused", words), (found[solver][0], found[solver][1][: len(words)]))
 
 
 def try_words(place: Place) -> None:
-    for words, told in ((("--help",), "run|report|merge"), (("run", "--help"), "--streams TEMPLATE"),
+    """Help and the version are no fault, and a wrong word is told the nearest right one."""
+    for words, told in ((("--help",), "run|report|merge"),
+                        (("run", "--help"), "--streams TEMPLATE"),
                         (("--version",), "fzcheck-batch with fzcheck ")):
         status, out, _ = place.run(*COMMAND, *words)
         expect(f"{words}", (0, True), (status, told in out))
-    for words, near in ((("rnu",), "run"), (("report", "--results", "results", "--htlm", "x"), "--html"),
+    report = ["report", "--results", "results"]
+    for wrong, near in ((["rnu"], "run"), ([*report, "--htlm", "x"], "--html"),
                         (place.words("results", "--limits", "cpu=1")[2:], "--limit"),
                         (place.words("results", "--compelte")[2:], "--complete")):
-        status, _, told = place.run(*COMMAND, *words)
-        expect(f"{words[:1]}: {near}", (5, True), (status, f"did you mean {near}" in told))
+        status, _, told = place.run(*COMMAND, *wrong)
+        expect(f"{wrong[:1]}: {near}", (5, True), (status, f"did you mean {near}" in told))
     expect("no command", 5, place.run(*COMMAND)[0])
 
 
