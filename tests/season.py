@@ -199,7 +199,7 @@ def try_browser(place: Place) -> None:
     states = {(model, solver): state for solver, model, state in labels}
     expect("words for screen readers", STATES["none", "apex"], states.get(("none", "apex")))
     expect("one set for each cell", 12 * 4 - 4 - 1, len(states))
-    signs = dict(re.findall(r'aria-label="(\w+ on \w+): [^"]*">([^<]*)<', dialog))
+    signs = dict(re.findall(r'aria-label="(\w+ on \w+): [^"]*">([^< ]*)', dialog))
     wanted = {"apex on least": "✓■", "brook on least": "✓…", "apex on any": "✓□",
               "apex on none": "∅■", "brook on none": "–", "apex on pigeons": "∅□",
               "cedar on none": "–~", "cedar on least": "✗!", "dune on least": "✗"}
