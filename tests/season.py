@@ -374,6 +374,12 @@ def try_packed(place: Place) -> None:
     expect("a packed one refutes", "refuted claim", found["liar"][0])
     expect("and is told by name", True,
            bool(re.search("refuted by block [12] of by_", found["liar"][1])))
+    if sys.version_info < (3, 14):  # which unpacks zstd itself
+        place.stream("packed", "least", "")
+        (place.folder / "streams" / "packed" / "least.out").write_bytes(b"\x28\xb5\x2f\xfd")
+        place.run(*place.words("without"), PATH=f"{place.folder}/bin")
+        wanted = ("failed", "this is a zstd file: install zstd, or unpack it")
+        expect("without a program", wanted, place.outcomes("without").get(("least", "packed")))
     for solver, kind in (("broken", "gzip"), ("rotten", "xz")):
         words = f"refused: stream: this {kind} file is broken: "
         expect(solver, ("refused", words), (found[solver][0], found[solver][1][: len(words)]))
