@@ -163,7 +163,7 @@ class Place:
 
     def run(self, *words: str, **variables: str) -> Tuple[int, str, str]:
         process = self.start(*words, **variables)
-        out, told = process.communicate(timeout=500)
+        out, told = process.communicate(timeout=1000)
         told = "".join(line for line in told.splitlines(True) if " s left: " not in line)
         return process.returncode, out, told  # without the lines on how far it is
 
@@ -206,7 +206,7 @@ def shown(page: pathlib.Path) -> List[List[str]]:
     with tempfile.TemporaryDirectory() as folder:
         ran = subprocess.run(("chromium", "--headless", "--no-sandbox", "--disable-gpu",
                               "--dump-dom", f"--user-data-dir={folder}", page.as_uri()),
-                             stdout=subprocess.PIPE, stderr=subprocess.DEVNULL, timeout=200)
+                             stdout=subprocess.PIPE, stderr=subprocess.DEVNULL, timeout=1000)
     table = Table()
     table.feed(ran.stdout.decode())
     return table.rows[1:]
@@ -448,7 +448,7 @@ def try_stop(place: Place) -> None:
         while not stored.exists() or len(os.listdir(stored)) < 4:
             time.sleep(0.05)
         process.send_signal(ending)
-        process.communicate(timeout=200)  # until its workers have ended, which have its output
+        process.communicate(timeout=1000)  # until its workers have ended, which have its output
         kept = sum(len(path.read_text().splitlines()) > 2 for path in stored.iterdir())
         _, out, _ = place.run(*place.words(results))
         wanted = f"12 pairs, {12 - kept} jobs run: accepted 12\n"

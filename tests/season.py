@@ -38,7 +38,7 @@ PIGEONS = "".join(f"var 1..9: x{i} :: output_var;\n" for i in range(10)) + "".jo
 FAILING = """#!/bin/sh
 for last; do :; done
 case "$last" in
-  */apex/slow.*) sleep 60 ;;
+  */apex/slow.*) while :; do :; done ;;
   */apex/large.*) exit 7 ;;
   */apex/crash.*) exit 99 ;;
 esac
@@ -128,7 +128,7 @@ def try_states(place: Place) -> None:
     """Each state is told apart, in the table and on the page."""
     every_state(place)
     words = place.words("results", "--complete", "--complete-steps", "1000", "--claims=prove",
-                        "--cut", "--limit", "time=5", "-j", "2")
+                        "--cut", "--limit", "cpu=1", "-j", "2")
     expect("a season of every state", 0, place.run(*words)[0])
     data = page_of(place, "--title", "Four & <more>")
     cells = cells_of(data)
@@ -200,7 +200,7 @@ def try_browser(place: Place) -> None:
     states = {(model, solver): state for solver, model, state in labels}
     expect("words for screen readers", STATES["none", "apex"], states.get(("none", "apex")))
     expect("one set for each cell", 12 * 4 - 4 - 1, len(states))
-    signs = dict(re.findall(r'aria-label="(\w+ on \w+): [^"]*">([^<]*)<', dialog))
+    signs = dict(re.findall(r'aria-label="(\w+ on \w+): [^"]*">([^< ]*)', dialog))
     wanted = {"apex on least": "✓■", "brook on least": "✓…", "apex on any": "✓□",
               "apex on none": "∅■", "brook on none": "–", "apex on pigeons": "∅□",
               "cedar on none": "–~", "cedar on least": "✗!", "dune on least": "✗"}
@@ -212,7 +212,8 @@ def dump(path: pathlib.Path, place: str) -> str:
     with tempfile.TemporaryDirectory() as folder:
         words = ("chromium", "--headless", "--no-sandbox", "--disable-gpu", "--dump-dom",
                  f"--user-data-dir={folder}", path.as_uri() + place)
-        ran = subprocess.run(words, stdout=subprocess.PIPE, stderr=subprocess.DEVNULL, timeout=300)
+        ran = subprocess.run(words, stdout=subprocess.PIPE, stderr=subprocess.DEVNULL,
+                             timeout=1000)
     return ran.stdout.decode()
 
 
@@ -345,11 +346,12 @@ def try_size(place: Place) -> None:
     expect("the answer", "accepted", report[-1]["answer"])
     wrong = (folder / "pairs" / "long" / "wrong.json").read_text()
     expect("what is left out", True, '{"left_out":[' in wrong and '"violated":5000' in wrong)
-    table = place.table("results")
-    expect("counts", [("10000", "0", "1"), ("1", "4999", "20000"), ("0", "5000", "")],
-           [(row["satisfied"], row["violated"], row["objective"]) if solver != "jumps" else
-            (str(min(1, int(row["satisfied"]))), "4999", "20000")
-            for (_, solver), row in sorted(table.items())])
+    # Of jumps, which has 20,000 in each second block from the first on, those are no better than
+    # the block before, but for the first.
+    counts = {solver: (row["satisfied"], row["violated"], row["objective"])
+              for (_, solver), row in place.table("results").items()}
+    expect("counts", {"falls": ("10000", "0", "1"), "jumps": ("2501", "2499", "5001"),
+                      "wrong": ("0", "5000", "")}, counts)
 
 
 def try_packed(place: Place) -> None:
@@ -377,22 +379,32 @@ def try_packed(place: Place) -> None:
     for solver in (*(f"by_{kind}" for kind in kinds), "plainly"):
         expect(f"{solver}", ("accepted", ""), found.get(solver))
     expect("a packed one refutes", "refuted claim", found["liar"][0])
-    expect("and is told by name", True, bool(re.search("refuted by block [12] of by_", found["liar"][1])))
+    expect("and is told by name", True,
+           bool(re.search("refuted by block [12] of by_", found["liar"][1])))
+    if sys.version_info < (3, 14):  # which unpacks zstd itself
+        place.stream("packed", "least", "")
+        (place.folder / "streams" / "packed" / "least.out").write_bytes(b"\x28\xb5\x2f\xfd")
+        place.run(*place.words("without"), PATH=f"{place.folder}/bin")
+        wanted = ("failed", "this is a zstd file: install zstd, or unpack it")
+        expect("without a program", wanted, place.outcomes("without").get(("least", "packed")))
     for solver, kind in (("broken", "gzip"), ("rotten", "xz")):
         words = f"refused: stream: this {kind} file is broken: "
         expect(solver, ("refused", words), (found[solver][0], found[solver][1][: len(words)]))
 
 
 def try_words(place: Place) -> None:
-    for words, told in ((("--help",), "run|report|merge"), (("run", "--help"), "--streams TEMPLATE"),
+    """Help and the version are no fault, and a wrong word is told the nearest right one."""
+    for words, told in ((("--help",), "run|report|merge"),
+                        (("run", "--help"), "--streams TEMPLATE"),
                         (("--version",), "fzcheck-batch with fzcheck ")):
         status, out, _ = place.run(*COMMAND, *words)
         expect(f"{words}", (0, True), (status, told in out))
-    for words, near in ((("rnu",), "run"), (("report", "--results", "results", "--htlm", "x"), "--html"),
+    report = ["report", "--results", "results"]
+    for wrong, near in ((["rnu"], "run"), ([*report, "--htlm", "x"], "--html"),
                         (place.words("results", "--limits", "cpu=1")[2:], "--limit"),
                         (place.words("results", "--compelte")[2:], "--complete")):
-        status, _, told = place.run(*COMMAND, *words)
-        expect(f"{words[:1]}: {near}", (5, True), (status, f"did you mean {near}" in told))
+        status, _, told = place.run(*COMMAND, *wrong)
+        expect(f"{wrong[:1]}: {near}", (5, True), (status, f"did you mean {near}" in told))
     expect("no command", 5, place.run(*COMMAND)[0])
 
 
@@ -400,7 +412,7 @@ def try_together(place: Place) -> None:
     """Two runs write the same folder at the same time, and each file is whole."""
     runs = [place.start(*place.words("together", "--complete", "-j", "2")) for _ in range(2)]
     for process in runs:
-        process.communicate(timeout=500)
+        process.communicate(timeout=1000)
         expect("a run beside another", 0, process.returncode)
     place.run(*place.words("alone", "--complete"))
     models = {path.name for path in (place.folder / "alone" / "pairs").iterdir()}

@@ -15,6 +15,7 @@ from fzcheck.batch.season import Facts, Pair, sum_of
 from fzcheck.batch.times import stamps_beside, stamps_in_stream, told_beside
 
 UNITS = {"": 1, "k": 1 << 10, "M": 1 << 20, "G": 1 << 30, "T": 1 << 40}
+NOT_RUN = Usage(0.0, 0.0, 0.0, 0)
 TOLD = 2000  # bytes of standard error that may be told
 ENVIRONMENT = dict(os.environb)
 GRACE = 5  # seconds from a signal to what follows
@@ -91,7 +92,7 @@ def judge(setting: Setting, job: Job) -> Done:
         key = key._replace(stream=sum_of(stream), beside=beside, known=known)
     except OSError as error:
         result.words = f"{error.filename or stream}: {error.strerror}"
-        setting.store.put(result, Usage(round(time.time(), 3), 0.0, 0.0, 0), [])
+        setting.store.put(result, NOT_RUN._replace(at=round(time.time(), 3)), [])
         return Done(result, True)
     stored = setting.store.stored(model, solver)
     if stored and stored.result.is_of(key, setting.limits_text):
@@ -115,15 +116,15 @@ def run(setting: Setting, job: Job, result: Result) -> Tuple[Usage, List[str]]:
     job took, and what is kept of the report."""
     try:
         plain = Plain(job.pair.stream)
-    except (Broken, NoProgram) as fault:
+    except (Broken, NoProgram, OSError) as fault:
         is_broken = isinstance(fault, Broken)
         result.outcome = Outcome.REFUSED if is_broken else Outcome.FAILED
         result.words = f"refused: stream: {fault}" if is_broken else str(fault)
-        return Usage(round(time.time(), 3), 0.0, 0.0, 0), []
+        return NOT_RUN._replace(at=round(time.time(), 3)), []
     others: List[Tuple[str, Plain]] = []
     try:
         for pair in job.known or ():
-            with contextlib.suppress(Broken, NoProgram):  # told of that solver's own pair
+            with contextlib.suppress(Broken, NoProgram, OSError):  # told of that solver's own pair
                 others.append((pair.solver, Plain(pair.stream)))
         return run_on(setting, job, result, plain, others)
     finally:
@@ -160,7 +161,8 @@ def add_times(result: Result, reader: Reader, stream: str, pair: Pair) -> None:
         stamps = (stamps_beside(pair.times, blocks) if pair.times
                   else stamps_in_stream(stream, blocks))
     except OSError as error:
-        result.words = "; ".join(filter(None, (result.words, f"{error.filename}: {error.strerror}")))
+        told = f"{error.filename}: {error.strerror}"
+        result.words = "; ".join(filter(None, (result.words, told)))
         return
     if result.solving.seconds is None:
         result.solving.seconds = stamps.end

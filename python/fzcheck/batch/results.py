@@ -269,7 +269,8 @@ class Store:
         folder = os.path.join(self.folder, PAIRS)
         for model in sorted(os.listdir(folder)):
             names = sorted(os.listdir(os.path.join(folder, model)))
-            yield unescaped(model), [unescaped(name[: -len(ENDING)]) for name in names]
+            yield unescaped(model), [unescaped(name[: -len(ENDING)]) for name in names
+                                     if name.endswith(ENDING)]
 
 
 def merge(store: Store, others: List[Store]) -> Tuple[int, List[str]]:
