@@ -176,7 +176,7 @@ class Fuzzer:
         it = self.next()
         self.tally.models += 1
         for options in it.ways:
-            outcome = it.case.outcome(options)
+            outcome = self.judged(it.case, options)
             self.tally.runs += 1
             self.tally.undecided += outcome.undecided
             if outcome.refused is not None:
@@ -192,6 +192,13 @@ class Fuzzer:
                 return found
         self.tally.used.update({one.name for one in it.case.model.constraints})
         return None
+
+    def judged(self, case: Case, options: List[str]) -> Outcome:
+        """A model that `fzcheck` refuses is left out, too: it may be one's own."""
+        try:
+            return case.outcome(options)
+        except ValueError as error:
+            return Outcome(refused=str(error))
 
     def find(self, case: Case, outcome: Outcome) -> Optional[Found]:
         """The first fault whose cause wasn't met before: the search goes on around others."""
