@@ -58,17 +58,6 @@ def compare_batch(check_options):
            by_bash("", program="fzcheck-batch"))
 
 
-def compare_fuzzer(program):
-    """The options of a program behind whose `--` a solver stands with options of its own."""
-    told = said(os.path.join(ROOT, "python", program), "--help")
-    own = set(re.findall(r"^  (?:-\w, )?(--[a-z-]+)", told, re.M))
-    offered = {it for it in by_bash("-", program=program) if it.startswith("--") and it != "--"}
-    expect(f"{program}, by bash", own, offered)
-    zsh = read(f"completions/{program}.zsh").split("_arguments")[1]
-    expect(f"{program}, by zsh", own, set(re.findall(r"(--[a-z][a-z-]+)", zsh)))
-    expect(f"a solver's option after {program}", set(), by_bash("--", "fzn", "-", program=program))
-
-
 def main(program):
     words, zsh = read("crates/fz_command/src/words.rt"), read("completions/fzcheck.zsh")
     options = set(re.findall(r'\("([a-z-]+)", Kind::', words))
@@ -97,8 +86,6 @@ def main(program):
     expect("commands behind help, by bash", commands - {"help"}, by_bash("help", ""))
     expect("options, by bash", {"-h", "--help", "-V", "--version"}, by_bash("-"))
     compare_batch({f"--{it}" for it in options})
-    compare_fuzzer("fzcheck-fuzz")
-    compare_fuzzer("fzcheck-shrink")
     print(f"{passed} passed, {failed} failed")
     sys.exit(failed != 0)
 
