@@ -66,7 +66,9 @@ def differs(what: int, lists: List[List[List[int]]]) -> bool:
 
 def is_disputed(model: Model, name: str, arguments: List[Argument]) -> bool:
     """Whether it is a case that docs/BUILTINS.md tells under "Where these rows differ"."""
-    base = base_of(name)
+    row, base = Row(name), base_of(name)
+    if not row.known or len(row.kinds) != len(arguments):
+        return False  # it isn't known, so nothing is said of it
     return any(differs(what, [possible(model, arguments[int(place)]) for place in places])
                for part, what, places in DISPUTED if part in base)
 
@@ -110,7 +112,9 @@ def is_bounded(model: Model) -> bool:
 
 def is_defined(model: Model, constraint: Constraint) -> bool:
     """Whether no divisor is 0, no exponent negative, and no index outside of its list."""
-    base = base_of(constraint.name)
+    row, base = Row(constraint.name), base_of(constraint.name)
+    if not row.known or len(row.kinds) != len(constraint.arguments):
+        return True
     if base in DIVISIONS:
         return not any(0 in it for it in possible(model, constraint.arguments[1]))
     if base in POWERS:

@@ -52,7 +52,7 @@ class Looking(NamedTuple):
     def run(self, folder: str, tell: Tell, is_over: IsOver) -> None:
         fuzzer = Fuzzer(self.plan, self.seed, folder, self.faulty)
         try:
-            while not is_over() and not self.is_done(fuzzer.tally):
+            while not is_over() and not self.is_done(fuzzer.tally) and not fuzzer.has_nothing:
                 tell(fuzzer.step() or "made")
         finally:
             tell(fuzzer.tally)

@@ -11,7 +11,7 @@ from fzcheck.flatzinc import (
     Argument, Constraint, Declaration, Model, Name, Numbers, Reader, Scalar, elements)
 from fzcheck.fuzz.checking import Values
 from fzcheck.fuzz.disputed import fixed_places, is_disputed
-from fzcheck.fuzz.features import ALL_NAMES, search_note
+from fzcheck.fuzz.features import ALL_NAMES, MOST_NUMBER, search_note
 from fzcheck.fuzz.rows import Row
 from fzcheck.fuzz.smaller import put
 from fzcheck.fuzz.truth import fitting_row
@@ -145,7 +145,8 @@ class Changer:
         if isinstance(before, list):
             changed = [*before[:at], other, *before[at + 1 :]]
         set_argument(owner, place, changed)
-        if any(is_disputed(self.model, it.name, it.arguments) for it in self.model.constraints):
+        if abs(other) > MOST_NUMBER or any(is_disputed(self.model, it.name, it.arguments)
+                                           for it in self.model.constraints):
             set_argument(owner, place, before)
 
     def turn_operator(self) -> None:

@@ -197,9 +197,10 @@ class Run:
     def status(self) -> int:
         if self.failed:
             return 6
-        if not self.summary.taken.names:
-            return NONE_TAKEN
-        return 1 if self.summary.found else 0
+        if self.summary.found:
+            return 1
+        is_nothing = self.bases and not self.summary.tally.used
+        return NONE_TAKEN if is_nothing or not self.summary.taken.names else 0
 
 
 def names_given(given: argparse.Namespace, bases: Sequence[Base]) -> Names:

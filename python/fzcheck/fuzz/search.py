@@ -113,6 +113,8 @@ class Fuzzer:
         self.tally = Tally()
         self.chooser = Chooser(plan.taken)
         self.searches = (plan.taken.selects, plan.taken.choices)
+        self.fresh = list(plan.bases)  # that weren't run yet
+        self.bases: List[Base] = []  # that the solver takes
         self.number = 0
 
     def next(self) -> Next:
@@ -140,17 +142,21 @@ class Fuzzer:
         case = Case(self.plan.setting, model, self.folder, maker.known)
         return Next(case, names, self.ways(rand, model, rand.random() < 0.3), None)
 
+    @property
+    def has_nothing(self) -> bool:
+        """Whether the solver takes none of the models of one's own."""
+        return bool(self.plan.bases) and not self.fresh and not self.bases
+
     def own(self, rand: random.Random) -> Next:
-        """Each model as it is first, and then with changes."""
-        bases = self.plan.bases
-        changer = Changer(rand, bases, set(self.plan.taken.names), self.searches)
-        base, model = changer.base, changer.model
-        number = self.number - len(self.faulty)
-        if number <= len(bases):
-            base = bases[number - 1]
+        """Each model as it is first, and then with changes those that the solver takes."""
+        if self.fresh:
+            base = self.fresh.pop(0)
             model = base.model
-        elif rand.random() < 0.9:
-            model = changer.change()
+            self.bases.append(base)
+        else:
+            changer = Changer(rand, self.bases, set(self.plan.taken.names), self.searches)
+            base = changer.base
+            model = changer.change() if rand.random() < 0.9 else base.model
         case = Case(self.plan.setting, model, self.folder, base.known, is_own=True)
         whole = size(model)
         is_small = model.objective is None and whole is not None and whole <= MOST_TRIED
@@ -170,11 +176,13 @@ class Fuzzer:
         it = self.next()
         self.tally.models += 1
         for options in it.ways:
-            outcome = it.case.outcome(options)
+            outcome = self.judged(it.case, options)
             self.tally.runs += 1
             self.tally.undecided += outcome.undecided
             if outcome.refused is not None:
                 self.tally.messages[DIGITS.sub("N", outcome.refused)] += 1
+                if it.base in self.bases and it.case.model is it.base.model:
+                    self.bases.remove(it.base)
                 return None
             if it.base:
                 it.base.learn(outcome.solutions)
@@ -184,6 +192,13 @@ class Fuzzer:
                 return found
         self.tally.used.update({one.name for one in it.case.model.constraints})
         return None
+
+    def judged(self, case: Case, options: List[str]) -> Outcome:
+        """A model that `fzcheck` refuses is left out, too: it may be one's own."""
+        try:
+            return case.outcome(options)
+        except ValueError as error:
+            return Outcome(refused=str(error))
 
     def find(self, case: Case, outcome: Outcome) -> Optional[Found]:
         """The first fault whose cause wasn't met before: the search goes on around others."""
