@@ -17,7 +17,7 @@ TOP = os.path.dirname(os.path.dirname(os.path.abspath(__file__)))
 FOLDERS = "examples", "tests/explained", "tests/corpus/by_hand"
 NAMES = "model.names"  # where a folder has it, it goes with what explains
 OPTIONS = "", "--complete", "--cut", "--claims", "--claims=prove"
-EXPLAINING = "", "--explain", "--explain=all"
+EXPLAINING = "", "--explain", "--explain=all", "--explain=every"
 FAULTS = {
     "printed": "printed {name}",
     "domain": "domain of {name}",
@@ -188,7 +188,8 @@ def message_lines(it, model, stream):
     name = stream if re.match("printed .* differs", it["message"]) else model
     if "refused" in it and it["refused"] != "model":
         name = stream
-    return [f"{name}:{it['line']}:{it['column']}: {it['message']}", *notes, *it.get("notes", [])]
+    more = [f"... and {it['points_left_out']} more points fail"] * ("points_left_out" in it)
+    return [f"{name}:{it['line']}:{it['column']}: {it['message']}", *notes, *it.get("notes", []), *more]
 
 
 def told_lines(text):
@@ -201,7 +202,7 @@ class Report:
     """The objects of a report, made into the lines of its text."""
 
     def __init__(self, text, model, stream):
-        self.out, self.told, self.places = [], [], {}
+        self.out, self.told, self.places, self.explained = [], [], {}, set()
         self.objects = [json.loads(line) for line in text.splitlines()]
         self.wrong = [] if text.endswith("\n") else ["the last line doesn't end"]
         for it in self.objects:
@@ -226,8 +227,10 @@ class Report:
             else:
                 self.told += message_lines(it, model, stream)
                 self.wrong += wrong_parts(it)
-                place = it["line"], it["column"]
-                self.expect(self.places[it["explained"]], place, "the place of a block")
+                if it["explained"] not in self.explained:
+                    place = it["line"], it["column"]
+                    self.expect(self.places[it["explained"]], place, "the place of a block")
+                self.explained.add(it["explained"])
         if not self.objects or not {"answer", "refused"} & set(self.objects[-1]):
             self.wrong.append("neither an answer nor a refusal is last")
 
