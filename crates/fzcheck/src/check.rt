@@ -104,19 +104,9 @@ fn check_stream<S: Read + Drop>(
         _ => Some(&recent),
     };
     let explainer = Explainer::new(text, names, completion_of(asked.completes));
-    let mut teller = Teller::new(rt, asked, explainer, &recent, &screen);
+    let teller = Teller::new(rt, &*asked, explainer, &recent, &screen);
     let mut stream = Recorder::new(stream, stored);
-    let outcome = match asked.form {
-        Form::Text => check_to(rt, asked, model, claims, &mut stream, &screen, &mut teller),
-        Form::Json => {
-            let mut taker = JsonTeller {
-                teller: &mut teller,
-            };
-            check_to(rt, asked, model, claims, &mut stream, &screen, &mut taker)
-        }
-    };
-    teller.end(outcome.is_ok());
-    match outcome {
+    match check_and_tell(rt, asked, model, claims, &mut stream, &screen, teller) {
         Ok(answer) => status(&Ok(answer)),
         Err(CheckError::Read) => {
             let name = name_of_stream(asked);
@@ -128,6 +118,29 @@ fn check_stream<S: Read + Drop>(
             refuse_check(rt, asked, &error, name_of_stream(asked), message.as_ref())
         }
     }
+}
+
+/// Checks a stream, and tells what belongs to the answer.
+fn check_and_tell<S: Read>(
+    rt: &HostRuntime,
+    asked: &Check<'_>,
+    model: &Model<'_>,
+    claims: Claims<'_>,
+    stream: &mut S,
+    screen: &RefCell<Screen<'_>>,
+    mut teller: Teller<'_, '_, '_>,
+) -> Result<Answer, CheckError> {
+    let outcome = match asked.form {
+        Form::Text => check_to(rt, asked, model, claims, stream, screen, &mut teller),
+        Form::Json => {
+            let mut taker = JsonTeller {
+                teller: &mut teller,
+            };
+            check_to(rt, asked, model, claims, stream, screen, &mut taker)
+        }
+    };
+    teller.end(outcome.is_ok());
+    outcome
 }
 
 /// Checks a stream, and writes the report to standard output.
