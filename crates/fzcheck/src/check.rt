@@ -58,30 +58,41 @@ fn check_opened<'a>(rt: &HostRuntime, asked: &Check<'a>) -> Result<u8, Unread<'a
     check_readers(rt, asked, model, open_file(rt, name)?)
 }
 
-/// Checks the stream that a reader gives against the model in a file, which is read and loaded once.
+/// Checks the stream that a reader gives against the model in a file. All other files are read here.
 fn check_readers<'a, S: Read + Drop>(
     rt: &HostRuntime,
     asked: &Check<'a>,
     model: File,
     stream: S,
 ) -> Result<u8, Unread<'a>> {
-    let bytes = read_whole(rt.alloc(), model, asked.model, most_bytes(asked.size))?;
+    let model = read_whole(rt.alloc(), model, asked.model, most_bytes(asked.size))?;
     let tree = read_tree(rt, asked.tree)?;
-    let branches = branches_of(rt, asked.tree, &tree)?;
     let table = read_table(rt, asked.names)?;
-    let names = match table_of(rt, asked, &table) {
-        Ok(names) => names,
-        Err(status) => return Ok(status),
-    };
+    match table_of(rt, asked, &table) {
+        Ok(names) => check_text(rt, asked, &model, &tree, names, stream),
+        Err(status) => Ok(status),
+    }
+}
+
+/// Checks the stream against the text of the model, which is loaded once.
+fn check_text<'a, S: Read + Drop>(
+    rt: &HostRuntime,
+    asked: &Check<'a>,
+    bytes: &[u8],
+    tree: &[u8],
+    names: NameTable<'_>,
+    stream: S,
+) -> Result<u8, Unread<'a>> {
     let text = Text {
         name: asked.model,
-        bytes: &bytes,
+        bytes,
         passed: NOTHING,
     };
-    let model = match read_model(rt.alloc(), &bytes, limits_of(asked.size)) {
+    let model = match read_model(rt.alloc(), bytes, limits_of(asked.size)) {
         Ok(model) => model,
         Err(error) => return Ok(refuse_model(rt, asked, &text, &error)),
     };
+    let branches = branches_of(rt, asked.tree, tree)?;
     let claims = claims_of(rt, asked, &model, &branches)?;
     Ok(check_stream(rt, asked, &model, claims, text, names, stream))
 }
