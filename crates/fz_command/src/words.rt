@@ -162,7 +162,7 @@ fn told(alloc: Global, error: &Error, words: &[String]) -> Result<String, AllocE
     let mut told = String::from_str(alloc, front)?;
     if let Some(word) = meant(behind) {
         write!(told, "\ndid you mean {word}")?;
-    } else if error.kind() == ErrorKind::InvalidSubcommand {
+    } else if error.kind() == ErrorKind::InvalidSubcommand && is_first(words, front) {
         told.push_str("\ndid you mean check")?;
         for word in words.iter().skip(1) {
             write!(told, " {word}")?;
@@ -171,6 +171,14 @@ fn told(alloc: Global, error: &Error, words: &[String]) -> Result<String, AllocE
         write!(told, "\n{WANTED_STEPS}")?;
     }
     Ok(told)
+}
+
+/// Whether the word that is quoted at the end of a message is the first behind the program's name.
+fn is_first(words: &[String], message: &str) -> bool {
+    match words.get(1) {
+        Some(word) => last_quoted(message) == Some(word.as_str()),
+        None => false,
+    }
 }
 
 /// What is told where no number of steps follows the option for it.

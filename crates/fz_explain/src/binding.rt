@@ -9,7 +9,11 @@ use fz_store::{Argument, Goal, Model, Scalar, Slot, Term, What, scalar_at};
 use fz_syntax::{DeclItems, Offer, PredicateItems};
 use fz_tree::{Ast, Decl, Goal as GoalItem, Limits, Note, Solve, SyntaxError};
 use indexmap::IndexSet;
+use memchr::{memmem, memrchr};
 use std::alloc::{AllocError, Global};
+
+/// What the names of these annotations begin with.
+const OUTPUT: &[u8] = b"output_";
 
 /// The name of the annotation of a variable that is printed.
 const OUTPUT_VAR: &[u8] = b"output_var";
@@ -128,6 +132,7 @@ fn past_predicates<'a>(
 }
 
 /// Those of the declarations that have something printed. The lists of the others are given back.
+/// Behind them comes a constraint or the solve item, or this isn't the text of a model.
 fn printed_of<'a>(
     alloc: Global,
     mut items: DeclItems<'a>,
@@ -144,21 +149,38 @@ fn printed_of<'a>(
                 }
                 items = more;
             }
-            Offer::End(_) => break,
+            Offer::End(constraints) => {
+                constraints.next()?;
+                break;
+            }
         }
     }
     Ok(printed)
 }
 
 /// The declarations of a text that have something printed. No other item is held, and the text is
-/// read no further than to its last declaration.
-fn printed_decls<'a>(alloc: Global, source: &'a [u8]) -> Result<Vec<Decl<'a>>, SyntaxError> {
+/// read no further than to the first item behind its declarations.
+fn printed_in<'a>(alloc: Global, source: &'a [u8]) -> Result<Vec<Decl<'a>>, SyntaxError> {
     // Each item takes a byte at least, and so does the solve item behind all.
     let most = source.len();
     let predicates = PredicateItems::new(alloc, source, Limits::LARGE)?;
     match past_predicates(predicates, most)? {
         Some(decls) => printed_of(alloc, decls, most),
         None => Ok(Vec::new(alloc)),
+    }
+}
+
+/// The same, from the line on in which the text first has what the annotations for it begin with,
+/// where that line begins an item. No string and no token goes over the end of a line.
+fn printed_decls<'a>(alloc: Global, source: &'a [u8]) -> Result<Vec<Decl<'a>>, SyntaxError> {
+    let Some(place) = memmem::find(source, OUTPUT) else {
+        return Ok(Vec::new(alloc));
+    };
+    let front = source.get(..place).unwrap_or(b"");
+    let start = memrchr(b'\n', front).unwrap_or(0);
+    match printed_in(alloc, source.get(start..).unwrap_or(source)) {
+        Ok(printed) => Ok(printed),
+        Err(_) => printed_in(alloc, source),
     }
 }
 

@@ -54,8 +54,11 @@ struct Thing(
     &'static [&'static str],
 );
 
-/// In the order in which they are told. The end of an item is told behind them.
-const THINGS: [Thing; 26] = [
+/// What stands for the end of an item.
+const ITEM_END: &str = "';'";
+
+/// In the order in which they are told.
+const THINGS: [Thing; 27] = [
     Thing("','", &[","], &[]),
     Thing("')'", &[")"], &[]),
     Thing("']'", &["]"], &[]),
@@ -86,6 +89,7 @@ const THINGS: [Thing; 26] = [
     Thing("'satisfy'", &["satisfy"], &[]),
     Thing("'minimize'", &["minimize"], &[]),
     Thing("'maximize'", &["maximize"], &[]),
+    Thing(ITEM_END, &[";"], &[]),
 ];
 
 /// What may be left out, and is told only where nothing else is expected.
@@ -136,11 +140,14 @@ impl<'a> Before<'a> {
         }
     }
 
-    /// A thing that is expected, in words: a name is one of an annotation behind `::`.
+    /// A thing that is expected, in words: the end is that of the item, and a name behind `::` is
+    /// that of an annotation.
     fn told(&self, thing: &'static str) -> &'static str {
         match self.last {
-            Some(token) if thing == "a name" && token.text == b"::".as_slice() =>
-                "the name of an annotation",
+            _ if thing == ITEM_END => self.end(),
+            Some(token) if thing == "a name" && token.text == b"::".as_slice() => {
+                "the name of an annotation"
+            }
             _ => thing,
         }
     }
@@ -213,13 +220,14 @@ fn tokens_behind(
     Ok(expected)
 }
 
-/// Adds those things that stand for expected tokens.
-fn add_things(
-    told: &mut Vec<&'static str>,
-    expected: &[&str],
+/// Those of the things that stand for expected tokens, in words.
+fn things_among(
+    alloc: Global,
     things: &[Thing],
+    expected: &[&str],
     before: &Before<'_>,
-) -> Result<(), AllocError> {
+) -> Result<Vec<&'static str>, AllocError> {
+    let mut told = Vec::new(alloc);
     for Thing(thing, all, none) in things {
         if all.iter().all(|token| expected.contains(token))
             && !none.iter().any(|token| expected.contains(token))
@@ -227,7 +235,7 @@ fn add_things(
             told.push(before.told(thing))?;
         }
     }
-    Ok(())
+    Ok(told)
 }
 
 /// The things that stand for expected tokens.
@@ -236,13 +244,9 @@ fn things_of(
     expected: &[&str],
     before: &Before<'_>,
 ) -> Result<Vec<&'static str>, AllocError> {
-    let mut told = Vec::new(alloc);
-    add_things(&mut told, expected, &THINGS, before)?;
-    if expected.contains(&";") {
-        told.push(before.end())?;
-    }
+    let told = things_among(alloc, &THINGS, expected, before)?;
     if told.is_empty() {
-        add_things(&mut told, expected, &LEFT_OUT, before)?;
+        return things_among(alloc, &LEFT_OUT, expected, before);
     }
     Ok(told)
 }

@@ -58,30 +58,41 @@ fn check_opened<'a>(rt: &HostRuntime, asked: &Check<'a>) -> Result<u8, Unread<'a
     check_readers(rt, asked, model, open_file(rt, name)?)
 }
 
-/// Checks the stream that a reader gives against the model in a file, which is read and loaded once.
+/// Checks the stream that a reader gives against the model in a file. All other files are read here.
 fn check_readers<'a, S: Read + Drop>(
     rt: &HostRuntime,
     asked: &Check<'a>,
     model: File,
     stream: S,
 ) -> Result<u8, Unread<'a>> {
-    let bytes = read_whole(rt.alloc(), model, asked.model, most_bytes(asked.size))?;
+    let model = read_whole(rt.alloc(), model, asked.model, most_bytes(asked.size))?;
     let tree = read_tree(rt, asked.tree)?;
-    let branches = branches_of(rt, asked.tree, &tree)?;
     let table = read_table(rt, asked.names)?;
-    let names = match table_of(rt, asked, &table) {
-        Ok(names) => names,
-        Err(status) => return Ok(status),
-    };
+    match table_of(rt, asked, &table) {
+        Ok(names) => check_text(rt, asked, &model, &tree, names, stream),
+        Err(status) => Ok(status),
+    }
+}
+
+/// Checks the stream against the text of the model, which is loaded once.
+fn check_text<'a, S: Read + Drop>(
+    rt: &HostRuntime,
+    asked: &Check<'a>,
+    bytes: &[u8],
+    tree: &[u8],
+    names: NameTable<'_>,
+    stream: S,
+) -> Result<u8, Unread<'a>> {
     let text = Text {
         name: asked.model,
-        bytes: &bytes,
+        bytes,
         passed: NOTHING,
     };
-    let model = match read_model(rt.alloc(), &bytes, limits_of(asked.size)) {
+    let model = match read_model(rt.alloc(), bytes, limits_of(asked.size)) {
         Ok(model) => model,
         Err(error) => return Ok(refuse_model(rt, asked, &text, &error)),
     };
+    let branches = branches_of(rt, asked.tree, tree)?;
     let claims = claims_of(rt, asked, &model, &branches)?;
     Ok(check_stream(rt, asked, &model, claims, text, names, stream))
 }
@@ -104,19 +115,9 @@ fn check_stream<S: Read + Drop>(
         _ => Some(&recent),
     };
     let explainer = Explainer::new(text, names, completion_of(asked.completes));
-    let mut teller = Teller::new(rt, asked, explainer, &recent, &screen);
+    let teller = Teller::new(rt, &*asked, explainer, &recent, &screen);
     let mut stream = Recorder::new(stream, stored);
-    let outcome = match asked.form {
-        Form::Text => check_to(rt, asked, model, claims, &mut stream, &screen, &mut teller),
-        Form::Json => {
-            let mut taker = JsonTeller {
-                teller: &mut teller,
-            };
-            check_to(rt, asked, model, claims, &mut stream, &screen, &mut taker)
-        }
-    };
-    teller.end(outcome.is_ok());
-    match outcome {
+    match check_and_tell(rt, asked, model, claims, &mut stream, &screen, teller) {
         Ok(answer) => status(&Ok(answer)),
         Err(CheckError::Read) => {
             let name = name_of_stream(asked);
@@ -128,6 +129,29 @@ fn check_stream<S: Read + Drop>(
             refuse_check(rt, asked, &error, name_of_stream(asked), message.as_ref())
         }
     }
+}
+
+/// Checks a stream, and tells what belongs to the answer.
+fn check_and_tell<S: Read>(
+    rt: &HostRuntime,
+    asked: &Check<'_>,
+    model: &Model<'_>,
+    claims: Claims<'_>,
+    stream: &mut S,
+    screen: &RefCell<Screen<'_>>,
+    mut teller: Teller<'_, '_, '_>,
+) -> Result<Answer, CheckError> {
+    let outcome = match asked.form {
+        Form::Text => check_to(rt, asked, model, claims, stream, screen, &mut teller),
+        Form::Json => {
+            let mut taker = JsonTeller {
+                teller: &mut teller,
+            };
+            check_to(rt, asked, model, claims, stream, screen, &mut taker)
+        }
+    };
+    teller.end(outcome.is_ok());
+    outcome
 }
 
 /// Checks a stream, and writes the report to standard output.
