@@ -1,7 +1,7 @@
 //! The command line of the program: what its words ask for (`read_words`), the usage line, the help
 //! page and the version.
 //!
-//! Tests are in `tests/program.sh`.
+//! Tests are in `tests/program`.
 #![tactic(auto)]
 
 mod pages;

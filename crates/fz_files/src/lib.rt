@@ -3,7 +3,7 @@
 //! shows how far a check is (`Progress`), colours on a terminal (`coloured`), and lines of JSON
 //! (`Object`).
 //!
-//! Tests are in `tests/program.sh` and `tests/explained`.
+//! Tests are in `tests/program` and `tests/explained`.
 #![tactic(auto)]
 
 mod colour;

@@ -2,7 +2,7 @@
 //! where that can be seen, and what the grammar expected at a fault. That a text is refused, and
 //! where, is the parser's; nothing rests on what is said.
 //!
-//! Tests are in `tests/explained` and `tests/program.sh`.
+//! Tests are in `tests/explained` and `tests/program`.
 #![tactic(auto)]
 
 mod expected;

@@ -1,7 +1,7 @@
 //! The program `fzcheck`: what its commands do, its refusals and exit status. The verdicts and the
 //! texts that it shows are by `fz_check`; what stands behind a verdict is by `fz_explain`.
 //!
-//! Tests are in `tests/program.sh`, `tests/as_json.py` and `tests/explained`.
+//! Tests are in `tests/program`, `tests/as_json.py` and `tests/explained`.
 #![tactic(auto)]
 
 mod as_json;
