@@ -20,10 +20,12 @@ import solver
 
 sys.path.insert(0, os.path.join(ROOT, "python"))
 from fzcheck.mzn import model as model_module
-from fzcheck.mzn.computed import OutputModel
+from fzcheck.mzn.computed import OutputModel, is_close, is_same
 from fzcheck.mzn.in_json import JsonReader, from_json
 from fzcheck.mzn.names import Name
+from fzcheck.mzn.narrowed import Narrowing
 from fzcheck.mzn.plan import Plan, Refused
+from fzcheck.mzn.sources import declared, items_of
 from fzcheck.mzn.stream import Writer
 from fzcheck.mzn.table import Table
 from fzcheck.mzn.values import Array, Range, Reader, SetOf, Term
@@ -242,6 +244,62 @@ def printed(place):
     expect("the answer in JSON", "undecided", listed[-1]["answer"])
 
 
+SOURCE = """% a comment; with a mark
+var 0..9: x;  /* another;
+comment */ array [1..2] of var bool: "quoted; text" -> no;
+array [int] of var 0..500: many;
+constraint :: "low" x > 0;
+constraint :: "open"
+  x >= 2;
+var int: total = sum(many) ;
+enum Day = {Mon, Tue};
+solve satisfy"""
+
+
+class Trial(Narrowing):
+    """Compiles nothing: a model with one constraint is its number, from 0, and -1 with none."""
+
+    def is_cheap(self):
+        return True
+
+    def compiled(self, number):
+        return number
+
+
+def narrowed(place):
+    """Items of a source, and the constraint that narrowed a domain, by fixed verdicts."""
+    place.file("source.mzn", SOURCE)
+    items = list(items_of(place.path("source.mzn")))
+    expect("lines of items", [2, 3, 4, 5, 6, 8, 9, 10], [item.line for item in items])
+    expect("an item's text", 'constraint :: "open"\n  x >= 2', items[4].text)
+    path = place.path("source.mzn")
+    for name, wanted in (("x", (f"{path}:2", "var 0..9", "")), ("nix", None),
+                         ("total", (f"{path}:8", "var int", "sum(many)")),
+                         ("many", (f"{path}:4", "array [int] of var 0..500", "")),
+                         ("Day", (f"{path}:9", "", "{Mon, Tue}"))):
+        expect(f"declared: {name}", wanted, declared(items, name))
+    found = {"explained": 1, "message": "domain of X_1_ fails in block 1", "notes": [],
+             "variables": [{"name": "X_1_", "element": "x"}], "model": {"place": "source.mzn:2:11"}}
+    for what, blocks, told, name in (
+        ("by its own", {-1: {1: "x;"}}, [], None),
+        ("by the first", {0: {1: "x;"}, 1: {1: "x;"}}, [f'from 0..9, by "low", {path}:5'], '"low"'),
+        ("by another", {0: {1: "y;"}, 1: {1: "y;x;"}}, [f'from 0..9, by "open", {path}:6'], '"open"'),
+        ("by one that fails", {1: {1: ""}}, [f'from 0..9, by "open", {path}:6'], '"open"'),
+        ("by none", {0: {2: "x;"}}, ["from 0..9, by another constraint"], None),
+    ):
+        trial = Trial(None, None, items, "", lambda number: blocks.get(number, {}))
+        got = trial.told(found)
+        expect(f"narrowed {what}", ([f"narrowed by the compiler {text}" for text in told], name),
+               (got["notes"], got.get("narrowed", {}).get("name")))
+    other = {**found, "message": "constraint 3 int_le fails in block 1"}
+    expect("of no domain", other, Trial(None, None, items, "", None).told(other))
+    for printed, computed, wanted in ((1.5, 1.5, (True, True)), (2, 2.0, (True, True)),
+                                      (1.33, 4 / 3, (False, True)), (1.34, 4 / 3, (False, False)),
+                                      (3, 3, (True, False)), (True, 2.5, (False, False))):
+        expect(f"{printed} for {computed}", wanted,
+               (is_same(printed, computed), is_close(printed, computed)))
+
+
 ENUM_ROWS = "[|     0:   1:\n |{}: true, true\n |{}: true, true\n |{}: true, true\n |]"
 IN_LINES = """{
   "start": [0, 3,
@@ -384,6 +442,7 @@ def main():
         values()
         endings(place)
         printed(place)
+        narrowed(place)
         bad_inputs(place)
         command_lines(place)
         known(place)

@@ -68,6 +68,7 @@ TESTS = [
 LONG_TESTS = [
     Test("reasons", "tests/corpus/reasons.py {fzcheck} 10000", 200),
     Test("plans", "tests/plans.py {fzcheck}", 150, "minizinc"),
+    Test("plans_damaged", "tests/plans_damaged.py {fzcheck} 100", 150, "minizinc"),
     Test("differ", "tests/corpus/differ.py {fzcheck} - 300", 60),
     Test("minizinc", "tests/minizinc.py {fzcheck}", 50, "minizinc"),
     Test("inside", "tests/inside.py {fzcheck}", 50, "minizinc"),

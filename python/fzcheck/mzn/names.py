@@ -15,6 +15,7 @@ FLOAT = re.compile(r"float|-?\d+\.\d")
 HEAD = re.compile(r'[\[,]"(\w+|\'[^\']+\') = ')
 EXPRESSION = re.compile(r'"fzcheck:(\d+):",(.*?),(?="fzcheck:)', re.S)
 MOST_FIXED = 1000  # elements of a parameter; larger ones are left to the output model
+MOST_TEXT = 200_000  # characters of a definition that is read
 
 
 class Name(NamedTuple):
@@ -208,8 +209,8 @@ class Added:
 
     def defined(self, name: str, found: Name) -> Name:
         """A name that only the output model has, by other names, or by values."""
-        if self.output.values.get(name) is None:
-            raise Unreadable("it isn't defined")
+        if not 0 < len(self.output.values.get(name) or "") <= MOST_TEXT:
+            raise Unreadable("it isn't defined, or too large")
         value = self.output.value(name)
         elements = value.elements if isinstance(value, Array) else [value]
         dimensions = self.output.dimensions(name) if found.is_array else None
