@@ -260,6 +260,9 @@ solve satisfy"""
 class Trial(Narrowing):
     """Compiles nothing: a model with one constraint is its number, from 0, and -1 with none."""
 
+    def is_cheap(self):
+        return True
+
     def compiled(self, number):
         return number
 

@@ -24,8 +24,8 @@ from fzcheck.mzn.values import Array, Term
 
 SHOP = os.path.join(ROOT, "tests", "pages", "shop")
 ENUMS = {"Job": ["Saw", "Plane", "Glue"], "Shift": ["Early", "Late"]}
-# A FlatZinc with its table: `first` is of an enum, `on` an array by one. Y and Z have no names in the
-# model; Y is defined by A and Z, and Z by B.
+# A FlatZinc with its table: `first` is of an enum, `on` an array by one. Y and Z have no names in
+# the model; Y is defined by A and Z, and Z by B.
 FLATZINC = """var 1..3: first;
 var 1..2: A;
 var 1..2: B;

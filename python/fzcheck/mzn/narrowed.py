@@ -7,11 +7,12 @@ import re
 import time
 from typing import Any, Callable, Dict, List, NamedTuple, Optional
 
-from fzcheck.mzn.model import Failed, Inputs, Model, compiled_beside
+from fzcheck.mzn.model import MODEL, Failed, Inputs, Model, compiled_beside
 from fzcheck.mzn.sources import SourceItem, declared, shown_path
 
 Object = Dict[str, Any]
 MOST_TRIED, MOST_SECONDS = 20, 30.0
+MOST_BYTES = 5_000_000  # of a FlatZinc that is compiled anew
 DOMAIN = re.compile(r"domain of (\w+) fails in block (\d+)")
 NAMED = re.compile(r'constraint\s*::\s*("(?:[^"\\\n]|\\.)*")')
 # The blocks that are violated, with the names of which a domain fails, each with a `;` behind it.
@@ -38,7 +39,7 @@ class Narrowing:
     def told(self, found: Object) -> Object:
         """An explanation; of a domain that was narrowed with what it was, and by what."""
         domain = DOMAIN.match(found.get("message", ""))
-        if "explained" not in found or not domain:
+        if "explained" not in found or not domain or not self.is_cheap():
             return found
         block = int(domain[2])
         bare = self.blocks(None)
@@ -51,6 +52,9 @@ class Narrowing:
         more = {"narrowed": {"name": guilty.name, "line": guilty.item.text.partition("\n")[0],
                              "place": f"{shown_path(guilty.item.path)}:{guilty.item.line}:1"}} if guilty else {}
         return {**found, "notes": notes, "notes_parts": parts, **more}
+
+    def is_cheap(self) -> bool:
+        return os.path.getsize(os.path.join(self.model.folder, MODEL)) <= MOST_BYTES
 
     def text(self, found: Object, guilty: Optional[Guilty]) -> str:
         """The line on what a domain was, and what narrowed it."""

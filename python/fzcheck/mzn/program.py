@@ -129,7 +129,7 @@ class Translation:
                 found.append(f"{name}, {place.place}" if place else name)
         if self.model.floats:
             of = f": {'; '.join(found)}" if found else ""
-            raise Failed(f"refused: the model has variables of floats, which fzcheck can't check{of}")
+            raise Failed(f"the model has variables of floats, which fzcheck can't check{of}")
 
 
 def checked(words: Words, model: Model, stream: str,
@@ -227,6 +227,8 @@ def main(words: List[str]) -> int:
         return REFUSED
     except Failed as error:
         say(str(error))
+        if "--json" in words and error.status == REFUSED:
+            print(json.dumps({"refused": "model", "message": str(error)}))
         return error.status
     except KeyboardInterrupt:
         return INTERRUPTED
