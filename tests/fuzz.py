@@ -62,6 +62,7 @@ DEFAULT = {
 # Solvers that can't be worked with, and what is told of them.
 BAD = {
     "prints without end": (["sh", "-c", "yes"], "output without end"),
+    "never ends": (["sh", "-c", "sleep 1000 & while :; do :; done"], "time limit"),
     "writes to its model": (["sh", "-c", LAST + 'echo "% x" >> "$it"; echo ----------', "sh"],
                             "model changed"),
     "prints what is no solution": (["sh", "-c", "echo x1 = 1"], "unreadable output"),
@@ -200,8 +201,9 @@ class Test:
         self.check("the script runs it until it is seen", shown.startswith("run "), shown)
 
     def bad(self, name: str, solver: List[str], kind: str) -> None:
-        told = self.fuzz(solver, "--models", "2", "--names", "int_ne", "--output", "bad",
-                         "--limit", LIMIT)
+        limit = "1" if kind == "time limit" else LIMIT
+        told = self.fuzz(solver, "--models", "1", "--names", "int_ne", "--output", "bad",
+                         "--limit", limit)
         kinds = [it["kind"] for it in told["faults"]]
         self.check(f"a solver that {name}", kind in kinds, told)
 
@@ -260,11 +262,11 @@ class Test:
         function = f"_{program.replace('-', '_')}"
         ask = (f'source "{path}.bash"; COMP_WORDS=("$@"); COMP_CWORD=$(($# - 1)); {function}; '
                'echo "${COMPREPLY[@]}"')
-        everything: Set[str] = own | {"-h", "-V", "--"}
-        for words, wanted in (["-"], everything), (["--", "fzn", "-"], set()):
-            offered = subprocess.run(["bash", "-c", ask, "bash", program, *words],
+        asked: List[Tuple[str, Set[str]]] = [("-", own | {"-h", "-V", "--"}), ("-- fzn -", set())]
+        for last, wanted in asked:
+            offered = subprocess.run(["bash", "-c", ask, "bash", program, *last.split()],
                                      stdout=subprocess.PIPE, universal_newlines=True).stdout
-            self.check(f"bash after {program} {words}", set(offered.split()) == wanted, offered)
+            self.check(f"bash after {program} {last}", set(offered.split()) == wanted, offered)
         with open(f"{path}.zsh", encoding="utf-8") as file:
             zsh = file.read().split("_arguments")[1]
         self.check(f"zsh after {program}", set(re.findall(r"(--[a-z][a-z-]+)", zsh)) == own, own)
@@ -274,7 +276,7 @@ class Test:
         streams = [it for it in there if not it.startswith("stream.")]  # of show.sh
         self.check("no file is left", streams == [], there)
         own = subprocess.run(["ps", "-eo", "args"], stdout=subprocess.PIPE, universal_newlines=True)
-        running = [it for it in own.stdout.splitlines() if self.folder in it]
+        running = [it for it in own.stdout.splitlines() if self.folder in it or it == "sleep 1000"]
         self.check("no process is left", running == [], running)
 
 
