@@ -235,13 +235,14 @@ class Test:
     def words(self) -> None:
         """Faults of the command line, and of a solver that isn't there."""
         nothing = ["--", "sh", "-c", "echo no >&2; exit 1"]
-        for words, status, told in (
-                ([], 5, "after --"), (["--", "no_such_solver"], 6, "no_such_solver"),
-                (["--names", "int_pluss", "--", *SOLVER], 5, "did you mean int_plus?"),
-                (["--secconds", "3", "--", *SOLVER], 5, "did you mean --seconds?"),
-                (["--numbers", "5..1", "--", *SOLVER], 5, "LOW..HIGH"),
-                (["--from", "no_such_folder", "--", *SOLVER], 6, "no_such_folder"),
-                (["--known", "no_such_file", "--", *SOLVER], 6, "no_such_file")):
+        wrong: List[Tuple[List[str], int, str]] = [
+            ([], 5, "after --"), (["--", "no_such_solver"], 6, "no_such_solver"),
+            (["--names", "int_pluss", "--", *SOLVER], 5, "did you mean int_plus?"),
+            (["--secconds", "3", "--", *SOLVER], 5, "did you mean --seconds?"),
+            (["--numbers", "5..1", "--", *SOLVER], 5, "LOW..HIGH"),
+            (["--from", "no_such_folder", "--", *SOLVER], 6, "no_such_folder"),
+            (["--known", "no_such_file", "--", *SOLVER], 6, "no_such_file")]
+        for words, status, told in wrong:
             ran = self.run("fzcheck-fuzz", *words)
             self.check(f"fzcheck-fuzz {words}", ran.returncode == status and told in ran.stderr
                        and len(ran.stderr.splitlines()) == 1, ran)
