@@ -215,22 +215,22 @@ class Test:
                    == [["array_int_element"]], told)
 
     def known_stream(self) -> None:
-        """A claim that only another solver's stream refutes: the model has too many assignments."""
-        count = 7
-        names = [f"x{it}" for it in range(count)]
-        lines = [f"var 0..9: {it} :: output_var;" for it in names]
+        """A claim that only another solver's stream refutes, as the model has too many assignments
+        and the better objective is far."""
+        names = [f"x{it}" for it in range(8)]
+        lines = ["var {0,50}: x0 :: output_var;"]
+        lines += [f"var 0..9: {it} :: output_var;" for it in names[1:]]
         lines += [f"constraint int_ne({a},{b});" for a, b in zip(names, names[1:])]
-        lines += [f"constraint int_lin_eq([{','.join('1' * count)}],[{','.join(names)}],40);",
-                  "solve maximize x0;"]
-        best = [9, 8, 9, 0, 9, 0, 5]
-        for name, text in (("wide.fzn", "\n".join(lines) + "\n"), ("wide.other", "".join(
-                f"{it} = {value};\n" for it, value in zip(names, best)) + "----------\n")):
+        lines += ["solve maximize x0;"]
+        best = "".join(f"{it} = {value};\n" for it, value in zip(names, (50, 0, 1, 0, 1, 0, 1, 0)))
+        for name, text in ("wide.fzn", "\n".join(lines)), ("wide.other", f"{best}----------"):
             with open(os.path.join(self.folder, name), "w", encoding="utf-8") as file:
-                file.write(text)
-        ran = self.run("fzcheck-shrink", "--known", "wide.other", "wide.fzn", "--", *SOLVER,
-                       "--fault", "optimum")
-        self.check("a claim that another stream refutes", ran.returncode == 0
-                   and "wrong optimum" in ran.stderr and ran.stdout.count("\n") <= 3, ran)
+                file.write(f"{text}\n")
+        for option, value in ("--known", "wide.other"), ("--reference", "sh -c 'cat wide.other'"):
+            ran = self.run("fzcheck-shrink", option, value, "wide.fzn", "--", *SOLVER, "--fault",
+                           "optimum")
+            self.check(f"a claim that is refuted by {option}", ran.returncode == 0
+                       and "wrong optimum" in ran.stderr and ran.stdout.count("\n") <= 3, ran)
 
     def words(self) -> None:
         """Faults of the command line, and of a solver that isn't there."""
