@@ -62,6 +62,7 @@ DEFAULT = {
 # Solvers that can't be worked with, and what is told of them.
 BAD = {
     "prints without end": (["sh", "-c", "yes"], "output without end"),
+    "never ends": (["sh", "-c", "sleep 1000 & while :; do :; done"], "time limit"),
     "writes to its model": (["sh", "-c", LAST + 'echo "% x" >> "$it"; echo ----------', "sh"],
                             "model changed"),
     "prints what is no solution": (["sh", "-c", "echo x1 = 1"], "unreadable output"),
@@ -200,8 +201,9 @@ class Test:
         self.check("the script runs it until it is seen", shown.startswith("run "), shown)
 
     def bad(self, name: str, solver: List[str], kind: str) -> None:
-        told = self.fuzz(solver, "--models", "2", "--names", "int_ne", "--output", "bad",
-                         "--limit", LIMIT)
+        limit = "1" if kind == "time limit" else LIMIT
+        told = self.fuzz(solver, "--models", "1", "--names", "int_ne", "--output", "bad",
+                         "--limit", limit)
         kinds = [it["kind"] for it in told["faults"]]
         self.check(f"a solver that {name}", kind in kinds, told)
 
@@ -213,33 +215,34 @@ class Test:
                    == [["array_int_element"]], told)
 
     def known_stream(self) -> None:
-        """A claim that only another solver's stream refutes: the model has too many assignments."""
-        count = 7
-        names = [f"x{it}" for it in range(count)]
-        lines = [f"var 0..9: {it} :: output_var;" for it in names]
+        """A claim that only another solver's stream refutes, as the model has too many assignments
+        and the better objective is far."""
+        names = [f"x{it}" for it in range(8)]
+        lines = ["var {0,50}: x0 :: output_var;"]
+        lines += [f"var 0..9: {it} :: output_var;" for it in names[1:]]
         lines += [f"constraint int_ne({a},{b});" for a, b in zip(names, names[1:])]
-        lines += [f"constraint int_lin_eq([{','.join('1' * count)}],[{','.join(names)}],40);",
-                  "solve maximize x0;"]
-        best = [9, 8, 9, 0, 9, 0, 5]
-        for name, text in (("wide.fzn", "\n".join(lines) + "\n"), ("wide.other", "".join(
-                f"{it} = {value};\n" for it, value in zip(names, best)) + "----------\n")):
+        lines += ["solve maximize x0;"]
+        best = "".join(f"{it} = {value};\n" for it, value in zip(names, (50, 0, 1, 0, 1, 0, 1, 0)))
+        for name, text in ("wide.fzn", "\n".join(lines)), ("wide.other", f"{best}----------"):
             with open(os.path.join(self.folder, name), "w", encoding="utf-8") as file:
-                file.write(text)
-        ran = self.run("fzcheck-shrink", "--known", "wide.other", "wide.fzn", "--", *SOLVER,
-                       "--fault", "optimum")
-        self.check("a claim that another stream refutes", ran.returncode == 0
-                   and "wrong optimum" in ran.stderr and ran.stdout.count("\n") <= 3, ran)
+                file.write(f"{text}\n")
+        for option, value in ("--known", "wide.other"), ("--reference", "sh -c 'cat wide.other'"):
+            ran = self.run("fzcheck-shrink", option, value, "wide.fzn", "--", *SOLVER, "--fault",
+                           "optimum")
+            self.check(f"a claim that is refuted by {option}", ran.returncode == 0
+                       and "wrong optimum" in ran.stderr and ran.stdout.count("\n") <= 3, ran)
 
     def words(self) -> None:
         """Faults of the command line, and of a solver that isn't there."""
         nothing = ["--", "sh", "-c", "echo no >&2; exit 1"]
-        for words, status, told in (
-                ([], 5, "after --"), (["--", "no_such_solver"], 6, "no_such_solver"),
-                (["--names", "int_pluss", "--", *SOLVER], 5, "did you mean int_plus?"),
-                (["--secconds", "3", "--", *SOLVER], 5, "did you mean --seconds?"),
-                (["--numbers", "5..1", "--", *SOLVER], 5, "LOW..HIGH"),
-                (["--from", "no_such_folder", "--", *SOLVER], 6, "no_such_folder"),
-                (["--known", "no_such_file", "--", *SOLVER], 6, "no_such_file")):
+        wrong: List[Tuple[List[str], int, str]] = [
+            ([], 5, "after --"), (["--", "no_such_solver"], 6, "no_such_solver"),
+            (["--names", "int_pluss", "--", *SOLVER], 5, "did you mean int_plus?"),
+            (["--secconds", "3", "--", *SOLVER], 5, "did you mean --seconds?"),
+            (["--numbers", "5..1", "--", *SOLVER], 5, "LOW..HIGH"),
+            (["--from", "no_such_folder", "--", *SOLVER], 6, "no_such_folder"),
+            (["--known", "no_such_file", "--", *SOLVER], 6, "no_such_file")]
+        for words, status, told in wrong:
             ran = self.run("fzcheck-fuzz", *words)
             self.check(f"fzcheck-fuzz {words}", ran.returncode == status and told in ran.stderr
                        and len(ran.stderr.splitlines()) == 1, ran)
@@ -260,11 +263,11 @@ class Test:
         function = f"_{program.replace('-', '_')}"
         ask = (f'source "{path}.bash"; COMP_WORDS=("$@"); COMP_CWORD=$(($# - 1)); {function}; '
                'echo "${COMPREPLY[@]}"')
-        everything: Set[str] = own | {"-h", "-V", "--"}
-        for words, wanted in (["-"], everything), (["--", "fzn", "-"], set()):
-            offered = subprocess.run(["bash", "-c", ask, "bash", program, *words],
+        asked: List[Tuple[str, Set[str]]] = [("-", own | {"-h", "-V", "--"}), ("-- fzn -", set())]
+        for last, wanted in asked:
+            offered = subprocess.run(["bash", "-c", ask, "bash", program, *last.split()],
                                      stdout=subprocess.PIPE, universal_newlines=True).stdout
-            self.check(f"bash after {program} {words}", set(offered.split()) == wanted, offered)
+            self.check(f"bash after {program} {last}", set(offered.split()) == wanted, offered)
         with open(f"{path}.zsh", encoding="utf-8") as file:
             zsh = file.read().split("_arguments")[1]
         self.check(f"zsh after {program}", set(re.findall(r"(--[a-z][a-z-]+)", zsh)) == own, own)
@@ -274,7 +277,7 @@ class Test:
         streams = [it for it in there if not it.startswith("stream.")]  # of show.sh
         self.check("no file is left", streams == [], there)
         own = subprocess.run(["ps", "-eo", "args"], stdout=subprocess.PIPE, universal_newlines=True)
-        running = [it for it in own.stdout.splitlines() if self.folder in it]
+        running = [it for it in own.stdout.splitlines() if self.folder in it or it == "sleep 1000"]
         self.check("no process is left", running == [], running)
 
 

@@ -4,8 +4,8 @@ import re
 import subprocess
 from typing import Any, Dict, Iterable, List, NamedTuple, Tuple
 
-from fzcheck.fuzz.running import MOST_PRINTED
 from fzcheck.flatzinc import Argument, Model, Name, Reader, Value, text_of
+from fzcheck.fuzz.running import MOST_PRINTED
 
 MARKER = "-" * 10
 STEPS = "200000"  # of the checker's searches: a fuzzer asks for many

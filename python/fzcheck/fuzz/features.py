@@ -54,6 +54,7 @@ class Taken:
     choices: List[str] = field(default_factory=list)
     largest: int = MOST_NUMBER
     takes_all: bool = True  # the option for all solutions
+    is_stuck: bool = False  # it never ends, so that it isn't asked for more
 
     def add(self, other: "Taken") -> None:
         self.names += other.names

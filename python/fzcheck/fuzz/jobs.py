@@ -32,7 +32,8 @@ class Asking(NamedTuple):
     def run(self, folder: str, tell: Tell, is_over: IsOver) -> None:
         prober = Prober(self.setting, self.seed, folder)
         own = self.declarations
-        found = Taken(features=own.features, largest=own.largest, takes_all=own.takes_all)
+        found = Taken(features=own.features, largest=own.largest, takes_all=own.takes_all,
+                      is_stuck=own.is_stuck)
         for names in self.families:
             if is_over():
                 found.unasked += names

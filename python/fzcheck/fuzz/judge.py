@@ -4,7 +4,7 @@ Its claims are proved or refuted by `fzcheck` where that can; where it can't, sm
 enumerated, and known solutions refute what they can."""
 import os
 from functools import cached_property
-from typing import Iterator, List, Optional, Sequence, Tuple
+from typing import Iterator, List, Optional, Sequence
 
 from fzcheck.flatzinc import Model, Name, Stream, stream_of
 from fzcheck.fuzz.checking import (
@@ -291,9 +291,3 @@ class Judgement:
 def number(value: object) -> int:
     assert isinstance(value, int)
     return value
-
-
-def outcomes(case: Case, ways: List[List[str]]) -> Iterator[Tuple[List[str], Outcome]]:
-    """What the solver shows on the model, asked in each of these ways."""
-    for options in ways:
-        yield options, case.outcome(options)

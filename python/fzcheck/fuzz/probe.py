@@ -7,12 +7,12 @@ from fzcheck.flatzinc import Model, Reader
 from fzcheck.fuzz.checking import Setting
 from fzcheck.fuzz.features import (
     CHOICES, MOST_NUMBER, SATISFY, SELECTS, SOME_INTEGER, STANDARD, Feature, Taken, search_note)
-from fzcheck.fuzz.faults import Outcome
+from fzcheck.fuzz.faults import Kind, Outcome
 from fzcheck.fuzz.judge import Case
 from fzcheck.fuzz.make import Maker, Shape
 
 LARGEST = (MOST_NUMBER // 2, 2**53, 2**31 - 3, 2**24, 2**15)
-MOST_LIMIT = 2  # seconds of a probe
+MOST_LIMIT, MOST_PRINTED = 2, 2**20  # seconds and bytes of a probe
 MOST_MAKING = 5  # times that a model for a name is made
 TOGETHER = "var bool: x0 :: output_var;\nvar set of 1..3: x1 :: output_var;\n" \
     "var {1,3,4}: x2 :: output_var :: is_defined_var;\nvar int: x3 :: output_var;\n" \
@@ -29,7 +29,8 @@ def in_folder(ask: Callable[[str], Taken]) -> Taken:
 
 class Prober:
     def __init__(self, setting: Setting, seed: str, folder: str) -> None:
-        self.setting = setting._replace(limit=min(setting.limit, MOST_LIMIT), reference=[])
+        self.setting = setting._replace(limit=min(setting.limit, MOST_LIMIT), reference=[],
+                                        most_printed=MOST_PRINTED)
         self.seed, self.folder = seed, folder
 
     def ask(self, model: Model, options: Optional[List[str]] = None) -> Outcome:
@@ -41,6 +42,10 @@ class Prober:
     def declarations(self) -> Taken:
         """All but names. What a solver takes together it takes alone."""
         found = Taken()
+        plainest = self.ask(Reader(SOME_INTEGER + SATISFY).model())
+        if any(it.kind in (Kind.SLOW, Kind.ENDLESS) for it in plainest.faults):
+            found.is_stuck = True
+            return found
         found.features = set(Feature) if self.takes(TOGETHER) else {
             it for it in Feature if self.takes(it.value)}
         found.takes_all = self.takes(SOME_INTEGER + SATISFY, [self.setting.all_option])
@@ -64,6 +69,9 @@ class Prober:
     def family(self, names: List[str], found: Taken) -> None:
         """A name and its reified forms. Where a solver doesn't take a global constraint, it isn't
         asked for forms of it."""
+        if found.is_stuck:
+            found.names += names
+            return
         for name in names:
             is_asked = name == names[0] or name.startswith(STANDARD) or names[0] in found.names
             outcome = self.name(name, found) if is_asked else None

@@ -151,7 +151,9 @@ def setting_for(setting: Setting, kind: Kind) -> Setting:
 def shrunk(setting: Setting, case: Case, fault: Fault, folder: str, seconds: float) -> Small:
     """Makes a model small; one of whose fault comes and goes is run several times at each step."""
     own = setting_for(setting, fault.kind)
-    times = len(seen(Case(own, case.model, folder, case.known), fault, TIMES))
+    times = TIMES  # runs to the limit are dear, and hardly ever come and go
+    if fault.kind != Kind.SLOW:
+        times = len(seen(Case(own, case.model, folder, case.known), fault, TIMES))
     shrinker = Shrinker(own, folder, copy.deepcopy(case.model), fault, Allowance(seconds),
                         case.known, RUNS[times])
     shrinker.run()
