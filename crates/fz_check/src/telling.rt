@@ -16,11 +16,11 @@ ghost use Rattle.fz_check.specs.Writing.{Adds, WritesFront, Wrote};
 use crate::account::Answer;
 use crate::claims::{Refutation, Refuter, Statement};
 use crate::error::CheckError;
-use crate::event::{Cut, Event, Judged, Taker};
+use crate::event::{Event, Judged, Taker};
 use crate::jury::Jury;
 use crate::reader::PartReader;
 use crate::writing::{WriteFailed, write_lines};
-use fz_stream::Part;
+use fz_stream::{Part, Span};
 use std::alloc::{AllocError, Global};
 use std::io::Write;
 
@@ -116,13 +116,13 @@ fn tell_part<T: Taker>(
 fn make_cut<T: Taker>(
     taker: &mut T,
     line: &mut Vec<u8>,
-    cut: Option<Cut<'_>>,
+    cut: Option<Span>,
 ) -> Result<(), AllocError>
     ensures { OnOk result (AreOf T.text (cut_events cut) line.new.items) }
 {
     line.clear();
     match cut {
-        Some(cut) => taker.take(&Event::Cut(cut), line),
+        Some(span) => taker.take(&Event::Cut(span), line),
         None => Ok(()),
     }
 }
@@ -133,7 +133,7 @@ pub(crate) fn tell_end<T: Taker>(
     taker: &mut T,
     line: &mut Vec<u8>,
     lines: &mut Vec<u8>,
-    cut: Option<Cut<'_>>,
+    cut: Option<Span>,
     answer: Answer,
 ) -> Result<Answer, CheckError>
     ensures told { OnOk result (Adds (AreOf T.text (cut_events cut
