@@ -3,8 +3,7 @@
 use crate::reading::Unread;
 use crate::refusing::unread_text;
 use fz_check::{
-    CheckError, ClaimKind, Cut, Fault, Judged, Reason, Refutation, Refuter, Verdict, claim_text,
-    shown_front,
+    CheckError, ClaimKind, Fault, Judged, Reason, Refutation, Refuter, Span, Verdict, claim_text,
 };
 use fz_files::Object;
 use std::alloc::{AllocError, Global};
@@ -157,11 +156,10 @@ pub fn refuted_line(alloc: Global, refutation: &Refutation<'_>) -> Result<Vec<u8
     object.line()
 }
 
-/// The line of what was cut off, with its byte range and the front of its first line.
-pub fn cut_line(alloc: Global, cut: &Cut<'_>) -> Result<Vec<u8>, AllocError> {
+/// The line of what was cut off, with its byte range.
+pub fn cut_line(alloc: Global, span: Span) -> Result<Vec<u8>, AllocError> {
     let mut object = Object::new(alloc);
-    object.pair("cut", cut.span.start, cut.span.end);
-    object.word("from", shown_front(cut.text));
+    object.pair("cut", span.start, span.end);
     object.line()
 }
 
