@@ -188,7 +188,8 @@ def message_lines(it, model, stream):
     name = stream if re.match("printed .* differs", it["message"]) else model
     if "refused" in it and it["refused"] != "model":
         name = stream
-    more = [f"... and {it['points_left_out']} more points fail"] * ("points_left_out" in it)
+    left_out = it.get("points_left_out", 0)
+    more = [f"... and {left_out} more points fail"] if left_out else []
     return [f"{name}:{it['line']}:{it['column']}: {it['message']}", *notes, *it.get("notes", []), *more]
 
 

@@ -99,7 +99,7 @@ def given(programs, command, text, stream):
             with open(os.path.join(folder, name), "wb") as f:
                 f.write(content.encode("latin-1"))
         words = [programs[program], *words]
-        err = subprocess.STDOUT if "--explain" in words else subprocess.PIPE
+        err = subprocess.STDOUT if "--explain" in command else subprocess.PIPE
         try:
             ran = subprocess.run(
                 words, cwd=folder, stdout=subprocess.PIPE, stderr=err, timeout=MOST_SECONDS
