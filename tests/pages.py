@@ -179,12 +179,14 @@ def bad(place, name):
 
 def opened(browser, folder, path):
     """Chromium takes pictures of the page, and prints it."""
-    words = [browser, "--headless", "--no-sandbox", "--disable-gpu", f"--user-data-dir={folder}/own"]
+    words = [browser, "--headless", "--no-sandbox", "--disable-gpu",
+             f"--user-data-dir={folder}/own"]
     name = os.path.basename(path)
     for size in SIZES:
         picture = os.path.join(folder, "picture.png")
-        subprocess.run([*words, f"--window-size={size}", f"--screenshot={picture}", f"file://{path}"],
-                       stdout=subprocess.DEVNULL, stderr=subprocess.DEVNULL)
+        sized = f"--window-size={size}", f"--screenshot={picture}"
+        subprocess.run([*words, *sized, f"file://{path}"], stdout=subprocess.DEVNULL,
+                       stderr=subprocess.DEVNULL)
         with open(picture, "rb") as file:
             expect(f"{name}: a picture", b"\x89PNG", file.read(4))
         os.remove(picture)

@@ -24,8 +24,8 @@ from fzcheck.mzn.values import Array, Term
 
 SHOP = os.path.join(ROOT, "tests", "pages", "shop")
 ENUMS = {"Job": ["Saw", "Plane", "Glue"], "Shift": ["Early", "Late"]}
-# A FlatZinc with its table: `first` is of an enum, `on` an array by one, Y a variable of a constraint
-# that is without a name in the FlatZinc, Z one that Y is defined by.
+# A FlatZinc with its table: `first` is of an enum, `on` an array by one. Y and Z have no names in
+# the model; Y is defined by A and Z, and Z by B.
 FLATZINC = """var 1..3: first;
 var 1..2: A;
 var 1..2: B;
@@ -78,7 +78,7 @@ def verdicts(place):
 
 
 def groups(place):
-    """All that fails is told by groups; `--first` stops at one, `--flatzinc` shows what is behind."""
+    """All that fails is told by groups; `--first` stops at one, `--flatzinc` shows more."""
     for file in ("model.mzn", "data.dzn"):
         shutil.copy(os.path.join(SHOP, file), place.path(file))
     with open(os.path.join(SHOP, "bad"), encoding="utf-8") as file:
@@ -105,8 +105,8 @@ def told_of(folder, *objects):
     names = {"first": Name("own", enum="Job"), "two": Name("own", is_array=True, size=2),
              "on": Name("own", is_array=True, dimensions=[[1, 3]], size=3, enum="Shift",
                         index_enums=("Job",))}
-    values = [Printed("first", Term("Plane"), 1, []),
-              Printed("on", Array([3], [None], [Term("Early"), Term("Late"), Term("Early")]), 2, [])]
+    on = Array([3], [None], [Term("Early"), Term("Late"), Term("Early")])
+    values = [Printed("first", Term("Plane"), 1, []), Printed("on", on, 2, [])]
     model = Model(folder, names, ENUMS, "", [])
     return Told(Source(model, "plan", ["first = Plane;", "on = ..;"], [Solution(values, 3)], [1, 2],
                        None), list(objects))
@@ -118,18 +118,19 @@ def variable(name, value=None, source="printed", **more):
 
 
 def explained(line, message, reason, *variables, **more):
-    """An explanation, whose reason is a list of parts: words, or a kind, a text and what it is of."""
+    """An explanation. Its reason is a list of parts: words, or a kind, a text and what it is of."""
     parts = [{"kind": "words", "text": part} if isinstance(part, str) else
              dict(zip(("kind", "text", "variable", "element"), part)) for part in reason]
     texts = {"reason": "".join(part["text"] for part in parts), "reason_parts": parts}
-    return {"explained": 1, "line": line, "column": 12, "message": message, **(texts if parts else {}),
-            "variables": list(variables), "notes": [], "notes_parts": [], **more}
+    return {"explained": 1, "line": line, "column": 12, "message": message,
+            **(texts if parts else {}), "variables": list(variables), "notes": [],
+            "notes_parts": [], **more}
 
 
 def words(folder):
     """Values of enums by their names on both sides, elements by their indices."""
     violated = {"block": 1, "verdict": "violated", "point": "constraint", "line": 11}
-    place = {"model": {"names": [], "place": "m.mzn:4:12", "loops": [], "line": "constraint a != b;"}}
+    model = {"names": [], "place": "m.mzn:4:12", "loops": [], "line": "constraint a != b;"}
     elements = variable("A", 1, element="on[Saw]"), variable("B", 1, element="on[Plane]")
     for what, reason, wanted in (
         ("a value", [("variable", "first", "first"), " = ", ("value", "2", "first"), ", not ",
@@ -143,8 +144,8 @@ def words(folder):
         ("no value", ["state ", ("value", "7", "first"), " ", ("value", "true", "A")],
          "state 7 true"),
     ):
-        told = told_of(folder, violated, explained(11, "constraint 4 int_ne fails in block 1", reason,
-                                                   *elements, **place))
+        told = told_of(folder, violated, explained(
+            11, "constraint 4 int_ne fails in block 1", reason, *elements, model=model))
         expect(what, [wanted], list(told.failures[0].reasons))
     expect("values", ["on[Saw] = Early", "on[Plane] = Early"],
            [fact.text for fact in told.failures[0].facts])
@@ -185,8 +186,8 @@ def lines(folder):
     claim = "=========="
     for found, line in (
         ({"block": 1, "verdict": "satisfied"}, "block 1: satisfied"),
-        ({"block": 2, "verdict": "violated", "point": "objective", "now": 9, "before": 5, "line": 12},
-         "block 2: violated: objective 9 not better than 5"),
+        ({"block": 2, "verdict": "violated", "point": "objective", "now": 9, "before": 5,
+          "line": 12}, "block 2: violated: objective 9 not better than 5"),
         ({"block": 1, "verdict": "violated", "point": "printed", "name": "first", "line": 1},
          "block 1: violated: printed first"),
         ({"block": 1, "verdict": "undecided", "reason": "no value", "name": "first", "line": 1},

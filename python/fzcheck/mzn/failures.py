@@ -10,6 +10,7 @@ from fzcheck.mzn.stream import OF_NO_MODEL
 from fzcheck.mzn.wording import Wording, json_text, printed_values, value_text
 
 NAMELESS = "constraint"  # the subject where the model has no name for it
+KNOWN = "value", "low", "high"  # what is known of a variable
 REASONS = {
     "no value": "no value for {name}",
     "not known": "{subject} isn't known",
@@ -166,7 +167,7 @@ class Reader:
             return f"{name} = none: it isn't printed, and what is printed doesn't give it"
         told = {key: json_text(self.wording.value(self.named(variable), variable[key]),
                                variable.get("left_out"))
-                for key in ("value", "low", "high") if key in variable}
+                for key in KNOWN if key in variable}
         known = f"= {told['value']}" if "value" in told else f"is {told['low']}..{told['high']}"
         return f"{name} {known}{self.origin(variable)}"
 
@@ -202,6 +203,6 @@ class Reader:
             yield found["reason"]
         for variable in found["variables"]:
             at = f", line {variable['line']}" if "line" in variable else ""
-            known = [json_text(variable[key]) for key in ("value", "low", "high") if key in variable]
+            known = [json_text(variable[key]) for key in KNOWN if key in variable]
             yield f"{variable['name']} = {'..'.join(known)}, {variable.get('source', 'none')}{at}"
             yield from (f"  {reason}" for reason in variable.get("behind", ()))

@@ -51,7 +51,8 @@ def grouped(failures: List[Failure]) -> List[Group]:
     groups: Dict[Tuple[object, ...], Group] = {}
     for failure in failures:
         place = failure.place if failure.subject == NAMELESS else None
-        groups.setdefault((failure.block, failure.subject, place), Group([])).failures.append(failure)
+        key = failure.block, failure.subject, place
+        groups.setdefault(key, Group([])).failures.append(failure)
     return list(groups.values())
 
 

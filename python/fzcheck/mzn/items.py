@@ -1,4 +1,5 @@
-"""The items of a model's FlatZinc: which names of the model they are about, and where they are from.
+"""The items of a model's FlatZinc: which names of the model they are about, and where in it they
+come from.
 
 The compiler writes each item in a line. In its table of names a line is a name of the FlatZinc, or
 a constraint's number from 0, then the model's name, and the path to it, with tabs between. A path
@@ -179,7 +180,8 @@ class Items:
 def origin_of(path: str) -> str:
     """The front of a path up to its last loop variable, or else its first segment."""
     segments = path.split(";")
-    last = max((at for at, segment in enumerate(segments) if is_loop(segment.split("|"))), default=0)
+    loops = [at for at, segment in enumerate(segments) if is_loop(segment.split("|"))]
+    last = max(loops, default=0)
     return ";".join(segments[: last + 1]) + ";"
 
 

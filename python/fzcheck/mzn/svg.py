@@ -146,7 +146,8 @@ def boxes(drawing: Drawing, lane: Lane) -> None:
     if not lane.tasks:
         return
     across = min(0, *(box.start for box in lane.tasks)), max(box.end for box in lane.tasks)
-    along = min(0, *(box.low for box in lane.tasks)), max(box.low + box.height for box in lane.tasks)
+    ends = [box.low + box.height for box in lane.tasks]
+    along = min(0, *(box.low for box in lane.tasks)), max(ends)
     wide, high = max(across[1] - across[0], 1), max(along[1] - along[0], 1)
     left = LEFT if lane.label else LEFT_OF_BOXES
     steps = [min((WIDTH - left - RIGHT) / wide, LARGEST), min(HIGHEST / high, LARGEST)]
