@@ -133,7 +133,7 @@ def tried(folder, model):
                f"status {ran.returncode}, {left} not named in:\n{told}")
         if status == 1:
             said = truth(folder, model, plan)
-            expect(f"{model.name}: {what}, by MiniZinc", said is False, said)
+            expect(f"{model.name}: {what}, by MiniZinc", said is not True, said)
 
 
 def changed(plan, rand):

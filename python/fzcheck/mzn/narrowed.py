@@ -1,4 +1,4 @@
-"""Which constraint of the model narrowed a domain that fails.
+"""Which constraint of the model narrowed a domain that fails, or fixed a value.
 
 The compiler narrows domains by constraints that it then leaves out. So the model is compiled with
 one of its constraints at a time, and the plan is checked against that, as long as it is cheap."""
@@ -15,7 +15,9 @@ MOST_TRIED, MOST_SECONDS = 20, 30.0
 MOST_BYTES = 5_000_000  # of a FlatZinc that is compiled anew
 DOMAIN = re.compile(r"domain of (\w+) fails in block (\d+)")
 NAMED = re.compile(r'constraint\s*::\s*("(?:[^"\\\n]|\\.)*")')
-# The blocks that are violated, with the names of which a domain fails, each with a `;` behind it.
+PRINTED = re.compile(r"printed (\w+) differs in block (\d+)")
+# The blocks that are violated, with the names of which a domain, or what is printed, fails, each
+# with a `;` behind it.
 Judge = Callable[[Model], Dict[int, str]]
 
 
@@ -23,6 +25,14 @@ class Guilty(NamedTuple):
     """A constraint that a block violates, and its name in quotes, if it has one."""
     item: SourceItem
     name: str
+
+    @property
+    def place(self) -> str:
+        return f"{shown_path(self.item.path)}:{self.item.line}"
+
+    def told(self) -> Object:
+        line = self.item.text.partition("\n")[0]
+        return {"name": self.name, "line": line, "place": f"{self.place}:1"}
 
 
 class Narrowing:
@@ -38,45 +48,55 @@ class Narrowing:
 
     def told(self, found: Object) -> Object:
         """An explanation; of a domain that was narrowed with what it was, and by what."""
-        domain = DOMAIN.match(found.get("message", ""))
-        if "explained" not in found or not domain or not self.is_cheap():
+        name = narrowed_name(found)
+        if not name or not self.is_cheap():
             return found
-        block = int(domain[2])
+        is_fixed = found["message"].startswith("printed ")
+        if is_fixed and not self.is_in_flatzinc(name):
+            return found
+        block = int(found["explained"])
         bare = self.blocks(None)
         if bare is None or block in bare:
             return found  # by its own declaration, or that can't be told
-        guilty = self.guilty(found, block)
-        text = self.text(found, guilty)
+        guilty = self.guilty(found, block, name)
+        text = self.text(found, guilty, is_fixed)
         notes = [*found["notes"], text]
         parts = [*found.get("notes_parts", ()), [{"kind": "words", "text": text}]]
-        more = {"narrowed": {"name": guilty.name, "line": guilty.item.text.partition("\n")[0],
-                             "place": f"{shown_path(guilty.item.path)}:{guilty.item.line}:1"}} if guilty else {}
+        more = {"narrowed": guilty.told()} if guilty and not is_fixed else {}
         return {**found, "notes": notes, "notes_parts": parts, **more}
+
+    def is_in_flatzinc(self, flat: str) -> bool:
+        """Whether the FlatZinc itself says what a name is."""
+        return any(name.flat == flat and name.how in ("own", "single")
+                   for name in self.model.names.values())
 
     def is_cheap(self) -> bool:
         return os.path.getsize(os.path.join(self.model.folder, MODEL)) <= MOST_BYTES
 
-    def text(self, found: Object, guilty: Optional[Guilty]) -> str:
-        """The line on what a domain was, and what narrowed it."""
+    def text(self, found: Object, guilty: Optional[Guilty], is_fixed: bool) -> str:
+        """The line on what a domain was, and what narrowed it, or what fixed a value."""
         by = "another constraint"
         if guilty:
-            by = f"{guilty.name or 'the constraint'}, {shown_path(guilty.item.path)}:{guilty.item.line}"
+            by = f"{guilty.name or 'the constraint'}, {guilty.place}"
+        if is_fixed:
+            return f"the compiler left no other value, by {by}"
         source = declared(self.sources, element(found).partition("[")[0])
         kind = re.sub(r"^(?:array\s*\[.*?\]\s*of\s+)?(?:var\s+)?(?:opt\s+)?", "",
                       source.kind if source else "")
         return f"narrowed by the compiler{f' from {kind}' if kind else ''}, by {by}"
 
-    def guilty(self, found: Object, block: int) -> Optional[Guilty]:
+    def guilty(self, found: Object, block: int, name: str) -> Optional[Guilty]:
         """The first constraint that narrows a domain alone so that it fails, or else the first that
-        fails at all; those that may have to do with it come first."""
-        name = element(found)
+        fails at all; those that may have to do with it come first. The compiler's own variables
+        have other names in each model."""
+        is_own = name.startswith("X_INTRODUCED_")
         last: Optional[Guilty] = None
         for number in self.order(found)[:MOST_TRIED]:
             domains = (self.blocks(number) or {}).get(block)
             item = self.constraints[number]
             named = NAMED.match(item.text)
             guilty = Guilty(item, named[1] if named else "")
-            if domains and f"{name};" in domains:
+            if domains and (is_own or f"{name};" in domains):
                 return guilty
             last = guilty if last is None and domains is not None else last
         return last
@@ -129,6 +149,15 @@ class Narrowing:
         inputs.words.extend(paths.get(word, word) for word in self.inputs.words)
         inputs.files.extend(paths.get(path, path) for path in self.inputs.files)
         return compiled_beside(inputs, folder)
+
+
+def narrowed_name(found: Object) -> str:
+    """The name of which a domain, or a printed value, fails; an empty one at another point."""
+    message = found.get("message", "") if "explained" in found else ""
+    printed = PRINTED.match(message)
+    if printed:
+        return printed[1]
+    return element(found) if DOMAIN.match(message) else ""
 
 
 def element(found: Object) -> str:

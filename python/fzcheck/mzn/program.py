@@ -33,7 +33,7 @@ from fzcheck import common
 from fzcheck.mzn.command import Words, Wrong, words_of
 from fzcheck.mzn.computed import OutputModel
 from fzcheck.mzn.model import MODEL, TABLE, Failed, Model, compiled
-from fzcheck.mzn.narrowed import Narrowing
+from fzcheck.mzn.narrowed import Narrowing, narrowed_name
 from fzcheck.mzn.notes import Notes
 from fzcheck.mzn.page import page
 from fzcheck.mzn.plan import Plan, Refused, Solution
@@ -114,10 +114,9 @@ class Translation:
         for one in map(json.loads, checked(words, model, path, []).stdout.splitlines()):
             if one.get("verdict") == "violated":
                 found[one["block"]] = ""
-            elif one.get("message", "").startswith("domain ") and one["variables"]:
-                variable = one["variables"][0]
-                found.setdefault(one["explained"], "")
-                found[one["explained"]] += f"{variable.get('element', variable['name'])};"
+            elif "explained" in one:
+                name = narrowed_name(one)
+                found[one["explained"]] = f"{found.get(one['explained'], '')}{name};"
         return found
 
     def refuse_floats(self) -> None:
