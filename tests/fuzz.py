@@ -20,6 +20,7 @@ HERE = os.path.dirname(os.path.abspath(__file__))
 ROOT = os.path.dirname(HERE)
 SOLVER = [sys.executable, "-S", os.path.join(HERE, "fuzzed", "run.py")]
 SEED, MOST_CONSTRAINTS, LONG_TIME, LIMIT = "1", 3, "1800", "5"
+SLEEP = f"sleep 1000.{os.getpid()}"  # that of this test, of several side by side
 LAST = 'for it; do :; done; '  # the shell's way to the last word, the model
 FILES = {"model.fzn", "before.fzn", "stream", "fault", "cause", "report", "show.sh"}
 ANSWERS = ("wrong solution", "lost solutions", "wrong optimum")
@@ -62,7 +63,7 @@ DEFAULT = {
 # Solvers that can't be worked with, and what is told of them.
 BAD = {
     "prints without end": (["sh", "-c", "yes"], "output without end"),
-    "never ends": (["sh", "-c", "sleep 1000 & while :; do :; done"], "time limit"),
+    "never ends": (["sh", "-c", f"{SLEEP} & while :; do :; done"], "time limit"),
     "writes to its model": (["sh", "-c", LAST + 'echo "% x" >> "$it"; echo ----------', "sh"],
                             "model changed"),
     "prints what is no solution": (["sh", "-c", "echo x1 = 1"], "unreadable output"),
@@ -277,7 +278,7 @@ class Test:
         streams = [it for it in there if not it.startswith("stream.")]  # of show.sh
         self.check("no file is left", streams == [], there)
         own = subprocess.run(["ps", "-eo", "args"], stdout=subprocess.PIPE, universal_newlines=True)
-        running = [it for it in own.stdout.splitlines() if self.folder in it or it == "sleep 1000"]
+        running = [it for it in own.stdout.splitlines() if self.folder in it or it == SLEEP]
         self.check("no process is left", running == [], running)
 
 
