@@ -96,7 +96,8 @@ def unnamed_places() -> List[pathlib.Path]:
     steps = (ROOT / "CONTRIBUTING.md").read_text().split("\n## A builtin\n")[1].split("\n## ")[0]
     named = {ROOT / folder / path for path in PATH.findall(steps) for folder in ("", "crates")}
     folders = (folder for place in HOLDS_BUILTINS for folder in ROOT.glob(place))
-    files = {path for folder in folders for path in folder.rglob("*.*") if path.is_file()}
+    files = {path for folder in folders for path in folder.rglob("*.*")
+             if path.is_file() and "__pycache__" not in path.parts}
     texts = ((path, path.read_bytes().decode(errors="replace")) for path in sorted(files - named))
     return [path.relative_to(ROOT) for path, text in texts if EXAMPLE.search(text)]
 
