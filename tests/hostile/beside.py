@@ -7,6 +7,7 @@ from running import ROOT
 
 sys.path.insert(0, os.path.join(ROOT, "tests", "corpus"))
 import slow
+from short import is_short
 
 EXAMPLES = os.path.join(ROOT, "examples")
 CORPUS = os.path.join(ROOT, "tests", "corpus")
@@ -57,15 +58,25 @@ def second(model, stream):
 
 
 def second_cut(model, stream):
-    """The same with --cut: where the end is inside a block, what is said of the bytes before it."""
+    """The same with --cut: where only the end of the last block is missing, what is said of the bytes
+    before it."""
     want = second(model, stream)
     unfinished = rb"refused: stream: Unfinished at (\d+)\.\.(\d+)\n"
     opened = re.fullmatch(unfinished, want[2]) if want else None
     if not opened or b"\n" in stream[int(opened[2]) :]:
         return want  # behind the block is a claim's line, with its LF
-    status, out, err = second(model, stream[: int(opened[1])])
+    before, text = stream[: int(opened[1])], stream[int(opened[1]) :]
+    if not is_short(slow.Model(model).names, text.decode("latin-1")):
+        return want
+    status, out, err = second(model, before)
     *lines, answer = out.splitlines(True)
-    return status, b"".join([*lines, b"cut: %b..%b\n" % opened.groups(), answer]), err
+    told = b'cut: %b..%b, from "%b"\n' % (*opened.groups(), shown(text))
+    return status, b"".join([*lines, told, answer]), err
+
+
+def shown(text):
+    """What is shown of a text that is cut off."""
+    return re.match(rb"[ -~]{0,60}", text)[0]
 
 
 def text_of(lines):

@@ -1,5 +1,6 @@
 """The report of `fzcheck check --json` in the planner's words, as text or as JSON."""
 import json
+import re
 from typing import Any, Dict, Iterator, List, NamedTuple, Optional, Tuple
 
 from fzcheck.mzn.failures import Failure, Reader, undecided
@@ -10,6 +11,7 @@ from fzcheck.mzn.plan import Solution
 from fzcheck.mzn.wording import Wording, joined
 
 Object = Dict[str, Any]
+SHOWN = re.compile(rb"[ -~]{0,60}")  # of what is cut off
 
 
 class Source(NamedTuple):
@@ -33,8 +35,14 @@ class Source(NamedTuple):
             found["line"] = self.line(found["line"])
             found.pop("column", None)
         if "cut" in found and self.cut:
-            found["cut"] = list(self.cut)
+            found["cut"], found["from"] = list(self.cut), self.cut_front(self.cut[0])
         return found
+
+    def cut_front(self, at: int) -> str:
+        """What is shown of the plan's text from this byte on, which is cut off."""
+        text = "\n".join(self.text).encode("utf-8", "surrogateescape")
+        shown = SHOWN.match(text, at)
+        return shown[0].decode() if shown else ""
 
 
 class Told:
@@ -65,7 +73,7 @@ class Told:
         if "claim" in found:
             return claim_line(found)
         if "cut" in found:
-            return "cut: {}..{}".format(*found["cut"])
+            return 'cut: {}..{}, from "{}"'.format(*found["cut"], found["from"])
         if "answer" in found:
             return answer_line(found)
         if "not_checked" in found:
