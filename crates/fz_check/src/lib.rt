@@ -8,6 +8,7 @@
 mod account;
 mod checking;
 mod claims;
+mod cutting;
 mod error;
 mod event;
 mod judge;
@@ -32,7 +33,7 @@ pub use account::Answer;
 pub use checking::{check, read_model, show, show_printing_all, show_with};
 pub use claims::{Best, Claims, Known, Proofs, Refutation, Refuter, Saying, Source, Statement};
 pub use error::CheckError;
-pub use event::{Event, Judged, Taker, TextTaker};
+pub use event::{Cut, Event, Judged, Taker, TextTaker};
 pub use fz_filling::{BlockError, Completion, Fault, Reason, Verdict, fill, fill_with_steps};
 pub use fz_index::Ends;
 pub use fz_search::Branch;
@@ -40,11 +41,13 @@ pub use fz_store::{Model, ModelError};
 pub use fz_stream::{Claim, ClaimKind, Limits, Span, StreamError, SyntaxError};
 pub use judge::Judge;
 pub use learning::{Listener, learn};
-pub use line::{block_text, claim_text};
+pub use line::{block_text, claim_text, shown_front};
 pub use options::{Ending, Options};
 pub use refusal::{Told, refusal_fault, refusal_text, status};
 pub use report::{Report, report_text};
-pub use streaming::{MOST_READS, check_events, check_loaded, check_stream, check_stream_up_to};
+pub use streaming::{
+    MOST_READS, check_events, check_loaded, check_stream, check_stream_up_to,
+};
 
 /// What the lines say that were written before a refusal is so, as it is of a report: of the
 /// verdicts, and of the claims that are refuted or proved.
