@@ -14,6 +14,9 @@ from typing import Set
 from expecting import end, expect, first
 
 ROOT = os.path.dirname(os.path.dirname(os.path.abspath(__file__)))
+sys.path.insert(0, os.path.join(ROOT, "python"))
+from fzcheck.mzn.command import OPTIONS
+
 ASK = """source "$0"; COMP_WORDS=("$@"); COMP_CWORD=$(($# - 1)); _%s
 echo "${COMPREPLY[@]}" """
 BATCH = os.path.join(ROOT, "python", "fzcheck-batch")
@@ -64,6 +67,21 @@ def compare_fuzzer(program: str) -> None:
     expect(f"a solver's option after {program}", set(), by_bash("--", "fzn", "-", program=program))
 
 
+def compare_plans() -> None:
+    """The options of fzcheck-mzn, which are read from its list."""
+    own = {it.split("=")[0] for it in OPTIONS}
+    offered = by_bash("-", program="fzcheck-mzn")
+    expect("fzcheck-mzn, by bash", set(OPTIONS), offered)
+    zsh = read("completions/fzcheck-mzn.zsh").split("_arguments")[1]
+    heads = " ".join(re.findall(r"(?m)^(.*?)\[", zsh))
+    found = set(re.findall(r"--?[A-Za-z][a-z-]*", heads))
+    expect("fzcheck-mzn, by zsh", own, found)
+    expect("a file behind fzcheck-mzn", set(), by_bash("m", program="fzcheck-mzn"))
+    for option, value in (("--claims", "prove"), ("--explain", "all")):
+        expect(f"{option}= of fzcheck-mzn", {value},
+               by_bash(option, "=", program="fzcheck-mzn"))
+
+
 def main(program: str) -> int:
     words, zsh = read("crates/fz_command/src/words.rt"), read("completions/fzcheck.zsh")
     options = set(re.findall(r'\("([a-z-]+)", Kind::', words))
@@ -92,6 +110,7 @@ def main(program: str) -> int:
     expect("commands behind help, by bash", commands - {"help"}, by_bash("help", ""))
     expect("options, by bash", {"-h", "--help", "-V", "--version"}, by_bash("-"))
     compare_batch({f"--{it}" for it in options})
+    compare_plans()
     compare_fuzzer("fzcheck-fuzz")
     compare_fuzzer("fzcheck-shrink")
     return end()

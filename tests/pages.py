@@ -15,8 +15,8 @@ import tempfile
 from html.parser import HTMLParser
 
 from plan import COMMAND, KEPT, MINIZINC
-from solver import ROOT, Place, expect
-import solver
+from expecting import end, expect
+from solver import ROOT, Place
 
 FOLDER = os.path.join(ROOT, "tests", "pages")
 EMPTY = ("meta",)  # elements without an end
@@ -210,8 +210,7 @@ def main():
                 opened(browser, folder, path)
         else:
             print("no Chromium is on the path: the pages aren't opened")
-    print(f"{solver.passed} passed, {solver.failed} failed")
-    return 1 if solver.failed else 0
+    return end()
 
 
 if __name__ == "__main__":

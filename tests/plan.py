@@ -388,7 +388,7 @@ def command_lines(place):
     for word in ("-h", "--help", "--version"):
         got = place.run(COMMAND, word)
         expect(word, (0, True, ""), (got[0], got[1].startswith(
-            "fzcheck-mzn 0." if word == "--version" else "Checks what"), got[2]))
+            "fzcheck-mzn with fzcheck 0." if word == "--version" else "Checks what"), got[2]))
 
 
 def known(place):

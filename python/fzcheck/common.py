@@ -20,16 +20,6 @@ def program() -> Optional[str]:
     return os.environ.get("FZCHECK") or shutil.which("fzcheck", path=os.pathsep.join(program_places()))
 
 
-def version() -> str:
-    """The version of the program, with which its companions come."""
-    try:
-        told = subprocess.run([program() or "fzcheck", "--version"], stdout=subprocess.PIPE,
-                              encoding="utf-8", check=False).stdout
-    except OSError:
-        return "of unknown version: there is no fzcheck"
-    return told.partition(" ")[2].strip()
-
-
 def program_places() -> Iterator[str]:
     """The folders where the program may be. A checkout's build without proof comes after one with
     proof."""
@@ -63,10 +53,11 @@ def with_defaults(options: Sequence[str], defaults: Sequence[str] = TELLING) -> 
 
 def version_words(companion: str) -> str:
     """What a companion says of its version, which is that of the program that it would run."""
-    found = program()
-    if not found:
+    try:
+        told = subprocess.run([program() or "fzcheck", "--version"], stdout=subprocess.PIPE,
+                              check=True).stdout
+    except (OSError, subprocess.CalledProcessError):
         return f"{companion}: no program fzcheck was found"
-    told = subprocess.run([found, "--version"], stdout=subprocess.PIPE, check=True).stdout
     return f"{companion} with {told.decode().strip()}"
 
 

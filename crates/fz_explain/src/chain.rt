@@ -239,11 +239,12 @@ impl<'r, 's, 'e, 'a, 't, 'n> Chain<'r, 's, 'e, 'a, 't, 'n> {
         point: usize,
     ) -> Result<Option<Finding>, AllocError> {
         let is_new = self.givers.insert(point)?;
-        if !is_new || point >= self.reading.model.points() {
+        let reading = self.reading;
+        if !is_new || point >= reading.model.points() {
             return Ok(None);
         }
         self.wait_for_point(point, None)?;
-        reason_of(self.reading, variable, point)
+        reason_of(reading, variable, point)
     }
 
     /// A printed value, where bounds are from it and it isn't told.

@@ -58,7 +58,10 @@ fn tell_message(rt: &HostRuntime, message: &Message, detail: Detail) {
         return;
     };
     match text.split_once('\n') {
-        Some((line, _)) if detail == Detail::Line => show_message(rt, line),
+        Some((line, _)) if detail == Detail::Line => {
+            show_message(rt, line);
+            let _ = eprintln!(rt; "");
+        }
         _ => show_message(rt, &text),
     }
 }

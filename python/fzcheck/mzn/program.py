@@ -209,7 +209,7 @@ def main(words: List[str]) -> int:
         print(usage, end="")
         return DONE
     if "--version" in words:
-        print(f"fzcheck-mzn {common.version()}")
+        print(common.version_words("fzcheck-mzn"))
         return DONE
     try:
         with tempfile.TemporaryDirectory(prefix="fzcheck") as scratch:
