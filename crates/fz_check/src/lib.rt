@@ -45,9 +45,7 @@ pub use line::{block_text, claim_text, shown_front};
 pub use options::{Ending, Options};
 pub use refusal::{Told, refusal_fault, refusal_text, status};
 pub use report::{Report, report_text};
-pub use streaming::{
-    MOST_READS, check_events, check_loaded, check_stream, check_stream_up_to,
-};
+pub use streaming::{MOST_READS, check_events, check_loaded, check_stream, check_stream_up_to};
 
 /// What the lines say that were written before a refusal is so, as it is of a report: of the
 /// verdicts, and of the claims that are refuted or proved.

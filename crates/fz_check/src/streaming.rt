@@ -98,10 +98,10 @@ fn tell_parts<R: Read, W: Write, T: Taker>(
 /// It can make an undecided block satisfied, and a satisfied one undecided, where its objective
 /// isn't better than one that was found for the block before.
 ///
-/// Where cutting is on, a stream that ends inside a block is no fault, if only the end of the block is
-/// missing: what there is of it is the front of items whose names are declared, or its whole lines are
-/// such items, and the last line is the front of a marker or a claim. The block is cut off, which is
-/// told before the answer, and the bytes before it are judged.
+/// Where cutting is on, a stream that ends inside a block is no fault, if only the end of the block
+/// is missing: what there is of it is the front of items whose names are declared, or its whole
+/// lines are such items, and the last line is the front of a marker or a claim. The block is cut
+/// off, which is told before the answer, and the bytes before it are judged.
 ///
 /// Where claims are judged, one is told as refuted at its place, or behind the block that refutes
 /// it. Where they are to be proved too, a search is made for one that nothing refutes at its place,
