@@ -20,7 +20,7 @@ use Rattle.fz_check.specs.declared.error.CheckError.{CheckError}
 use Rattle.fz_check.specs.declared.error.CheckError.TheVariants as errors
 use Rattle.fz_check.specs.declared.jury.Jury.{Jury}
 use Rattle.fz_check.specs.declared.options.Options.{Options}
-use Rattle.fz_check.specs.Claims.{AreOutcomes, IsReportWith, Outcome, account, behind_block, no_account, standard_options, verdicts_of}
+use Rattle.fz_check.specs.Claims.{AreOutcomes, IsReportWith, Outcome, account, behind_block, no_account, standard_options, unasked, verdicts_of}
 use Rattle.fz_check.specs.Claims.Outcome.{OfBlock, OfClaim}
 use Rattle.fz_check.specs.Report.{in_order}
 use Rattle.fz_check.specs.Telling.{HasJudged, IsJudgingRefusal, IsUnjudged, JudgesOneMore, last_outcome}
@@ -62,7 +62,7 @@ have_also : (o : Options) (m : Model) (before : Option SolutionBlock) (filled fo
 have_also o m before filled found [] [] are = (tt, refl)
 have_also o m before filled found [] (k ∷ os) are = absurd are
 have_also o m before filled found (ClaimPart kind ∷ ps) os are =
-    let (rest, same) = have_also o m before filled found ps os are in ((refl, tt, tt, rest), same)
+    let (rest, same) = have_also o m (unasked kind before) filled found ps os are in ((refl, tt, tt, rest), same)
 have_also o m before filled found (BlockPart block ∷ ps) [] are = absurd are
 have_also o m before filled found (BlockPart block ∷ ps) (OfClaim kind bound shown ∷ os) are = absurd are
 have_also o m before filled found (BlockPart block ∷ ps) (OfBlock b ∷ os) (is, are) =

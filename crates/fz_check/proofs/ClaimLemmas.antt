@@ -34,7 +34,7 @@ use Rattle.fz_check.specs.declared.claims.Claims.TheVariants.{NotJudged, Judged 
 use Rattle.fz_check.specs.declared.claims.Proofs.TheVariants as proving
 use Rattle.fz_check.specs.declared.account.Account.{Account}
 use Rattle.fz_check.specs.declared.options.Options.{Options}
-use Rattle.fz_check.specs.Claims.{IsFalse, IsShown, IsTrueClaim, Outcome, HasSolutionWith, HaveOutcomes, IsOutcome, IsSolvedWith, AreOutcomes, Knows, KnowsOf, IsTrueOf, account, answer_told, answer_with, asked, behind, behind_block, behind_claim, best_refuter, better_of, best_with, claim_event, first_of, is_satisfied, known_refuter, known_with, late_earliest, late_events, late_refuted, late_waiting, no_account, outcome_told, own_refuter, refuter, refutes, saying, statement, told, verdicts_of}
+use Rattle.fz_check.specs.Claims.{IsFalse, IsShown, IsTrueClaim, Outcome, HasSolutionWith, HaveOutcomes, IsOutcome, IsSolvedWith, AreOutcomes, Knows, KnowsOf, IsTrueOf, account, answer_told, answer_with, asked, behind, behind_block, behind_claim, best_refuter, better_of, best_with, claim_event, first_of, is_satisfied, known_refuter, known_with, late_earliest, late_events, late_refuted, late_waiting, no_account, outcome_told, own_refuter, refuter, refutes, saying, statement, told, unasked, verdicts_of}
 use Rattle.fz_check.specs.Claims.Outcome.{OfBlock, OfClaim}
 use Rattle.fz_check.specs.Telling.{OutcomesGoOn, last_outcome}
 use Rattle.fz_check.proofs.EventLemmas.{comes_by, comes_later}
@@ -83,7 +83,7 @@ outcomes_told o m before filled found [] [] are = NoneLeft
 outcomes_told o m before filled found (BlockPart block ∷ ps) (OfBlock b ∷ os) (is, are) = OneMore is.filling is.is_filled is.is_told
     (subst (λ f. AreTold o.completion m f b.found (blocks_in ps) (verdicts_of os)) is.filled_is (outcomes_told o m (Some block) b.filled b.found ps os are))
 outcomes_told o m before filled found (ClaimPart kind ∷ ps) (OfClaim k bound shown ∷ os) (is, bounded, shows, are) =
-    outcomes_told o m before filled found ps os are
+    outcomes_told o m (unasked kind before) filled found ps os are
 outcomes_told o m before filled found _ _ are = absurd are
 
 -- each block has one
@@ -94,7 +94,7 @@ have_each o m before filled found [] [] are = refl
 have_each o m before filled found (BlockPart block ∷ ps) (OfBlock b ∷ os) are =
     ap suc (have_each o m (Some block) b.filled b.found ps os are.1)
 have_each o m before filled found (ClaimPart kind ∷ ps) (OfClaim k bound shown ∷ os) (is, bounded, shows, are) =
-    have_each o m before filled found ps os are
+    have_each o m (unasked kind before) filled found ps os are
 have_each o m before filled found _ _ are = absurd are
 
 -- ---- the answer follows from the account
@@ -203,15 +203,15 @@ pub told_unjudged : (o : Options) (m : Model) (a : Account) (before : Option Sol
     (filled found : Option ℤ) (ps : List StreamPart) (os : List Outcome) → o.claims ≡ NotJudged
     → a.waiting ≡ None → AreOutcomes o m before filled found ps os
     → told m.aim NotJudged a os ≡ in_order a.blocks (verdicts_of os) (claims_in a.blocks ps)
-told_unjudged o m a before filled found [] [] unasked none are = refl
-told_unjudged o m a before filled found (ClaimPart kind ∷ ps) (OfClaim k bound shown ∷ os) unasked none (is, bounded, shows, are) =
+told_unjudged o m a before filled found [] [] no_claims none are = refl
+told_unjudged o m a before filled found (ClaimPart kind ∷ ps) (OfClaim k bound shown ∷ os) no_claims none (is, bounded, shows, are) =
     let n = a.blocks in
     let c : Claim = record { after = n; kind = kind } in
-    let rest = told_unjudged o m (behind_claim m.aim NotJudged (asked a bound) k) before filled found ps os unasked none are in
-    let no = none_shown o.claims m (saying k filled) shown unasked shows in
+    let rest = told_unjudged o m (behind_claim m.aim NotJudged (asked a bound) k) (unasked kind before) filled found ps os no_claims none are in
+    let no = none_shown o.claims m (saying k filled) shown no_claims shows in
     (λ i. claim_event (statement (asked a bound) (is i)) None (no i) ∷ rest i)
     ∙ sym (claim_first n (verdicts_of os) c (claims_in n ps) (omega arith))
-told_unjudged o m a before filled found (BlockPart block ∷ ps) (OfBlock b ∷ os) unasked none (is, are) =
+told_unjudged o m a before filled found (BlockPart block ∷ ps) (OfBlock b ∷ os) no_claims none (is, are) =
     let n = a.blocks in
     let cs = claims_in (n + 1) ps in
     let next = behind_block m.aim a b in
@@ -222,9 +222,9 @@ told_unjudged o m a before filled found (BlockPart block ∷ ps) (OfBlock b ∷ 
     ≡ Judged (n + 1) b.verdict ∷ in_order (n + 1) (verdicts_of os) cs =
     λ i. (by.0 i) ++ Judged (n + 1) b.verdict ∷ in_order (n + 1) (verdicts_of os) (by.1 i) in
     ap (λ s. Judged (n + 1) b.verdict ∷ (late_events s (n + 1) ++ told m.aim NotJudged next os)) late
-    ∙ ap (λ es. Judged (n + 1) b.verdict ∷ es) (told_unjudged o m next (Some block) b.filled b.found ps os unasked waits are)
+    ∙ ap (λ es. Judged (n + 1) b.verdict ∷ es) (told_unjudged o m next (Some block) b.filled b.found ps os no_claims waits are)
     ∙ sym behind_none
-told_unjudged o m a before filled found _ _ unasked none are = absurd are
+told_unjudged o m a before filled found _ _ no_claims none are = absurd are
 
 -- ---- what a block tells
 
@@ -378,7 +378,7 @@ module _ (m : Model) where
         claim_true o.claims (statement b k) (saying k filled) (refuter m.aim o.claims b (saying k b.objective)) shown
             (λ h. subst (λ l. IsTrueClaim m (saying k l)) (sym last_now) (told_last k filled (option_or bound more) h))
             (refuter_false o.claims b (saying k b.objective) knows sound) shows,
-        all_true o (behind_claim m.aim o.claims b k) before filled (option_or bound more) found ps os last_now knows sound are,
+        all_true o (behind_claim m.aim o.claims b k) (unasked kind before) filled (option_or bound more) found ps os last_now knows sound are,
       )
   all_true o a before filled bound found (BlockPart block ∷ ps) (OfBlock b ∷ os) last knows sound (is, are) =
       let next = behind_block m.aim a b in

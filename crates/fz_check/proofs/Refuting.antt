@@ -13,6 +13,7 @@ use Rattle.fz_filling.specs.Completed.IsCompleted.{Refuted}
 use Rattle.fz_filling.specs.declared.completion.Completion.{Completion}
 use Rattle.fz_filling.specs.declared.completion.Completion.TheVariants.{On}
 use Rattle.fz_filling.specs.Judged.{IsOfPoint}
+use Rattle.fz_filling.specs.of_stream.declared.line.ClaimKind.TheVariants.{Complete}
 use Rattle.fz_filling.specs.of_stream.Parts.{SolutionBlock}
 use Rattle.fz_filling.specs.Verdict.{Fault, IsFilled, Verdict, fault_named}
 use Rattle.fz_filling.specs.Verdict.Reason.{NoValueFor}
@@ -40,7 +41,7 @@ refuted_told m block before F name k v kept filled (p, at, is) none kept_is =
 pub bounded_by : (m : Model) (block : SolutionBlock) (F : Partial) (o : Option ℤ)
     → IsFilled On m block F
     → IfSome o (λ b. HasNone (record { model = m; filling = F; last = Some b }))
-    → IsBoundBehind On m (Some block) o
+    → IsBoundBehind On m (Some block) Complete o
 bounded_by m block F None filled none = tt
 bounded_by m block F (Some b) filled none = λ A solution extends better.
     none A (solution, filling_agrees On m A block F solution extends filled.filling, better)
@@ -52,7 +53,8 @@ open_by c m block F None is filled = tt
 open_by c m block F (Some f) is filled = subst (IsFilled c m block) (sym is) filled
 
 pub bound_behind : (c : Completion) (m : Model) (F : Partial) (o : Option ℤ)
-    → ((block : SolutionBlock) → IsFilled c m block F → IsBoundBehind c m (Some block) o)
-    → (block : Option SolutionBlock) → IsOpen c m block (Some F) → IsBoundBehind c m block o
+    → ((block : SolutionBlock) → IsFilled c m block F → IsBoundBehind c m (Some block) Complete o)
+    → (block : Option SolutionBlock) → IsOpen c m block (Some F)
+    → IsBoundBehind c m block Complete o
 bound_behind c m F o h None open = absurd open
 bound_behind c m F o h (Some block) open = h block open

@@ -105,12 +105,18 @@ pub record IsOutcome (c : Completion) (m : Model) (filled found : Option ℤ) (b
   pub one_objective : c ≡ Off → o.found ≡ o.filled
   pub solved : o.verdict ≡ Satisfied → IsSolvedWith m block o.found
 
--- A bound is one on the objectives of the block that comes before. There is none where no block
--- does, and none where no values are looked for.
-abbrev pub IsBoundBehind : Completion → Model → Option SolutionBlock → Option ℤ → Type 0
-IsBoundBehind c m before None = ⊤
-IsBoundBehind On m (Some block) (Some b) = IsBound m block b
-IsBoundBehind _ m _ (Some b) = ⊥
+-- A bound is one on the objectives of the block that comes before, and a claim that none is better
+-- asks for it, once behind a block. There is none where no values are looked for.
+abbrev pub IsBoundBehind : Completion → Model → Option SolutionBlock → ClaimKind → Option ℤ
+    → Type 0
+IsBoundBehind c m before kind None = ⊤
+IsBoundBehind On m (Some block) Complete (Some b) = IsBound m block b
+IsBoundBehind _ m _ _ (Some b) = ⊥
+
+-- the block before of which no claim has asked for a bound yet, behind one more claim
+abbrev pub unasked : ClaimKind → Option SolutionBlock → Option SolutionBlock
+unasked Complete before = None
+unasked _ before = before
 
 -- those of parts in order, of which each block hands itself and its objectives on to what follows
 abbrev pub AreOutcomes : Options → Model → Option SolutionBlock → Option ℤ → Option ℤ
@@ -120,9 +126,9 @@ AreOutcomes o m before filled found (BlockPart block ∷ ps) (OfBlock b ∷ os) 
     IsOutcome o.completion m filled found block b
     × AreOutcomes o m (Some block) b.filled b.found ps os
 AreOutcomes o m before filled found (ClaimPart kind ∷ ps) (OfClaim claimed bound shown ∷ os) =
-    (claimed ≡ kind) × IsBoundBehind o.completion m before bound
+    (claimed ≡ kind) × IsBoundBehind o.completion m before kind bound
     × IsShown o.claims m (saying claimed filled) shown
-    × AreOutcomes o m before filled found ps os
+    × AreOutcomes o m (unasked kind before) filled found ps os
 AreOutcomes o m before filled found _ _ = ⊥
 
 abbrev pub verdicts_of : List Outcome → List Verdict

@@ -26,7 +26,7 @@ use Rattle.fz_check.specs.declared.jury.Jury.{Jury}
 use Rattle.fz_check.specs.declared.reader.Step.{Step}
 use Rattle.fz_check.specs.declared.reader.Step.TheVariants.{End}
 use Rattle.fz_check.specs.Cutting.{HoldsOfJudged, IsCutOff}
-use Rattle.fz_check.specs.Claims.{AreOutcomes, BlockOutcome, HaveOutcomes, IsBoundBehind, IsOutcome, IsReportWith, IsShown, Outcome, account, answer_told, asked, behind_block, behind_claim, claim_told, no_account, saying, told_of}
+use Rattle.fz_check.specs.Claims.{AreOutcomes, BlockOutcome, HaveOutcomes, IsBoundBehind, IsOutcome, IsReportWith, IsShown, Outcome, account, answer_told, asked, behind_block, behind_claim, claim_told, no_account, saying, told_of, unasked}
 use Rattle.fz_check.specs.Report.{AreOf, Event}
 use Rattle.fz_check.specs.Report.Event.{CutOff, Answered}
 use Rattle.fz_check.specs.Refused.{HasStreamFault, IsFirstFault}
@@ -102,10 +102,10 @@ pub record HearsOneMore (j j' : Jury) (kind : ClaimKind) (e : Event) : Type 0 wh
   pub bound : Option ℤ
   pub bounded : (block : Option SolutionBlock)
       → IsOpen j.judge.completion j.judge.model block (kept j)
-      → IsBoundBehind j.judge.completion j.judge.model block bound
+      → IsBoundBehind j.judge.completion j.judge.model block kind bound
   pub is_open : (block : Option SolutionBlock)
       → IsOpen j.judge.completion j.judge.model block (kept j)
-      → IsOpen j.judge.completion j.judge.model block (kept j')
+      → IsOpen j.judge.completion j.judge.model (unasked kind block) (kept j')
   pub shown : Option ℕ
   pub is_shown : IsShown j.claims j.judge.model (saying kind j.judge.before) shown
   pub event_is : e ≡ claim_told j.judge.model.aim j.claims (asked j.account bound) kind shown

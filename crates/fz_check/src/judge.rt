@@ -3,6 +3,7 @@
 ghost use Rattle.std.specs.Prelude.{◌≡◌, IfErr, IfOk, IfSome, None, Some, option_map};
 ghost use Rattle.fz_check.specs.Claims.{IsBoundBehind};
 ghost use Rattle.fz_filling.specs.of_stream.Parts.{SolutionBlock};
+ghost use Rattle.fz_filling.specs.of_stream.declared.line.ClaimKind.TheVariants.{Complete};
 ghost use Rattle.fz_search.specs.Claims.{HasNoneBeyond};
 ghost use Rattle.fz_search.specs.of_model.Meaning.{IsPartial, objective};
 ghost use Rattle.fz_search.specs.of_model.Overviews.{IsOverview};
@@ -446,7 +447,7 @@ impl<'m, 'a> Judge<'m, 'a> {
         ensures same { self.new ≡ self.old }
         ensures bounded { IfOk result (λ o. (block : SolutionBlock)
             → IsFilled self.old.completion self.old.model block filling.now
-            → IsBoundBehind self.old.completion self.old.model (Some block) o) }
+            → IsBoundBehind self.old.completion self.old.model (Some block) Complete o) }
         ensures unasked { self.old.completion ≡ Off → IfOk result (λ o. o ≡ None) }
     {
         let Completion::On = self.completion else {

@@ -6,7 +6,7 @@ ghost use Rattle.fz_filling.specs.of_stream.Found.{block_of};
 ghost use Rattle.fz_filling.specs.of_stream.Parts.{SolutionBlock};
 ghost use Rattle.fz_search.specs.of_model.Meaning.{IsPartial};
 ghost use Rattle.fz_filling.specs.View.{verdict_view};
-ghost use Rattle.fz_check.specs.Claims.{IsBoundBehind, IsShown, answer_with, is_satisfied, late_refuted, no_account};
+ghost use Rattle.fz_check.specs.Claims.{IsBoundBehind, IsShown, answer_with, is_satisfied, late_refuted, no_account, unasked};
 ghost use Rattle.fz_check.specs.Telling.{HearsOneMore, IsOpen, IsUnjudged, JudgesOneMore, kept};
 ghost use Rattle.fz_check.specs.View.{answer_view, event_view};
 
@@ -107,10 +107,11 @@ impl<'m, 'a, 'k> Jury<'m, 'a, 'k> {
     fn bound(&mut self, alloc: Global, kind: ClaimKind) -> Result<Option<i64>, AllocError>
         ensures bounded { IfOk result (λ o. (block : Option SolutionBlock)
             → IsOpen self.old.judge.completion self.old.judge.model block (kept self.old)
-            → IsBoundBehind self.old.judge.completion self.old.judge.model block o) }
+            → IsBoundBehind self.old.judge.completion self.old.judge.model block kind o) }
         ensures open { (block : Option SolutionBlock)
             → IsOpen self.old.judge.completion self.old.judge.model block (kept self.old)
-            → IsOpen self.old.judge.completion self.old.judge.model block (kept self.new) }
+            → IsOpen self.old.judge.completion self.old.judge.model (unasked kind block)
+            (kept self.new) }
         ensures same_judge { self.new.judge ≡ self.old.judge }
         ensures same_account { self.new.account ≡ self.old.account }
         ensures same_claims { self.new.claims ≡ self.old.claims }
