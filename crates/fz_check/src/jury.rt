@@ -78,9 +78,7 @@ impl<'m, 'a, 'k> Jury<'m, 'a, 'k> {
         let goal = self.judge.model().goal();
         let filled = self.judge.filled_objective();
         let found = self.judge.objective();
-        let late = self
-            .account
-            .hear_block(goal, &verdict, filled, found);
+        let late = self.account.hear_block(goal, &verdict, filled, found);
         Ok((verdict, late))
     }
 
