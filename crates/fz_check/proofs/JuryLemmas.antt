@@ -71,7 +71,7 @@ module _ (o : Options) (m : Model) (j : Jury) (parts : List StreamPart) (os : Li
       → IsOpen o.completion m judged.block (kept j') → j'.claims ≡ j.claims → j'.account ≡ behind j.judge.model.aim j.claims j.account k
       → AreOf text (outcome_told j.judge.model.aim j.claims j.account k) line
       → TellsOneMore o text m j' parts os part line
-  tells_outcome text j' part k line judged open claims accounted is =
+  tells_outcome text j' part k line judged still claims accounted is =
       let now = account m.aim o.claims no_account os in
       let one = outcome_told m.aim o.claims now k in
       let own : outcome_told j.judge.model.aim j.claims j.account k ≡ one =
@@ -84,7 +84,7 @@ module _ (o : Options) (m : Model) (j : Jury) (parts : List StreamPart) (os : Li
         more = os ++ k ∷ [];
         told = record {
           judged = judged;
-          is_open = open;
+          is_open = still;
           claims_are = claims ∙ h.claims_are;
           account_is = accounted ∙ after ∙ sym (account_append m.aim o.claims no_account os (k ∷ []));
         };

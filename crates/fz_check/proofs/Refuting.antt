@@ -56,5 +56,5 @@ pub bound_behind : (c : Completion) (m : Model) (F : Partial) (o : Option ℤ)
     → ((block : SolutionBlock) → IsFilled c m block F → IsBoundBehind c m (Some block) Complete o)
     → (block : Option SolutionBlock) → IsOpen c m block (Some F)
     → IsBoundBehind c m block Complete o
-bound_behind c m F o h None open = absurd open
-bound_behind c m F o h (Some block) open = h block open
+bound_behind c m F o h None kept_of = absurd kept_of
+bound_behind c m F o h (Some block) kept_of = h block kept_of

@@ -85,7 +85,7 @@ IsOpen c m (Some block) (Some filling) = IsFilled c m block filling
 
 -- that of a jury
 abbrev pub kept : Jury → Option Partial
-kept j = option_map (λ filling. filling.value) j.open
+kept j = option_map (λ filling. filling.value) j.filling
 
 -- the next block was judged, with this verdict, and is accounted for
 pub record JudgesOneMore (j j' : Jury) (block : SolutionBlock) (v : Verdict) : Type 0 where

@@ -29,7 +29,7 @@ pub(crate) struct Jury<'m, 'a, 'k> {
     claims: Claims<'k>,
     /// the filling of the block that was judged last, where a claim may ask for a bound of its
     /// objective, and none has
-    open: Option<Box<Partial>>,
+    filling: Option<Box<Partial>>,
 }
 
 impl<'m, 'a, 'k> Jury<'m, 'a, 'k> {
@@ -50,7 +50,7 @@ impl<'m, 'a, 'k> Jury<'m, 'a, 'k> {
             judge: Judge::completing(model, options.completion, options.steps),
             account: Account::new(),
             claims: options.claims,
-            open: None,
+            filling: None,
         }
     }
 
@@ -92,9 +92,9 @@ impl<'m, 'a, 'k> Jury<'m, 'a, 'k> {
         ensures same_claims { self.new.claims ≡ self.old.claims }
     {
         match (self.claims, verdict, self.judge.filled_objective()) {
-            (Claims::Judged(..), Verdict::Satisfied, None) => self.open = Some(filling),
+            (Claims::Judged(..), Verdict::Satisfied, None) => self.filling = Some(filling),
             _ => {
-                self.open = None;
+                self.filling = None;
                 self.judge.reuse(filling);
             }
         }
@@ -106,7 +106,7 @@ impl<'m, 'a, 'k> Jury<'m, 'a, 'k> {
         ensures bounded { IfOk result (λ o. (block : Option SolutionBlock)
             → IsOpen self.old.judge.completion self.old.judge.model block (kept self.old)
             → IsBoundBehind self.old.judge.completion self.old.judge.model block kind o) }
-        ensures open { (block : Option SolutionBlock)
+        ensures still { (block : Option SolutionBlock)
             → IsOpen self.old.judge.completion self.old.judge.model block (kept self.old)
             → IsOpen self.old.judge.completion self.old.judge.model (unasked kind block)
             (kept self.new) }
@@ -117,7 +117,7 @@ impl<'m, 'a, 'k> Jury<'m, 'a, 'k> {
         let ClaimKind::Complete = kind else {
             return Ok(None);
         };
-        match self.open.take() {
+        match self.filling.take() {
             Some(filling) => self.judge.bound(alloc, &filling),
             None => Ok(None),
         }
