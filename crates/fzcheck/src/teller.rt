@@ -164,7 +164,9 @@ impl<'s, 'r, 'n> Teller<'s, 'r, 'n> {
             && let Ok(Some(mut faults)) = self.explainer.faults(alloc, judged.model, &case, most)
         {
             for place in 0..faults.messages.len() {
-                quote(self.rt, &mut faults.messages[place].remarks);
+                if let Some(message) = faults.messages.get_mut(place) {
+                    quote(self.rt, &mut message.remarks);
+                }
             }
             self.told = Some((judged.number, faults));
         }
