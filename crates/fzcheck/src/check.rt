@@ -68,8 +68,13 @@ fn check_readers<'a, S: Read + Drop>(
     let model = read_whole(rt.alloc(), model, asked.model, most_bytes(asked.size))?;
     let tree = read_tree(rt, asked.tree)?;
     let table = read_table(rt, asked.names)?;
+    let text = Text {
+        name: asked.model,
+        bytes: &model,
+        passed: NOTHING,
+    };
     match table_of(rt, asked, &table) {
-        Ok(names) => check_text(rt, asked, &model, &tree, names, stream),
+        Ok(names) => check_text(rt, asked, text, &tree, names, stream),
         Err(status) => Ok(status),
     }
 }
@@ -78,17 +83,12 @@ fn check_readers<'a, S: Read + Drop>(
 fn check_text<'a, S: Read + Drop>(
     rt: &HostRuntime,
     asked: &Check<'a>,
-    bytes: &[u8],
+    text: Text<'_>,
     tree: &[u8],
     names: NameTable<'_>,
     stream: S,
 ) -> Result<u8, Unread<'a>> {
-    let text = Text {
-        name: asked.model,
-        bytes,
-        passed: NOTHING,
-    };
-    let model = match read_model(rt.alloc(), bytes, limits_of(asked.size)) {
+    let model = match read_model(rt.alloc(), text.bytes, limits_of(asked.size)) {
         Ok(model) => model,
         Err(error) => return Ok(refuse_model(rt, asked, &text, &error)),
     };
@@ -139,19 +139,21 @@ fn check_and_tell<S: Read>(
     claims: Claims<'_>,
     stream: &mut S,
     screen: &RefCell<Screen<'_>>,
-    mut teller: Teller<'_, '_, '_>,
+    mut teller: Teller<'_, '_, '_, '_>,
 ) -> Result<Answer, CheckError> {
-    let outcome = match asked.form {
-        Form::Text => check_to(rt, asked, model, claims, stream, screen, &mut teller),
-        Form::Json => {
-            let mut taker = JsonTeller {
-                teller: &mut teller,
-            };
-            check_to(rt, asked, model, claims, stream, screen, &mut taker)
+    match asked.form {
+        Form::Text => {
+            let outcome = check_to(rt, asked, model, claims, stream, screen, &mut teller);
+            teller.end(outcome.is_ok());
+            outcome
         }
-    };
-    teller.end(outcome.is_ok());
-    outcome
+        Form::Json => {
+            let mut taker = JsonTeller { teller };
+            let outcome = check_to(rt, asked, model, claims, stream, screen, &mut taker);
+            taker.teller.end(outcome.is_ok());
+            outcome
+        }
+    }
 }
 
 /// Checks a stream, and writes the report to standard output.

@@ -24,10 +24,10 @@ const MOST_QUOTED: u32 = 16_777_216;
 
 /// Takes the events of a check whose report is text. Explanations go to standard error.
 #[derive(Drop)]
-pub struct Teller<'s, 'r, 'n> {
+pub struct Teller<'s, 't, 'r, 'n> {
     rt: &'r HostRuntime,
     asked: &'s Check<'s>,
-    explainer: Explainer<'s, 'n>,
+    explainer: Explainer<'t, 'n>,
     recent: &'s RefCell<Recent>,
     screen: &'s RefCell<Screen<'r>>,
     counts: Counts,
@@ -37,15 +37,15 @@ pub struct Teller<'s, 'r, 'n> {
     unconstrained: Option<Unbound>,
 }
 
-impl<'s, 'r, 'n> Teller<'s, 'r, 'n> {
+impl<'s, 't, 'r, 'n> Teller<'s, 't, 'r, 'n> {
     /// Before the first block. What is stored of the stream is in the cell.
     pub fn new(
         rt: &'r HostRuntime,
         asked: &'s Check<'s>,
-        explainer: Explainer<'s, 'n>,
+        explainer: Explainer<'t, 'n>,
         recent: &'s RefCell<Recent>,
         screen: &'s RefCell<Screen<'r>>,
-    ) -> Teller<'s, 'r, 'n> {
+    ) -> Teller<'s, 't, 'r, 'n> {
         Teller {
             rt,
             asked,
@@ -269,7 +269,7 @@ fn quote(rt: &HostRuntime, remarks: &mut Remarks) {
     }
 }
 
-impl Taker for Teller<'_, '_, '_> {
+impl Taker for Teller<'_, '_, '_, '_> {
     ghost text = { by event_line };
 
     fn take(&mut self, event: &Event<'_, '_>, line: &mut Vec<u8>) -> Result<(), AllocError> {
@@ -284,8 +284,8 @@ impl Taker for Teller<'_, '_, '_> {
 
 /// Takes the events of a check whose report is JSON, explanations included.
 #[derive(Drop)]
-pub struct JsonTeller<'t, 's, 'r, 'n> {
-    pub teller: &'t mut Teller<'s, 'r, 'n>,
+pub struct JsonTeller<'s, 't, 'r, 'n> {
+    pub teller: Teller<'s, 't, 'r, 'n>,
 }
 
 impl Taker for JsonTeller<'_, '_, '_, '_> {
