@@ -9,7 +9,6 @@ COUNTS describes has to be what is counted. With --mend the numbers are written 
 import os
 import pathlib
 import re
-import subprocess
 import sys
 from typing import Callable, Iterator, List, NamedTuple, Set
 
@@ -20,6 +19,7 @@ QUOTED = re.compile(r"`([^`\n]+)`")
 WORD = re.compile(r"[^\W\d]\w*")
 SOURCES = ("crates", "tests", "tools", "python", "examples", "bench", "minizinc", "completions",
            "plain", "Makefile", "crates.txt", ".ci")
+BUILT = {"out", "build", "target", "__pycache__"}
 # Words of the toolchain and of the system, which the tree needn't have.
 OUTSIDE = set("""antt apt cc debootstrap git rlib sshd subst strace ttt trace PID tidy plant
 fz_x of_x PERFORMANCE PROOFS FUNCTION DECISIONS""".split())
@@ -64,13 +64,21 @@ COUNTS = (
 )
 
 
+def files_of_tree() -> Iterator[pathlib.Path]:
+    """The files that are no documents, and that nothing has built."""
+    for name in SOURCES:
+        place = ROOT / name
+        for path in sorted(place.rglob("*")) if place.is_dir() else [place]:
+            if path.is_file() and not BUILT & {*path.relative_to(ROOT).parts}:
+                yield path
+
+
 def words_of_tree() -> Set[str]:
-    """All words of the tracked files that are no documents, and of their paths."""
-    listed = subprocess.run(("git", "ls-files", *SOURCES), cwd=ROOT, check=True,
-                            stdout=subprocess.PIPE, encoding="utf-8").stdout
-    found = set(WORD.findall(listed))
-    for path in listed.splitlines():
-        found.update(WORD.findall((ROOT / path).read_bytes().decode(errors="replace")))
+    """All words of these files, and of their paths."""
+    found: Set[str] = set()
+    for path in files_of_tree():
+        found.update(WORD.findall(str(path.relative_to(ROOT))))
+        found.update(WORD.findall(path.read_bytes().decode(errors="replace")))
     return found
 
 

@@ -64,7 +64,7 @@ TESTS = [
     Test("completions", "tests/completions.py {fzcheck}", 2),
     Test("typed", "tests/typed.py", 30, "mypy"),
     Test("documents", "tests/documents.py", 2),
-    Test("documented", "tests/documented.py", 2, "git"),
+    Test("documented", "tests/documented.py", 2),
     Test("transcripts", "tests/transcripts.py {fzcheck}", 10),
     Test("headline", "tests/headline.py", 1),
     *WHOLE_REPORTS,
