@@ -7,19 +7,23 @@ Each fault of fuzzed/solver.py, or these alone, has to be found as what it is, w
 constraints: those of one builtin with few names, the others with no options but a seed, within so
 many models as stand here. Without a fault nothing may be found. Solvers that can't be worked with
 have to be told in a line, with no process and no file left. Ends with 'N passed, M failed'."""
+import concurrent.futures
+import functools
 import json
 import os
 import re
 import subprocess
 import sys
 import tempfile
+import threading
 import xml.etree.ElementTree as tree
-from typing import Any, Dict, List, NamedTuple, Set, Tuple
+from typing import Any, Callable, Dict, Iterator, List, NamedTuple, Set, Tuple
 
 HERE = os.path.dirname(os.path.abspath(__file__))
 ROOT = os.path.dirname(HERE)
 SOLVER = [sys.executable, "-S", os.path.join(HERE, "fuzzed", "run.py")]
 SEED, MOST_CONSTRAINTS, LONG_TIME, LIMIT = "1", 3, "1800", "5"
+AT_A_TIME = 3  # since other tests have processes too
 SLEEP = f"sleep 1000.{os.getpid()}"  # that of this test, of several side by side
 LAST = 'for it; do :; done; '  # the shell's way to the last word, the model
 FILES = {"model.fzn", "before.fzn", "stream", "fault", "cause", "report", "show.sh"}
@@ -79,12 +83,14 @@ class Test:
         self.environment.pop("PYTHONDONTWRITEBYTECODE", None)  # it would compile at each start
         os.mkdir(self.environment["TMPDIR"])
         self.passed = self.failed = 0
+        self.counting = threading.Lock()
 
     def check(self, what: str, holds: bool, told: Any = "") -> None:
-        self.passed += holds
-        self.failed += not holds
-        if not holds:
-            print(f"{what}: {told}")
+        with self.counting:
+            self.passed += holds
+            self.failed += not holds
+            if not holds:
+                print(f"{what}: {told}")
 
     def run(self, name: str, *words: str) -> "subprocess.CompletedProcess[str]":
         """Runs a companion by the interpreter of this test, which needn't look for one."""
@@ -203,10 +209,14 @@ class Test:
 
     def bad(self, name: str, solver: List[str], kind: str) -> None:
         limit = "1" if kind == "time limit" else LIMIT
-        told = self.fuzz(solver, "--models", "1", "--names", "int_ne", "--output", "bad",
-                         "--limit", limit)
+        told = self.fuzz(solver, "--models", "1", "--names", "int_ne", "--output",
+                         kind.replace(" ", "-"), "--limit", limit)
         kinds = [it["kind"] for it in told["faults"]]
         self.check(f"a solver that {name}", kind in kinds, told)
+
+    def faultless(self) -> None:
+        told = self.fuzz(SOLVER, "--models", "20", "--names", "int_ne,int_le,int_mod,int_max")
+        self.check("a solver without fault has none", told["faults"] == [], told)
 
     def own(self) -> None:
         """A planted fault is found in the examples, also where only another stream shows it."""
@@ -282,20 +292,22 @@ class Test:
         self.check("no process is left", running == [], running)
 
 
+def jobs(test: Test, only: List[str]) -> Iterator[Callable[[], None]]:
+    every = {**FEW, **DEFAULT}
+    for name in only or every:
+        yield functools.partial(test.fault, name, every[name])
+    if not only:
+        for name, (solver, kind) in BAD.items():
+            yield functools.partial(test.bad, name, solver, kind)
+        yield from (test.faultless, test.own, test.known_stream, test.words)
+
+
 def main(program: str, only: List[str]) -> int:
     with tempfile.TemporaryDirectory(prefix="fzcheck-test-") as folder:
         test = Test(program, folder)
-        every = {**FEW, **DEFAULT}
-        for name in only or every:
-            test.fault(name, every[name])
-        if not only:
-            told = test.fuzz(SOLVER, "--models", "20", "--names", "int_ne,int_le,int_mod,int_max")
-            test.check("a solver without fault has none", told["faults"] == [], told)
-            for name, (solver, kind) in BAD.items():
-                test.bad(name, solver, kind)
-            test.own()
-            test.known_stream()
-            test.words()
+        with concurrent.futures.ThreadPoolExecutor(AT_A_TIME) as pool:
+            for running in [pool.submit(job) for job in jobs(test, only)]:
+                running.result()
         test.left()
     print(f"{test.passed} passed, {test.failed} failed")
     return 1 if test.failed else 0

@@ -29,6 +29,7 @@ NOT_MADE = 7, b"", b""  # the operands found no memory, or can't be had at all: 
 MEMORY = re.compile(rb"^Err\((?:Memory|AllocError)\)\n", re.MULTILINE)
 FAILED = b"Err(Failed)\nfalse\nErr(Failed)\nErr(Failed)\n"  # `feed`, `waiting`, `take`, `finish`
 ANY = "1000000"  # as many bytes or reads as there are
+FEW_STEPS = "1000"  # of a search, which is made anew for each growth that is refused
 MOST_BYTES = 16_777_216  # that a splitter holds
 
 SETS = (
@@ -134,8 +135,8 @@ def of_pair(model, stream):
     yield Call("check", "text", (model, stream))
     for piece in ("1", ANY):
         yield Call("live", "check_stream", (model, stream), (piece, ANY, ANY, "1"))
-    for completion in ("0", "1"):
-        more = ANY, ANY, ANY, "1", ANY, completion
+    for searching in ((), (FEW_STEPS,)):
+        more = ANY, ANY, ANY, "1", ANY, *searching
         yield Call("live", "check_stream_up_to", (model, stream), more)
 
 

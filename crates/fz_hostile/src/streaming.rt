@@ -58,8 +58,8 @@ impl Write for Narrow {
 
 /// Checks a stream against a model. The words behind the names of their files are the most bytes of
 /// a read, how many reads there are before one fails, how many bytes the writer takes, whether it
-/// fails then (1) or takes nothing (0), the bound on the reads, where there is one, and whether
-/// values are searched for that were left out (1).
+/// fails then (1) or takes nothing (0), the bound on the reads, where there is one, and how many
+/// steps a search for values that were left out may take, where they are searched for.
 pub fn make_call(rt: &HostRuntime, operands: &[String]) -> Option<()> {
     let model = file(rt, operands, 0)?;
     let stream = file(rt, operands, 1)?;
@@ -79,25 +79,18 @@ pub fn make_call(rt: &HostRuntime, operands: &[String]) -> Option<()> {
     };
     let bounds = Bounds {
         most: number(operands, 6),
-        completion: completion(operands),
+        steps: number(operands, 7),
     };
     tell_answer(rt, &model, source, writer, bounds);
     Some(())
 }
 
-/// How many reads are made at most, where there is a bound, and whether values are searched for
-/// that were left out.
+/// How many reads are made at most, where there is a bound, and how many steps a search for values
+/// that were left out may take, where they are searched for.
 #[derive(Clone, Copy)]
 struct Bounds {
     most: Option<usize>,
-    completion: Completion,
-}
-
-fn completion(operands: &[String]) -> Completion {
-    match number(operands, 7) {
-        Some(1) => Completion::On,
-        _ => Completion::Off,
-    }
+    steps: Option<usize>,
 }
 
 fn answer(
@@ -108,13 +101,12 @@ fn answer(
     bounds: Bounds,
 ) -> Result<Answer, CheckError> {
     let (reader, writer) = (&mut reader, &mut writer);
-    match (bounds.most, bounds.completion) {
-        (Some(most), Completion::Off) => {
-            check_stream_up_to(alloc, model, reader, writer, most as u64)
-        }
-        (Some(most), completion) => {
+    match (bounds.most, bounds.steps) {
+        (Some(most), None) => check_stream_up_to(alloc, model, reader, writer, most as u64),
+        (Some(most), Some(steps)) => {
             let options = Options {
-                completion,
+                completion: Completion::On,
+                steps,
                 ..Options::STANDARD
             };
             let mut taker = TextTaker;
