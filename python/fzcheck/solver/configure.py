@@ -17,7 +17,7 @@ from typing import Any, Dict, List, Set
 
 from fzcheck import common
 
-SCRIPT = os.path.join(common.PROGRAMS, "fzcheck-solver")
+SCRIPT = common.companion("fzcheck-solver")
 MARK = "checked by fzcheck while it runs"
 KEPT = ("version", "mznlibVersion", "stdFlags", "extraFlags", "supportsFzn", "needsSolns2Out",
         "needsStdlibDir", "needsMznExecutable", "isGUIApplication")
