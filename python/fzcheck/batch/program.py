@@ -135,7 +135,8 @@ def main(words: List[str]) -> int:
         print(version_words("fzcheck-batch"))
         return 0
     if not arguments.command:
-        parser().error(f"a command is missing: {', '.join(COMMANDS)}")
+        near = common.meant(others[0], ("--help", "--version")) if others else ""
+        parser().error(f"a command is missing: {', '.join(COMMANDS)}{near}")
     if arguments.command == "run":
         return run_season(arguments, others)
     if others:
