@@ -20,9 +20,10 @@
 # make bench       measures the built program beside the plain program in plain/ (some minutes), or
 #                  with SIZE=500 on models of 500 MB
 # make install     puts the program, its companions, manual pages, completions, minizinc/, documents
-#                  and examples in place, below PREFIX (/usr/local). It builds nothing
-# make dist        packs all that, with a receipt of what was proved, as a tar and as a package for
-#                  Debian 12, in build/
+#                  and examples in place, below PREFIX (/usr/local). It builds nothing. With
+#                  PYTHON_MODULES=FOLDER Python finds the module fzcheck in that folder
+# make dist        packs all that, with a receipt of what was proved, as a tar, as a package for
+#                  Debian 12 and as one for Python's pip, in build/
 # make fmt         lays out the sources
 # make clean       drops what was built
 
@@ -32,6 +33,7 @@ COMPANIONS := $(wildcard python/fzcheck-*)
 PREFIX ?= /usr/local
 SHARE = $(DESTDIR)$(PREFIX)/share
 ZSH_FUNCTIONS ?= $(PREFIX)/share/zsh/site-functions
+PYTHON_MODULES ?=
 JOBS ?= $(shell nproc)
 SECONDS ?= 600
 SEED ?= $(shell date +%s)
@@ -104,8 +106,10 @@ install:
 	  "package, which make dist makes" >&2; exit 1; }
 	install -D -t $(DESTDIR)$(PREFIX)/bin build/fzcheck
 	install -D -t $(SHARE)/fzcheck $(COMPANIONS)
-	cd python && find fzcheck -name '*.py' -o -name '*.html' | \
+	cd python && find fzcheck -name '*.py' -o -name '*.html' -o -name py.typed | \
 	  xargs -I{} install -D -m 644 {} $(SHARE)/fzcheck/{}
+	if [ -n "$(PYTHON_MODULES)" ]; then mkdir -p $(DESTDIR)$(PYTHON_MODULES) && \
+	  ln -sfn $(PREFIX)/share/fzcheck/fzcheck $(DESTDIR)$(PYTHON_MODULES)/fzcheck; fi
 	for it in $(notdir $(COMPANIONS)); do \
 	  ln -sf ../share/fzcheck/$$it $(DESTDIR)$(PREFIX)/bin/$$it; done
 	install -D -m 644 -t $(SHARE)/man/man1 docs/*.1

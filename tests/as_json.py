@@ -3,148 +3,47 @@
 
 Runs a built program on the models and streams of examples/, tests/explained and
 tests/corpus/by_hand, with and without --complete, --cut, --claims and --explain. From the objects
-the lines
-of the text are made, those of refusals and explanations too, and compared with what the program
-writes without --json. The last line is 'N passed, M failed'."""
+the lines of the text are made, as python/fzcheck/lines.py makes them, those of refusals and
+explanations too, and compared with what the program writes without --json. The last line is 'N
+passed, M failed'."""
 import glob
 import json
 import os
 import re
 import subprocess
 import sys
+from typing import Dict, Iterator, List, Optional, Sequence, Set, Tuple
 
 TOP = os.path.dirname(os.path.dirname(os.path.abspath(__file__)))
+sys.path.insert(0, os.path.join(TOP, "python"))
+from fzcheck import lines
+from fzcheck.lines import Object
+
 FOLDERS = "examples", "tests/explained", "tests/corpus/by_hand"
 NAMES = "model.names"  # where a folder has it, it goes with what explains
 OPTIONS = "", "--complete", "--cut", "--claims", "--claims=prove"
 EXPLAINING = "", "--explain", "--explain=all", "--explain=every"
-FAULTS = {
-    "printed": "printed {name}",
-    "domain": "domain of {name}",
-    "definition": "definition of {name}",
-    "constraint": "constraint {number} {name}",
-    "objective": "objective {now} not better than {before}",
-}
-REASONS = {
-    "no value": "no value for {name}",
-    "not known": "constraint {number} {name} not known",
-    "too large": "constraint {number} too large",
-    "not shown better": "objective {now} not shown better than {found}",
-}
 VERDICTS = "satisfied", "violated", "undecided"
 OWNED = "variable", "value"  # the parts of a text that are someone's
 KINDS = "words", "number", "place", *OWNED
 
 
-def cases():
+def cases() -> Iterator[Tuple[str, str, str]]:
     """A folder with the names of a model and a stream in it."""
     yield "examples", "first.fzn", "first.out"
     for folder in FOLDERS:
-        for path in sorted(glob.glob(f"{folder}/*/*stream.txt", root_dir=TOP)):
-            yield os.path.dirname(path), "model.fzn", os.path.basename(path)
+        for path in sorted(glob.glob(f"{TOP}/{folder}/*/*stream.txt")):
+            yield os.path.relpath(os.path.dirname(path), TOP), "model.fzn", os.path.basename(path)
 
 
-def run(program, folder, words):
-    words = [program, "check", *filter(None, words)]
-    ran = subprocess.run(words, cwd=os.path.join(TOP, folder), capture_output=True, timeout=60)
+def run(program: str, folder: str, words: Sequence[str]) -> Tuple[str, str, int]:
+    ran = subprocess.run([program, "check", *filter(None, words)], cwd=os.path.join(TOP, folder), capture_output=True, timeout=60)
     return ran.stdout.decode(), ran.stderr.decode(), ran.returncode
 
 
-def block_line(it):
-    told = it["verdict"]
-    if told == "violated":
-        told += ": " + FAULTS[it["point"]].format(**it)
-    elif told == "undecided":
-        told += ": " + REASONS[it["reason"]].format(**it)
-    return f"block {it['block']}: {told}"
-
-
-def claim_line(it):
-    told = it.get("refuted_by")
-    if "proved" in it:
-        nodes = "1 node" if it["proved"] == 1 else f"{it['proved']} nodes"
-        return f"claim: {it['claim']} proved, {nodes}"
-    if not told:
-        return f"claim: {it['claim']} not judged"
-    block = f"{'known ' if 'file' in told else ''}block {told['block']}"
-    late = "file" not in told and told["block"] > it["after"]
-    place = f"claim after block {it['after']}" if late else "claim"
-    return f"{place}: {it['claim']} refuted by {block}"
-
-
-def answer_line(it):
-    if it["answer"] == "no blocks":
-        return "no blocks"
-    if "claim_after" in it:
-        return f"rejected: claim after block {it['claim_after']}"
-    named = f"blocks {it['blocks']}" if it["answer"] == "accepted" else f"block {it['block']}"
-    return f"{it['answer']}: {named}"
-
-
-def unconstrained_line(it):
-    more = f" and {it['unconstrained_left_out']} more" if "unconstrained_left_out" in it else ""
-    return f"printed, and in no constraint: {', '.join(it['unconstrained'])}{more}"
-
-
-def refusal_line(it):
-    """The line on standard error. No case has a file that can't be read."""
-    who = f"block {it['block']}" if it["refused"] == "block" else it["refused"]
-    fault = f": {it['fault']}" if "fault" in it else ""
-    place = f" at {it['start']}..{it['end']}" if "start" in it else ""
-    return f"refused: {who}{fault}{place}"
-
-
-def value_text(it, key="value"):
-    value = it[key]
-    if isinstance(value, bool):
-        return str(value).lower()
-    if isinstance(value, int):
-        return str(value)
-    ranges = [f"{lo}" if lo == hi else f"{lo}..{hi}" for lo, hi in value]
-    if "left_out" in it:
-        ranges.append(f"... and {it['left_out']} more")
-    return "{" + ",".join(ranges) + "}"
-
-
-def known_text(it):
-    if "low" not in it:
-        return f"= {value_text(it)}"
-    low, high = (value_text(it, key) for key in ("low", "high"))
-    between = low if low == high else "false or true" if low == "false" else f"{low}..{high}"
-    return f"is {'' if it['source'] == 'its domain' else 'narrowed to '}{between}"
-
-
-def model_lines(it):
-    """What the compiler wrote at a point: names, and the place in the model behind the last."""
-    lines = list(it.get("model", {}).get("names", []))
-    if "place" in it.get("model", {}):
-        loops = ", ".join(it["model"]["loops"])
-        place = it["model"]["place"] + (f", with {loops}" if loops else "")
-        lines.append(", ".join([*lines[-1:], place]))
-        del lines[-2:-1]
-    return lines
-
-
-def full_name(it):
-    return f"{it['element']} ({it['name']})" if "element" in it else it["name"]
-
-
-def variable_lines(it):
-    name = f"{it['role']}: {full_name(it)}" if "role" in it else full_name(it)
-    if "source" not in it:
-        return [f"{name} = none: it isn't printed, and what is printed doesn't give it"]
-    source = it["source"]
-    if source != "printed":
-        source = f"by {source}"
-    if "line" in it:
-        source += f", line {it['line']}"
-    behind = [f"  {line}" for line in [*model_lines(it), *it.get("behind", [])]]
-    return [f"{name} {known_text(it)}, {source}", *behind]
-
-
-def wrong_parts(it):
+def wrong_parts(it: Object) -> List[str]:
     """What is wrong with the parts of texts in an object and in what it holds."""
-    wrong = []
+    wrong: List[str] = []
     for key, value in it.items():
         if key + "_parts" in it:
             texts = value if isinstance(value, list) else [value]
@@ -162,7 +61,7 @@ def wrong_parts(it):
     return wrong
 
 
-def wrong_part(part):
+def wrong_part(part: Object) -> Iterator[str]:
     """What is wrong with a part of a text."""
     members = {"kind", "text"} | ({"variable"} if part["kind"] in OWNED else set())
     if not part["text"] or part["kind"] not in KINDS or not members <= set(part):
@@ -175,54 +74,44 @@ def wrong_part(part):
         yield f"members of a part: {part}"
 
 
-def message_lines(it, model, stream):
+def message_lines(it: Object, model: str, stream: str) -> List[str]:
     """The lines of a message but for the excerpt of the source."""
-    notes = [variable_lines(variable) for variable in it.get("variables", [])]
-    if "left_out" in it:
-        notes.insert(8, [f"... and {it['left_out']} more ..."])
-    if "behind_left_out" in it:
-        notes.append([f"... and {it['behind_left_out']} more reasons ..."])
-    reason = [it["reason"]] if "reason" in it and "message" in it else []
-    notes = [*model_lines(it), *reason, *(line for lines in notes for line in lines)]
-    notes += [f"{full_name(each)} = {each['value']}, fixed" for each in it.get("fixed", [])]
-    name = stream if re.match("printed .* differs", it["message"]) else model
-    if "refused" in it and it["refused"] != "model":
-        name = stream
-    left_out = it.get("points_left_out", 0)
-    more = [f"... and {left_out} more points fail"] if left_out else []
-    return [f"{name}:{it['line']}:{it['column']}: {it['message']}", *notes, *it.get("notes", []), *more]
+    return [lines.message_line(it, model, stream), *lines.note_lines(it)]
 
 
-def told_lines(text):
+def told_lines(text: str) -> List[str]:
     """Those of what was written to standard error, but for the excerpts."""
-    lines = [re.sub("^ +    = ", "", line) for line in text.splitlines()]
-    return [line for line in lines if not re.match(" +([0-9]+ )?[|] ", line)]
+    found = [re.sub("^ +    = ", "", line) for line in text.splitlines()]
+    return [line for line in found if not re.match(" +([0-9]+ )?[|] ", line)]
 
 
 class Report:
     """The objects of a report, made into the lines of its text."""
 
-    def __init__(self, text, model, stream):
-        self.out, self.told, self.places, self.explained = [], [], {}, set()
+    def __init__(self, text: str, model: str, stream: str) -> None:
+        self.out: List[str] = []
+        self.told: List[str] = []
+        self.places: Dict[int, Tuple[Optional[int], Optional[int]]] = {}
+        self.explained: Set[int] = set()
         self.objects = [json.loads(line) for line in text.splitlines()]
         self.wrong = [] if text.endswith("\n") else ["the last line doesn't end"]
         for it in self.objects:
             if "verdict" in it:
-                self.out.append(block_line(it))
+                self.out.append(lines.block_line(it))
                 self.places[it["block"]] = it.get("line"), it.get("column")
             elif "claim" in it:
-                self.out.append(claim_line(it))
+                self.out.append(lines.claim_line(it))
                 if not self.out[-1].startswith("claim after"):
                     self.expect(it["after"], len(self.places), "after")
             elif "cut" in it:
                 self.out.append("cut: {}..{}".format(*it["cut"]))
             elif "answer" in it:
-                self.out.append(answer_line(it))
+                self.out.append(lines.answer_line(it))
                 self.expect([it["blocks"], *map(it.get, VERDICTS)], self.counts(), "counts")
                 if "unconstrained" in it:
-                    self.told.append(unconstrained_line(it))
+                    self.told.append(lines.unconstrained_line(it))
             elif "refused" in it:
-                self.told.append(refusal_line(it))
+                self.told.append(lines.refusal_line(it))
                 if "line" in it:
                     self.told += message_lines(it, model, stream)
             else:
@@ -235,16 +124,16 @@ class Report:
         if not self.objects or not {"answer", "refused"} & set(self.objects[-1]):
             self.wrong.append("neither an answer nor a refusal is last")
 
-    def counts(self):
+    def counts(self) -> List[int]:
         given = [it["verdict"] for it in self.objects if "verdict" in it]
         return [len(given), *map(given.count, VERDICTS)]
 
-    def expect(self, got, want, name):
+    def expect(self, got: object, want: object, name: str) -> None:
         if got != want:
             self.wrong.append(f"{name}: {got}, wanted {want}")
 
 
-def found_faults(report, objects):
+def found_faults(report: Report, objects: Dict[int, Object]) -> None:
     """An objective is found where the block is satisfied, and so is one that the next block isn't
     shown to be better than."""
     for number, it in objects.items():
@@ -257,7 +146,12 @@ def found_faults(report, objects):
             report.expect(told, (it["found"], True), f"what was found before {number}")
 
 
-def printed_objectives(model, stream):
+def read(folder: str, name: str) -> bytes:
+    with open(os.path.join(TOP, folder, name), "rb") as file:
+        return file.read()
+
+
+def printed_objectives(model: bytes, stream: bytes) -> Iterator[Tuple[int, int]]:
     """Of each block that prints the objective, its number and that value."""
     goal = re.search(rb"\bm(?:in|ax)imize\s+(\w+)\s*;", model)
     if not goal:
@@ -268,9 +162,11 @@ def printed_objectives(model, stream):
             yield number, int(value[1])
 
 
-def faults(program, folder, model, stream, options):
+def faults(program: str, folder: str, model: str, stream: str, options: Tuple[str, str]
+           ) -> List[str]:
     """What is wrong with the report as JSON, of a run with these options."""
-    names = ("--names", NAMES) if options[1] and os.path.exists(os.path.join(TOP, folder, NAMES)) else ()
+    has_names = options[1] and os.path.exists(os.path.join(TOP, folder, NAMES))
+    names = ["--names", NAMES] if has_names else []
     claims = ["--claims"] * options[0].startswith("--known")
     files = *claims, *filter(None, options), *names, model, stream
     out, err, status = run(program, folder, files)
@@ -287,18 +183,17 @@ def faults(program, folder, model, stream, options):
         report.told = [line for line in report.told if line.startswith("refused: ")]
     report.expect(report.told, told_lines(err), "what is told")
     objects = {it["block"]: it for it in report.objects if "verdict" in it}
-    with open(os.path.join(TOP, folder, model), "rb") as m, open(os.path.join(TOP, folder, stream), "rb") as s:
-        for number, value in printed_objectives(m.read(), s.read()):
-            if number in objects:
-                report.expect(objects[number].get("objective"), value, f"objective {number}")
-                report.expect(objects[number].get("found") is True, False, f"printed {number}")
+    for number, value in printed_objectives(read(folder, model), read(folder, stream)):
+        if number in objects:
+            report.expect(objects[number].get("objective"), value, f"objective {number}")
+            report.expect(objects[number].get("found") is True, False, f"printed {number}")
     found_faults(report, objects)
     if not any("explained" in it for it in report.objects) and "--explain=all" in options:
         report.expect(report.counts()[0], report.counts()[1], "blocks without explanation")
     return report.wrong
 
 
-def main():
+def main() -> int:
     program = os.path.abspath(sys.argv[1])
     passed = failed = 0
     for folder, model, stream in cases():
@@ -313,4 +208,5 @@ def main():
     return 1 if failed else 0
 
 
-sys.exit(main())
+if __name__ == "__main__":
+    sys.exit(main())

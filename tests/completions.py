@@ -16,6 +16,7 @@ from expecting import end, expect, first
 ROOT = os.path.dirname(os.path.dirname(os.path.abspath(__file__)))
 sys.path.insert(0, os.path.join(ROOT, "python"))
 from fzcheck.mzn.command import OPTIONS
+from fzcheck.solver.configure import OPTIONS as CONFIGURE_OPTIONS
 
 ASK = """source "$0"; COMP_WORDS=("$@"); COMP_CWORD=$(($# - 1)); _%s
 echo "${COMPREPLY[@]}" """
@@ -82,6 +83,13 @@ def compare_plans() -> None:
                by_bash(option, "=", program="fzcheck-mzn"))
 
 
+def compare_configure() -> None:
+    own = set(CONFIGURE_OPTIONS)
+    expect("fzcheck-configure, by bash", own, by_bash("-", program="fzcheck-configure"))
+    zsh = read("completions/fzcheck-configure.zsh").split("_arguments")[1]
+    expect("fzcheck-configure, by zsh", own, set(re.findall(r"(--[a-z]+)", zsh)))
+
+
 def main(program: str) -> int:
     words, zsh = read("crates/fz_command/src/words.rt"), read("completions/fzcheck.zsh")
     options = set(re.findall(r'\("([a-z-]+)", Kind::', words))
@@ -111,6 +119,7 @@ def main(program: str) -> int:
     expect("options, by bash", {"-h", "--help", "-V", "--version"}, by_bash("-"))
     compare_batch({f"--{it}" for it in options})
     compare_plans()
+    compare_configure()
     compare_fuzzer("fzcheck-fuzz")
     compare_fuzzer("fzcheck-shrink")
     return end()

@@ -120,7 +120,7 @@ def interrupted(place: Place) -> None:
     long = place.path("long.mzn")
     for command in ("minizinc --solver gecode", "minizinc --solver gecode-checked", SOLVER):
         words = command.split(" ") if command != SOLVER else [SOLVER]
-        status, out, _ = place.run(*words, "--time-limit", "4000", "-a", long,
+        status, out, _ = place.run(*words, "--time-limit", "10000", "-a", long,
                                    FZCHECK_LIBRARY="1", FZCHECK_SOLVER="gecode-checked")
         expect(f"{words}, a time limit", (0, True), (status, "----------" in out))
         expect(f"{words}, a time limit: no process stays", True, place.is_deserted())

@@ -1,18 +1,23 @@
 #!/usr/bin/env python3
 """Packs the program as `make dist` does, unpacks it, runs it with an empty environment, and
-compares the receipt with the sources as they are, and with changed ones.
+compares the receipt with the sources as they are, and with changed ones. Where pip is installed it
+installs the wheel, without a network.
 
     tests/package.py PROGRAM [LOG]
 
 That is done in a copy of this checkout, where a script stands in for the toolchain, so that nothing
 is proved. With LOG, what was proved here, this checkout is packed too."""
+import base64
 import glob
+import gzip
+import hashlib
 import os
 import re
 import shutil
 import subprocess
 import sys
 import tempfile
+import zipfile
 from typing import TYPE_CHECKING, List, Optional, Tuple
 
 from expecting import end, expect
@@ -39,6 +44,12 @@ rt: fz_base is kept: an earlier run proved it
 == fz_tree: its tests
 logic=proved tests=1
 proved by rt ci
+"""
+USES_MODULE = r"""
+import fzcheck
+from fzcheck import common
+report = fzcheck.check(b"var 1..2: x;\nsolve satisfy;\n", b"x = 1;\n----------\n")
+print(common.library().endswith(".msc"), report.text.splitlines()[-1])
 """
 GIT = ("git", "-c", "user.name=-", "-c", "user.email=-", "-c", "commit.gpgsign=false")
 with open(f"{ROOT}/crates.txt", encoding="utf-8") as listed:  # the program stands on all but fz_hostile
@@ -67,6 +78,12 @@ def run(*words: str, cwd: str = ROOT, **variables: str) -> "Run":
                           stderr=subprocess.STDOUT, timeout=600)
 
 
+def record_line(name: str, data: bytes) -> str:
+    """The line that a wheel's record has of a file."""
+    digest = base64.urlsafe_b64encode(hashlib.sha256(data).digest()).decode().rstrip("=")
+    return f"{name},sha256={digest},{len(data)}"
+
+
 class Checkout:
     """A checkout that is packed, and where what it packed is unpacked."""
 
@@ -78,13 +95,15 @@ class Checkout:
         return run(*words, cwd=self.folder, **self.variables)
 
     def packed(self, *options: str) -> List[bytes]:
-        """The bytes of both packages."""
+        """The bytes of the packages."""
         ran = self.run("make", *options, "dist")
         expect(f"make dist\n{ran.stdout}", 0, ran.returncode)
         self.packages = [f"{self.folder}/{path}"
                          for path in re.findall("^wrote (.*)$", ran.stdout, re.M)]
-        expect("packages", ["-x86_64-linux.tar.gz", "_amd64.deb"],
-               [re.sub(r".*/fzcheck.[\d.]+(?=[_-])", "", path) for path in self.packages])
+        expect("packages",
+               ["-x86_64-linux.tar.gz", "_amd64.deb", "-py3-none-manylinux_2__x86_64.whl"],
+               [re.sub(r".*/fzcheck.[\d.]+(?=[_-])|(?<=linux_2_)\d+", "", path)
+                for path in self.packages])
         return [read_bytes(path) for path in self.packages]
 
     def unpack(self) -> Tuple[str, str]:
@@ -111,6 +130,34 @@ class Checkout:
             expect(path, read(path), read(f"{top}/share/man/man1/{os.path.basename(path)}"))
         return f"{documents}/RECEIPT"
 
+    def installs(self) -> None:
+        """Installs the wheel below a prefix and in a folder, and uses it with no environment."""
+        wheel = self.packages[2]
+        with zipfile.ZipFile(wheel) as packed:
+            record, = (name for name in packed.namelist() if name.endswith("/RECORD"))
+            told = packed.read(record).decode().splitlines()
+            expect("the wheel's record", sorted(
+                [f"{record},,", *(record_line(name, packed.read(name))
+                                  for name in packed.namelist() if name != record)]), sorted(told))
+        if run(sys.executable, "-m", "pip", "--version").returncode != 0:
+            print("pip isn't installed: the wheel isn't installed")
+            return
+        for option in ("--target", "--prefix"):
+            place = f"{self.unpacked}/{option}"
+            ran = run(sys.executable, "-m", "pip", "install", "-q", "--no-index", "--no-deps",
+                      "--no-warn-script-location", option, place, wheel)
+            expect(f"pip: {ran.stdout}", 0, ran.returncode)
+            module, = (os.path.dirname(it) for it in glob.glob(f"{place}/**/fzcheck/py.typed",
+                                                               recursive=True))
+            words = ("env", "-i", f"PYTHONPATH={os.path.dirname(module)}")
+            ran = run(*words, sys.executable, "-c", USES_MODULE)
+            expect(f"the module {ran.stdout}", "True accepted: blocks 1\n", ran.stdout)
+            for path in glob.glob(f"{ROOT}/python/fzcheck-*"):
+                ran = run(*words, f"{place}/bin/{os.path.basename(path)}", "--help")
+                expect(f"{path}: {ran.stdout}", False, "Traceback" in ran.stdout)
+            ran = run(*words, f"{place}/bin/fzcheck-mzn", "--version")
+            expect("a companion's program", True, " with fzcheck " in ran.stdout)
+
     def compared(self, *words: str) -> "Run":
         return self.run("tools/receipt.py", *words)
 
@@ -134,10 +181,20 @@ def packs_and_compares(copy: Checkout, commit: str) -> str:
                  copy.compared(receipt, "/bin/sh"))
     expect_parts("no receipt", 2, ["it isn't a receipt"], copy.compared("README.md"))
     if shutil.which("dpkg-deb"):
-        run("dpkg-deb", "-x", copy.packages[1], copy.unpacked)
-        expect("the program in Debian's package", read_bytes(f"{copy.folder}/build/fzcheck"),
-               read_bytes(f"{copy.unpacked}/usr/bin/fzcheck"))
+        is_in_debian(copy)
+    copy.installs()
     return receipt
+
+
+def is_in_debian(copy: Checkout) -> None:
+    """Debian's package has the program, the module and the changes."""
+    run("dpkg-deb", "-x", copy.packages[1], copy.unpacked)
+    expect("the program in Debian's package", read_bytes(f"{copy.folder}/build/fzcheck"),
+           read_bytes(f"{copy.unpacked}/usr/bin/fzcheck"))
+    expect("the module there", "/usr/share/fzcheck/fzcheck",
+           os.readlink(f"{copy.unpacked}/usr/lib/python3/dist-packages/fzcheck"))
+    changes = gzip.decompress(read_bytes(f"{copy.unpacked}/usr/share/doc/fzcheck/changelog.gz"))
+    expect("the changes there", read(f"{copy.folder}/CHANGELOG.md"), changes.decode())
 
 
 def tells_of_changes(copy: Checkout, receipt: str, has_git: bool) -> None:

@@ -60,6 +60,7 @@ TESTS = [
     Test("solver", "tests/solver.py {fzcheck}", 10),
     Test("package", "tests/package.py {fzcheck} {log}", 10),
     Test("as_json", "tests/as_json.py {fzcheck}", 10),
+    Test("module", "tests/module.py {fzcheck}", 10),
     Test("broken", "tests/broken/run.py {fzcheck}", 5),
     Test("completions", "tests/completions.py {fzcheck}", 2),
     Test("typed", "tests/typed.py", 30, "mypy"),

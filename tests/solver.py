@@ -300,8 +300,18 @@ def configuration(place: Place, program: str) -> None:
                                     "executable": place.path("a solver")}}
     built_in = {"id": "org.built.in", "name": "BuiltIn", "supportsFzn": True, "extraInfo": {}}
     place.file("solvers.json", json.dumps([other, built_in]))
-    for word in ("nix", "builtin", "--remove"):
+    for word in ("nix", "builtin"):
         expect(f"configure {word}", (1, ""), place.run(CONFIGURE, word)[:2])
+    for word, told in (("--remove", "one SOLVER was expected\n"),
+                       ("--stric", "--stric: there is no such option: did you mean --strict?\n")):
+        status, out, errors = place.run(CONFIGURE, word)
+        expect(f"configure {word}", (5, "", f"fzcheck-configure: {told}"),
+               (status, out, errors.splitlines(True)[-1]))
+    for name in (CONFIGURE, SOLVER):
+        version = f"{os.path.basename(name)} with fzcheck "
+        for word, told in (("--version", version), ("--help", "")):
+            status, out, _ = place.run(name, word, FZCHECK_SOLVER="")
+            expect(f"{name} {word}", (0, True), (status, len(out) > 20 and out.startswith(told)))
     expect("configure", 0, place.run(CONFIGURE, "--library", "other")[0])
     wanted = ["other-checked", "other-checked-library", "other-checked-library.msc",
               "other-checked.msc"]

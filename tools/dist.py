@@ -4,7 +4,9 @@
     tools/dist.py
 
 It takes the program and the log that `make` or `make gate` left in build/, and writes the packages
-there. Nothing in them depends on the time or the place, but for the program itself."""
+there: a tar, one for Debian, and one for Python's pip. Nothing in them depends on the time or the
+place, but for the program itself."""
+import base64
 import gzip
 import hashlib
 import io
@@ -14,7 +16,9 @@ import subprocess
 import sys
 import tarfile
 import tempfile
-from typing import Dict, List, NoReturn
+import time
+import zipfile
+from typing import Dict, List, NoReturn, Tuple
 
 from receipt import Receipt, git, proved_crates
 from sources import ROOT, sum_of_file, text_of, why_unproved
@@ -45,6 +49,31 @@ BEFORE_REMOVAL = """\
 set -e
 find /usr/share/fzcheck -name __pycache__ -prune -exec rm -rf {} +
 """
+
+METADATA = """\
+Metadata-Version: 2.1
+Name: fzcheck
+Version: {version}
+Summary: Proved checker for the output of FlatZinc solvers
+Author: The Fulmarfuton authors
+License: MIT
+Requires-Python: >=3.8
+Description-Content-Type: text/markdown
+
+"""
+WHEEL = """\
+Wheel-Version: 1.0
+Generator: fzcheck
+Root-Is-Purelib: false
+Tag: {tag}
+"""
+# Where a wheel has what `make install` puts elsewhere. Its programs are found by pip.
+OF_WHEEL = (("bin/fzcheck", "scripts/fzcheck"), ("share/fzcheck/fzcheck-", "scripts/fzcheck-"),
+            ("share/fzcheck/minizinc/", "data/share/fzcheck/minizinc/"),
+            ("share/man/", "data/share/man/"),
+            (f"{DOCUMENTS}/RECEIPT", f"data/{DOCUMENTS}/RECEIPT"),
+            (f"{DOCUMENTS}/LICENSE", f"data/{DOCUMENTS}/LICENSE"))
+MODULES = "share/fzcheck/fzcheck/"
 
 
 def fail(why: str) -> NoReturn:
@@ -117,12 +146,16 @@ class Tar:
         return gzip.compress(self.bytes.getvalue(), mtime=self.date)
 
 
+def version_of_libc(program: bytes) -> Tuple[int, int]:
+    """The least version of the C library with which the program runs."""
+    versions = re.findall(rb"GLIBC_(\d+)\.(\d+)", program)
+    return max((int(one), int(other)) for one, other in versions)
+
+
 def libraries(program: bytes) -> str:
     """Debian's packages of the libraries that the program loads."""
-    versions = re.findall(rb"GLIBC_(\d+)\.(\d+)", program)
-    major, minor = max((int(one), int(other)) for one, other in versions)
     of_compiler = ", libgcc-s1" if b"libgcc_s.so.1" in program else ""
-    return f"libc6 (>= {major}.{minor}){of_compiler}"
+    return "libc6 (>= {}.{}){}".format(*version_of_libc(program), of_compiler)
 
 
 def control(folder: str, receipt: Receipt) -> Dict[str, str]:
@@ -152,6 +185,56 @@ def debian_package(folder: str, receipt: Receipt, date: int) -> bytes:
     return archive
 
 
+class Wheel:
+    """A package for pip: a zip of the modules and programs, and of a record of these."""
+
+    def __init__(self, version: str, date: int) -> None:
+        self.name, self.date = f"fzcheck-{version}", time.gmtime(date)[:6]
+        self.bytes = io.BytesIO()
+        self.zip = zipfile.ZipFile(self.bytes, "w", zipfile.ZIP_DEFLATED)
+        self.record: List[str] = []
+
+    def add(self, path: str, data: bytes, mode: int = 0o644) -> None:
+        member = zipfile.ZipInfo(path, max(self.date, (1980, 1, 1, 0, 0, 0)))
+        member.external_attr, member.compress_type = (0o100000 | mode) << 16, zipfile.ZIP_DEFLATED
+        self.zip.writestr(member, data)
+        digest = base64.urlsafe_b64encode(hashlib.sha256(data).digest()).decode().rstrip("=")
+        self.record.append(f"{path},sha256={digest},{len(data)}\n")
+
+    def add_installed(self, path: str, data: bytes) -> None:
+        """A file that `make install` puts below its prefix."""
+        if path.startswith(MODULES):
+            self.add(path.replace(MODULES, "fzcheck/"), data)
+        for start, place in OF_WHEEL:
+            if path.startswith(start):
+                is_program = place.startswith("scripts/")
+                data = re.sub(rb"\A#!.*", b"#!python", data) if is_program else data
+                self.add(f"{self.name}.data/{path.replace(start, place)}", data,
+                         0o755 if is_program else 0o644)
+
+    def packed(self, tag: str, metadata: str) -> bytes:
+        information = f"{self.name}.dist-info"
+        self.add(f"{information}/METADATA", metadata.encode())
+        self.add(f"{information}/WHEEL", WHEEL.format(tag=tag).encode())
+        record = f"{information}/RECORD"
+        self.add(record, "".join([*self.record, f"{record},,\n"]).encode())
+        self.zip.close()
+        return self.bytes.getvalue()
+
+
+def wheel(folder: str, receipt: Receipt, date: int) -> Dict[str, bytes]:
+    """The package for pip, by its name, of what is installed below a folder."""
+    version = receipt.version.split()[1]
+    made = Wheel(version, date)
+    for path in below(folder):
+        whole = f"{folder}/{path}"
+        if os.path.isfile(whole) and not os.path.islink(whole):
+            made.add_installed(path, read(whole))
+    tag = "py3-none-manylinux_{}_{}_x86_64".format(*version_of_libc(read(PROGRAM)))
+    about = METADATA.format(version=version) + text_of(f"{ROOT}/docs/PYTHON.md")
+    return {f"{made.name}-{tag}.whl": made.packed(tag, about)}
+
+
 def installed(room: str, receipt: Receipt, prefix: str, *variables: str) -> str:
     """A folder with what `make install` puts in place below the prefix, and the receipt."""
     subprocess.run(("make", "-s", "-o", "build/fzcheck", "-C", ROOT, "install", f"DESTDIR={room}",
@@ -170,11 +253,16 @@ def main() -> None:
         tar, top = Tar(date), f"{name}-{version}-x86_64-linux"
         tar.add_tree(installed(f"{room}/tar", receipt, ""), top)
         package = installed(f"{room}/debian", receipt, "/usr",
-                            "ZSH_FUNCTIONS=/usr/share/zsh/vendor-completions")
-        # Where Debian has a package's licence.
+                            "ZSH_FUNCTIONS=/usr/share/zsh/vendor-completions",
+                            "PYTHON_MODULES=/usr/lib/python3/dist-packages")
+        # Where Debian has a package's licence and its changes.
         write(f"{package}/usr/{DOCUMENTS}/copyright", read(f"{ROOT}/LICENSE"))
+        changes = f"{package}/usr/{DOCUMENTS}/CHANGELOG.md"
+        write(f"{package}/usr/{DOCUMENTS}/changelog.gz", gzip.compress(read(changes), mtime=date))
+        os.remove(changes)
         packages = {f"{top}.tar.gz": tar.packed(),
-                    f"{name}_{version}_amd64.deb": debian_package(package, receipt, date)}
+                    f"{name}_{version}_amd64.deb": debian_package(package, receipt, date),
+                    **wheel(f"{room}/tar", receipt, date)}
     for path, data in packages.items():
         write(f"{BUILD}/{path}", data)
         print(f"wrote build/{path}")

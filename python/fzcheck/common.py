@@ -1,17 +1,25 @@
-"""What the companions of fzcheck share: where the program and its MiniZinc library are.
+"""What the companions of fzcheck share: where the program, they themselves and the MiniZinc library
+are.
 
 In a checkout the companions are in `python/`, and the library is in `minizinc/` beside it. After
-`make install` both are in `share/fzcheck`, and `bin` has links to the companions.
+`make install` both are in `share/fzcheck`, and `bin` has links to the companions. What pip installs
+is below a prefix, the modules in `lib/python3.N/site-packages` and the programs in `bin`, or all of
+it in a folder that was named (`--target`).
 """
 import difflib
+import errno
 import os
 import shutil
-import subprocess
 from typing import Iterable, Iterator, List, Optional, Sequence
 
-PROGRAMS = os.path.dirname(os.path.dirname(os.path.realpath(__file__)))  # their folder
+MODULES = os.path.dirname(os.path.dirname(os.path.realpath(__file__)))  # their folder
+BY_PIP = (MODULES, os.path.normpath(os.path.join(MODULES, *[os.pardir] * 3)))
 LIBRARY = "fzcheck.msc"
 TELLING = ("--complete", "--cut", "--explain")  # options that tell most
+
+
+class NotInstalled(FileNotFoundError):
+    """There is no program `fzcheck`."""
 
 
 def program() -> Optional[str]:
@@ -20,45 +28,45 @@ def program() -> Optional[str]:
     return os.environ.get("FZCHECK") or shutil.which("fzcheck", path=os.pathsep.join(program_places()))
 
 
+def needed_program() -> str:
+    found = program()
+    if not found:
+        raise NotInstalled(errno.ENOENT, "is neither beside this program nor on the PATH", "fzcheck")
+    return found
+
+
 def program_places() -> Iterator[str]:
     """The folders where the program may be. A checkout's build without proof comes after one with
     proof."""
-    prefix, share = os.path.split(os.path.dirname(PROGRAMS))
+    prefix, share = os.path.split(os.path.dirname(MODULES))
     if share == "share":
         yield os.path.join(prefix, "bin")
     elif os.path.exists(os.path.join(prefix, share, "crates.txt")):
         yield os.path.join(prefix, share, "build")
         yield os.path.join(prefix, share, "build", "unproved")
     else:
-        yield PROGRAMS
+        yield from (MODULES, *(os.path.join(folder, "bin") for folder in BY_PIP))
     yield os.environ.get("PATH", "")
+
+
+def companion(name: str) -> str:
+    """The path of a companion."""
+    places = [MODULES, *(os.path.join(folder, "bin") for folder in BY_PIP)]
+    return next(filter(os.path.exists, (os.path.join(place, name) for place in places)), name)
 
 
 def library() -> str:
     """What `minizinc --solver` takes for our library: its file, or the name that MiniZinc has."""
-    return next(filter(os.path.exists, library_places()), "fzcheck")
-
-
-def library_places() -> Iterator[str]:
-    """The places where our library may be: installed, and in a checkout."""
-    yield os.path.join(PROGRAMS, "minizinc", LIBRARY)
-    yield os.path.join(PROGRAMS, os.pardir, "minizinc", LIBRARY)
+    places = [MODULES, os.path.dirname(MODULES),
+              *(os.path.join(folder, "share", "fzcheck") for folder in BY_PIP)]
+    paths = (os.path.join(place, "minizinc", LIBRARY) for place in places)
+    return next(filter(os.path.exists, paths), "fzcheck")
 
 
 def with_defaults(options: Sequence[str], defaults: Sequence[str] = TELLING) -> List[str]:
     """The options of `fzcheck check` that are given, behind the others that are always on."""
     names = [word.split("=")[0] for word in options]
     return [*(word for word in defaults if word not in names), *options]
-
-
-def version_words(companion: str) -> str:
-    """What a companion says of its version, which is that of the program that it would run."""
-    try:
-        told = subprocess.run([program() or "fzcheck", "--version"], stdout=subprocess.PIPE,
-                              check=True).stdout
-    except (OSError, subprocess.CalledProcessError):
-        return f"{companion}: no program fzcheck was found"
-    return f"{companion} with {told.decode().strip()}"
 
 
 def meant(word: str, known: Iterable[str]) -> str:

@@ -7,6 +7,7 @@ import sys
 from typing import List, NoReturn, Optional, Tuple
 
 from fzcheck import common
+from fzcheck.calls import version_words
 
 UNRECOGNISED = re.compile(r"unrecognized arguments: (\S+)")
 BEFORE_DASHES = ("--all", "--numbers", "--reference")  # options whose value may begin with a dash
@@ -31,7 +32,7 @@ class Version(argparse.Action):
     """Prints the version of the program that judges."""
 
     def __call__(self, parser: argparse.ArgumentParser, *rest: object) -> None:
-        print(common.version_words(parser.prog))
+        print(version_words(parser.prog))
         parser.exit()
 
 

@@ -134,8 +134,8 @@ class Tally:
     def __init__(self, program: str, folder: str) -> None:
         self.program, self.folder = program, folder
         self.passed = self.failed = self.most_nodes = 0
-        self.so: Counter = Counter()
-        self.told: Counter = Counter()
+        self.so: "Counter[Tuple[str, str]]" = Counter()
+        self.told: "Counter[Tuple[str, str]]" = Counter()
 
     def ask(self, model: str, claim: Claim, options: List[str]) -> None:
         """Asks of a claim, and keeps the files where the answer is wrong."""

@@ -11,6 +11,8 @@ import io
 import os
 import re
 import sys
+from typing import (
+    Any, Callable, Dict, FrozenSet, Iterator, List, NoReturn, Optional, Tuple, TypeVar, Union)
 
 HERE = os.path.dirname(os.path.abspath(__file__))
 sys.path.insert(0, os.path.join(HERE, os.pardir, os.pardir, "python"))
@@ -32,11 +34,21 @@ LEAST, MOST = -(2**63), 2**63 - 1
 MOST_SIZE, MOST_LEVELS, MOST_INDEXES = 1_048_576, 32, 6
 MOST_LISTED = 1_000_000
 
+T = TypeVar("T")
+Value = Any  # a number, a Boolean, or a frozen set
+Bounds = Union[None, range, FrozenSet[int]]
+Term = Tuple[str, Any]  # ("var", number) or ("fixed", value)
+Argument = Union[Term, List[Term]]
+Note = Tuple[str, List[Any]]
+Point = Tuple[str, str, Any, Any]
+Constraint = Tuple[str, Optional[Row], List[Argument], Optional[Term]]
+Step = Optional[Tuple[int, Value]]  # a variable and its value
+
 
 class Refused(Exception):
     """What is refused (model, stream, block N), the fault's name and its place."""
 
-    def __init__(self, what, name, start, end):
+    def __init__(self, what: str, name: str, start: int, end: int) -> None:
         super().__init__(f"refused: {what}: {name} at {start}..{end}")
         self.what, self.name, self.start, self.end = what, name, start, end
 
@@ -46,25 +58,26 @@ class TooLargeToList(Exception):
 
 
 class Token:
-    def __init__(self, sort, text, start, end, value=None):
+    def __init__(self, sort: str, text: str, start: int, end: int, value: int = 0) -> None:
         self.sort, self.text, self.start, self.end, self.value = sort, text, start, end, value
 
 
-def number_of(text):
+def number_of(text: str) -> int:
     sign, digits = (-1, text[1:]) if text.startswith("-") else (1, text)
     base = {"0x": 16, "0o": 8}.get(digits[:2], 10)
     return sign * int(digits[2:] if base != 10 else digits, base)
 
 
-def tokens_of(source, what):
-    at, tokens = 0, []
+def tokens_of(source: bytes, what: str) -> List[Token]:
+    at = 0
+    tokens: List[Token] = []
     while at < len(source):
         found = TOKEN.match(source, at)
         if not found:
             raise Refused(what, "BadByte", at, at + 1)
         sort, text, end = found.lastgroup, found[0].decode("latin-1"), found.end()
-        value = number_of(text) if sort == "whole" else None
-        if value is not None and not LEAST <= value <= MOST:
+        value = number_of(text) if sort == "whole" else 0
+        if not LEAST <= value <= MOST:
             raise Refused(what, "TooLarge", at, end)
         if sort == "word":
             sort = text if text in RESERVED else "name"
@@ -78,11 +91,11 @@ def tokens_of(source, what):
 
 
 class Literal:
-    def __init__(self, kind, raw, start, end):
+    def __init__(self, kind: str, raw: Any, start: int, end: int) -> None:
         self.kind, self.raw, self.start, self.end = kind, raw, start, end
 
     @property
-    def value(self):
+    def value(self) -> Value:
         if not isinstance(self.raw, range):
             return self.raw
         if self.raw.stop - self.raw.start > MOST_LISTED:
@@ -90,33 +103,39 @@ class Literal:
         return frozenset(self.raw)
 
 
+Basic = Union[Token, Literal]
+Item = Tuple[Token, Union[Literal, List[Literal]]]
+Declaration = Tuple[bool, Optional[int], str, Bounds, Token, Any]
+Posted = Tuple[str, List[Any], List[Note]]
+
+
 class Reader:
     """Reads the grammar; a method for each of its rules."""
 
-    def __init__(self, source, what):
+    def __init__(self, source: bytes, what: str) -> None:
         self.what, self.tokens, self.at = what, tokens_of(source, what), 0
 
     @property
-    def next(self):
+    def next(self) -> Token:
         return self.tokens[self.at]
 
-    def fail(self):
+    def fail(self) -> NoReturn:
         t = self.next
         raise Refused(self.what, "Float" if t.sort == "float" else "Syntax", t.start, t.end)
 
-    def take(self, *sorts):
+    def take(self, *sorts: str) -> Token:
         if self.next.sort not in sorts:
             self.fail()
         self.at += 1
         return self.tokens[self.at - 1]
 
-    def has(self, sort):
+    def has(self, sort: str) -> bool:
         if self.next.sort == sort:
             self.at += 1
             return True
         return False
 
-    def some(self, one, close):
+    def some(self, one: Callable[[], T], close: str) -> List[T]:
         """One or more with commas between them, or none before the closing mark."""
         items = []
         if self.next.sort != close:
@@ -126,7 +145,7 @@ class Reader:
         self.take(close)
         return items
 
-    def literal(self):
+    def literal(self) -> Literal:
         t = self.take("whole", "true", "false", "{")
         if t.sort == "{":
             numbers = self.some(lambda: self.take("whole").value, "}")
@@ -138,13 +157,13 @@ class Reader:
         high = self.take("whole")
         return Literal("S", range(t.value, high.value + 1), t.start, high.end)
 
-    def basic(self):
+    def basic(self) -> Basic:
         return self.take("name") if self.next.sort == "name" else self.literal()
 
-    def arg(self):
+    def arg(self) -> Union[Basic, List[Basic]]:
         return self.some(self.basic, "]") if self.has("[") else self.basic()
 
-    def bounds(self):
+    def bounds(self) -> Bounds:
         if self.has("int"):
             return None
         if self.next.sort not in ("whole", "{"):
@@ -154,7 +173,7 @@ class Reader:
             self.fail()
         return found.raw
 
-    def base(self):
+    def base(self) -> Tuple[str, Bounds]:
         if self.has("bool"):
             return "B", None
         if self.has("set"):
@@ -162,15 +181,15 @@ class Reader:
             return "S", self.bounds()
         return "I", self.bounds()
 
-    def plain(self):
+    def plain(self) -> str:
         sort = self.take("bool", "int", "set").sort
         if sort == "set":
             self.take("of")
             self.take("int")
         return {"bool": "B", "int": "I", "set": "S"}[sort]
 
-    def size(self):
-        if self.next.value != 1:
+    def size(self) -> int:
+        if self.next.sort != "whole" or self.next.value != 1:
             self.fail()
         self.at += 1
         self.take("..")
@@ -180,13 +199,13 @@ class Reader:
             raise Refused(self.what, "TooMany", self.next.start, self.next.end)
         return self.take("whole").value
 
-    def predicate(self):
+    def predicate(self) -> None:
         self.take("name")
         self.take("(")
         self.some(self.parameter, ")")
         self.take(";")
 
-    def parameter(self):
+    def parameter(self) -> None:
         if self.has("array"):
             self.take("[")
             self.index_set()
@@ -203,17 +222,17 @@ class Reader:
         self.take(":")
         self.take("name")
 
-    def index_set(self):
+    def index_set(self) -> None:
         if not self.has("int"):
             self.size()
 
-    def notes(self):
+    def notes(self) -> List[Note]:
         found = []
         while self.has("::"):
             found.append(self.note())
         return found
 
-    def note(self, level=1):
+    def note(self, level: int = 1) -> Note:
         """The name and the arguments."""
         if level > MOST_LEVELS and self.next.sort == "name":
             raise Refused(self.what, "TooDeep", self.next.start, self.next.end)
@@ -224,17 +243,17 @@ class Reader:
             args = self.some(lambda: self.note_arg(level + 1), ")")
         return name, args
 
-    def note_arg(self, level):
+    def note_arg(self, level: int) -> Any:
         if self.has("["):
             return self.some(lambda: self.note_basic(level), "]")
         return self.note_basic(level)
 
-    def note_basic(self, level):
+    def note_basic(self, level: int) -> Any:
         if self.next.sort == "name":
             return self.note(level)
         return self.take("float", "string") if self.next.sort in ("float", "string") else self.literal()
 
-    def declaration(self):
+    def declaration(self) -> Declaration:
         length = None
         if self.has("array"):
             self.take("[")
@@ -258,7 +277,7 @@ class Reader:
         self.take(";")
         return is_var, length, kind, bounds, name, value
 
-    def model(self):
+    def model(self) -> Tuple[List[Declaration], List[Posted], str, Optional[Basic]]:
         while self.has("predicate"):
             self.predicate()
         declarations, constraints = [], []
@@ -278,7 +297,7 @@ class Reader:
         self.take("end")
         return declarations, constraints, goal, objective
 
-    def items(self):
+    def items(self) -> List[Item]:
         found = []
         while not self.has("end"):
             name = self.take("name")
@@ -287,7 +306,7 @@ class Reader:
             self.take(";")
         return found
 
-    def printed(self):
+    def printed(self) -> Union[Literal, List[Literal]]:
         word = self.next
         if not re.fullmatch("array[1-6]d", word.text):
             return self.literal()
@@ -305,9 +324,11 @@ class Reader:
 class Model:
     """Scalars are ('var', number) or ('fixed', value); an array is a list of them with its kind."""
 
-    def __init__(self, source):
+    def __init__(self, source: bytes) -> None:
         declarations, constraints, self.goal, objective = Reader(source, "model").model()
-        self.names, self.variables, self.points = {}, [], []
+        self.names: Dict[str, Tuple[str, Any]] = {}
+        self.variables: List[Tuple[str, str]] = []
+        self.points: List[Point] = []
         for declaration in declarations:
             self.declare(*declaration)
         self.constraints = [self.constraint(*c) for c in constraints]
@@ -317,7 +338,7 @@ class Model:
             if kind != "I":
                 raise Refused("model", "Kind", objective.start, objective.end)
 
-    def scalar(self, basic, wanted=None):
+    def scalar(self, basic: Basic, wanted: Optional[str] = None) -> Tuple[str, Term]:
         """The kind and the term of a literal or a name of a scalar."""
         if isinstance(basic, Literal):
             kind, term = basic.kind, ("fixed", basic.value)
@@ -329,7 +350,7 @@ class Model:
             raise Refused("model", "Kind", basic.start, basic.end)
         return kind, term
 
-    def declare(self, is_var, length, kind, bounds, name, value):
+    def declare(self, is_var: bool, length: Optional[int], kind: str, bounds: Bounds, name: Token, value: Any) -> None:
         if name.text in self.names:
             raise Refused("model", "DuplicateName", name.start, name.end)
         if length is not None:
@@ -351,7 +372,7 @@ class Model:
         self.variables.append((name.text, kind))
         self.names[name.text] = (kind, own)
 
-    def constraint(self, name, args, notes):
+    def constraint(self, name: str, args: List[Any], notes: List[Note]) -> Constraint:
         """The name, the row or none, the arguments, the target or none."""
         row, found = row_named(name, len(args)), []
         for arg in args:
@@ -380,23 +401,23 @@ class Model:
         return name, row if fits else None, [t for _, t in found], target
 
 
-class Values(dict):
+class Values(Dict[int, Value]):
     """The values of variables by number."""
 
-    def of(self, term):
+    def of(self, term: Argument) -> Any:
         if isinstance(term, list):
             found = [self.of(t) for t in term]
             return None if None in found else found
         return term[1] if term[0] == "fixed" else self.get(term[1])
 
 
-def inside(value, bounds):
+def inside(value: Value, bounds: Bounds) -> bool:
     if bounds is None:
         return True
     return all(x in bounds for x in value) if isinstance(value, frozenset) else value in bounds
 
 
-def state_of(point, values):
+def state_of(point: Point, values: Values) -> str:
     sort, name, a, b = point
     if sort == "array":
         found = [values.of(t) for t in b]
@@ -412,7 +433,7 @@ def state_of(point, values):
     return "holds" if same(left, right) else "fails"
 
 
-def state_of_constraint(constraint, values):
+def state_of_constraint(constraint: Constraint, values: Values) -> str:
     name, row, args, target = constraint
     if row is None:
         return "unknown"
@@ -427,11 +448,11 @@ def state_of_constraint(constraint, values):
         return "too large"
 
 
-def holds_one(bounds):
+def holds_one(bounds: Union[range, FrozenSet[int]]) -> bool:
     return bounds.start + 1 == bounds.stop if isinstance(bounds, range) else len(bounds) == 1
 
 
-def step_of(point, values):
+def step_of(point: Point, values: Values) -> Step:
     """The variable's number and its value, where a declaration's point forces one."""
     sort, name, a, b = point
     if sort == "domain" and values.of(b) is None and a is not None and holds_one(a):
@@ -443,7 +464,7 @@ def step_of(point, values):
     return None
 
 
-def step_of_constraint(constraint, values):
+def step_of_constraint(constraint: Constraint, values: Values) -> Step:
     name, row, args, target = constraint
     if row is None or target is None or values.of(target) is not None:
         return None
@@ -471,7 +492,7 @@ def step_of_constraint(constraint, values):
     return target[1], value
 
 
-def step_by_result(constraint, values):
+def step_by_result(constraint: Constraint, values: Values) -> Step:
     """The same, where the only scalar without a value may be any that `defines_var` might name."""
     name, row, args, target = constraint
     flat = [t for a in args for t in (a if isinstance(a, list) else [a])]
@@ -479,7 +500,7 @@ def step_by_result(constraint, values):
     return step_of_constraint((name, row, args, unset[0]), values) if unset else None
 
 
-def filled(model, values, step_of_row=step_of_constraint):
+def filled(model: Model, values: Values, step_of_row: Callable[[Constraint, Values], Step] = step_of_constraint) -> Values:
     """Passes over the points until one sets nothing."""
     kinds = [k for _, k in model.variables]
     again = True
@@ -495,7 +516,7 @@ def filled(model, values, step_of_row=step_of_constraint):
     return values
 
 
-def start_of(model, items, number, offset):
+def start_of(model: Model, items: List[Item], number: int, offset: int) -> Values:
     """The printed values; a block that doesn't fit the model is refused."""
     what = f"block {number}"
     values = Values()
@@ -520,7 +541,7 @@ def start_of(model, items, number, offset):
     return values
 
 
-def verdict_on(model, items, values, before):
+def verdict_on(model: Model, items: List[Item], values: Values, before: Optional[int]) -> Tuple[str, Optional[int]]:
     """The verdict's words, and the objective's value."""
     now = None if model.objective is None else values.of(model.objective)
     for name, printed in items:
@@ -549,7 +570,7 @@ def verdict_on(model, items, values, before):
     return undecided or "satisfied", now
 
 
-def parts_of(stream):
+def parts_of(stream: bytes) -> Iterator[Tuple[Any, Optional[List[Item]]]]:
     """Claims as text, and blocks as their offset and items."""
     at, opened = 0, None
     for line in io.BytesIO(stream):
@@ -578,11 +599,12 @@ def parts_of(stream):
         raise Refused("stream", "Unfinished", opened, at)
 
 
-def report(model, stream, completes=False):
+def report(source: bytes, stream: bytes, completes: bool = False) -> Iterator[str]:
     """The lines of the report as they are known. With the second filling nothing is looked for
     that isn't forced."""
-    model = Model(model)
-    verdicts, before = [], None
+    model = Model(source)
+    verdicts: List[str] = []
+    before: Optional[int] = None
     for where, items in parts_of(stream):
         if items is None:
             yield f"claim: {where} not judged"
@@ -602,7 +624,7 @@ def report(model, stream, completes=False):
     yield f"accepted: blocks {len(verdicts)}" if verdicts else "no blocks"
 
 
-def main():
+def main() -> None:
     with open(sys.argv[1], "rb") as f, open(sys.argv[2], "rb") as g:
         model, stream = f.read(), g.read()
     try:

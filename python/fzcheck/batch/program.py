@@ -9,7 +9,6 @@ docs/ORGANISERS.md tells how they are used, on one machine and on several.
 import argparse
 import os
 import signal
-import subprocess
 import sys
 from typing import Dict, List, NoReturn, Tuple
 
@@ -19,6 +18,7 @@ from fzcheck.batch.results import Store, merge
 from fzcheck.batch.run import check_words, run
 from fzcheck.batch.season import Templates, season, shard_of, sum_of, tell
 from fzcheck.batch.table import Files, report
+from fzcheck.calls import Error, version, version_words
 
 WRONG_WORDS, NOT_READ = 5, 6
 ALWAYS = ("--claims", "--explain", "--json")  # options of check
@@ -90,12 +90,9 @@ def options_of(words: List[str]) -> Tuple[str, ...]:
 
 
 def setting_of(arguments: argparse.Namespace, words: List[str]) -> Setting:
-    program = common.program()
-    if not program:
-        raise FileNotFoundError(2, "is neither beside this program nor on the PATH", "fzcheck")
-    told = subprocess.run([program, "--version"], stdout=subprocess.PIPE, check=True).stdout
+    program = common.needed_program()
     limits = limits_of(arguments.limit) if arguments.limit else Limits()
-    return Setting(program, sum_of(program), told.decode().strip(), options_of(words), limits,
+    return Setting(program, sum_of(program), version(), options_of(words), limits,
                    arguments.limit or "", Store(arguments.results))
 
 
@@ -135,10 +132,11 @@ def main(words: List[str]) -> int:
         parser().error(f"{words[0]} is no command{common.meant(words[0], COMMANDS)}")
     arguments, others = parser().parse_known_args(words)
     if arguments.version:
-        print(common.version_words("fzcheck-batch"))
+        print(version_words("fzcheck-batch"))
         return 0
     if not arguments.command:
-        parser().error(f"a command is missing: {', '.join(COMMANDS)}")
+        near = common.meant(others[0], ("--help", "--version")) if others else ""
+        parser().error(f"a command is missing: {', '.join(COMMANDS)}{near}")
     if arguments.command == "run":
         return run_season(arguments, others)
     if others:
@@ -160,7 +158,7 @@ def program() -> NoReturn:
     except ValueError as error:
         tell(str(error))
         sys.exit(WRONG_WORDS)
-    except (OSError, subprocess.CalledProcessError) as error:
+    except (OSError, Error) as error:
         file, reason = getattr(error, "filename", None), getattr(error, "strerror", None)
         tell(f"{file}: {reason}" if file else str(reason or error))
         sys.exit(NOT_READ)

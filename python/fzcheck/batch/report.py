@@ -1,9 +1,10 @@
 """Reads a report that `fzcheck check --json` writes, of any length, and sums it up."""
 import json
 import re
-from typing import IO, Any, Dict, Iterator, List, Optional, Set, Tuple
+from typing import IO, Dict, Iterator, List, Optional, Set, Tuple
 
 from fzcheck.batch.results import Claim, Outcome, Result
+from fzcheck.lines import Object, block_line, note_lines, refusal_line
 
 PIECE = 1 << 22
 MOST_CLAIMS, MOST_POINTS, MOST_LINES, MOST_OBJECTIVES = 1000, 60, 60, 250
@@ -19,15 +20,6 @@ ANSWERS = {"accepted": Outcome.ACCEPTED, "undecided": Outcome.UNDECIDED,
            "no blocks": Outcome.NO_BLOCKS}
 OF_REFUSALS = {"read": Outcome.FAILED, "memory": Outcome.OUT_OF_MEMORY, "model": Outcome.MODEL,
                "names": Outcome.MODEL}
-POINT_WORDS = {"printed": "printed {name}", "domain": "domain of {name}",
-               "definition": "definition of {name}", "constraint": "constraint {number} {name}",
-               "objective": "objective {now} not better than {before}"}
-REASON_WORDS = {"no value": "no value for {name}",
-                "not known": "constraint {number} {name} not known",
-                "too large": "constraint {number} too large",
-                "not shown better": "objective {now} not shown better than {found}"}
-
-Line = Dict[str, Any]
 
 
 class Points:
@@ -113,13 +105,6 @@ def pieces(file: IO[bytes]) -> Iterator[bytes]:
         rest += piece[end:]
 
 
-def block_words(line: Line) -> str:
-    """A line of the report on a block as text."""
-    words = POINT_WORDS.get(line.get("point", ""), "")
-    words = words or REASON_WORDS.get(line.get("reason", ""), "")
-    return f"block {line['block']}: {line['verdict']}: {words.format(**line)}"
-
-
 class Reader:
     """Fills in a result by the lines of its report."""
 
@@ -181,11 +166,11 @@ class Reader:
         if self.result.better(value, self.result.reach):
             self.result.reach = value
 
-    def block(self, line: Line) -> None:
+    def block(self, line: Object) -> None:
         """A block that isn't satisfied. Where that is by its objective, it may be by itself."""
         verdict = line["verdict"]
         setattr(self.result, verdict, getattr(self.result, verdict) + 1)
-        self.first.setdefault(verdict, block_words(line))
+        self.first.setdefault(verdict, block_line(line))
         if line.get("point") == "objective" or line.get("reason") == "not shown better":
             self.result.might_be_solved = True
             self.might_reach(line.get("objective"))
@@ -193,7 +178,7 @@ class Reader:
         if "objective" in line:
             self.others.add([(line["block"], line["objective"])])
 
-    def claim(self, line: Line) -> None:
+    def claim(self, line: Object) -> None:
         key = (line["claim"], line["after"])
         before = self.claims.get(key)
         claim = Claim(*key, before.objective if before else self.objective)
@@ -207,7 +192,7 @@ class Reader:
         if by or before or len(self.claims) < MOST_CLAIMS:
             self.claims[key] = claim
 
-    def rest(self, line: Line) -> None:
+    def rest(self, line: Object) -> None:
         if "cut" in line:
             self.result.cut = cut_words(line)
         elif "explained" in line and not self.result.explanation:
@@ -241,47 +226,21 @@ def claim_words(claim: Claim) -> str:
     return f"claim after block {claim.after}: {claim.claim} {claim.judgement}"
 
 
-def cut_words(line: Line) -> str:
+def cut_words(line: Object) -> str:
     """The byte range that was cut off, and the front of its text where that is told."""
     front = f', from "{line["from"]}"' if "from" in line else ""
     return "{}..{}".format(*line["cut"]) + front
 
 
-def refusal_words(line: Line) -> str:
-    what = f"block {line['block']}" if "block" in line else line["refused"]
-    fault = f": {line['fault']}" if "fault" in line else ""
-    place = f" at {line['start']}..{line['end']}" if "start" in line else ""
+def refusal_words(line: Object) -> str:
     message = f": {line['message']}" if "message" in line else ""
-    return f"refused: {what}{fault}{place}{message}"
+    return refusal_line(line) + message
 
 
-def value_text(value: Any) -> str:
-    """A value as `fzcheck check --explain` tells it, a set by its ranges."""
-    if isinstance(value, bool):
-        return str(value).lower()
-    if isinstance(value, list):
-        ranges = (str(a) if a == b else f"{a}..{b}" for a, b in value)
-        return "{" + ",".join(ranges) + "}"
-    return "none" if value is None else str(value)
-
-
-def explanation(line: Line) -> List[str]:
+def explanation(line: Object) -> List[str]:
     """An explanation as lines of text."""
-    told = [f"line {line['line']}, column {line['column']}: {line['message']}"]
-    model = line.get("model", {})
-    place = [model["place"]] if "place" in model else []
-    told.append(", ".join(model.get("names", []) + place + model.get("loops", [])))
-    told.append(line.get("reason", ""))
-    for variable in line.get("variables", []):
-        of = variable["name"]
-        of = f"{variable['element']} ({of})" if "element" in variable else of
-        at = f", line {variable['line']}" if "line" in variable else ""
-        source = f", {variable['source']}{at}" if "source" in variable else ""
-        told.append(f"{of} = {value_text(variable.get('value'))}{source}")
-        told += [f"  {reason}" for reason in variable.get("behind", [])]
-    for fixed in line.get("fixed", []):
-        told.append(f"{fixed['name']} = {value_text(fixed['value'])}, fixed")
-    return [text for text in told + line.get("notes", []) if text][:MOST_LINES]
+    told = f"line {line['line']}, column {line['column']}: {line['message']}"
+    return [told, *note_lines(line)][:MOST_LINES]
 
 
 def read_report(file: IO[bytes], reader: Reader) -> None:

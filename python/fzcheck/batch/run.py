@@ -5,7 +5,6 @@ import multiprocessing.connection
 import os
 import shutil
 import signal
-import subprocess
 import sys
 import tempfile
 import time
@@ -16,8 +15,9 @@ from typing import Any, Callable, Dict, Iterator, List, NamedTuple, Optional, Se
 from fzcheck.batch.job import Done, Job, Running, Setting, judge, kill
 from fzcheck.batch.results import COMPLETE, UNSATISFIABLE, Finish, Outcome, Result, finish_of
 from fzcheck.batch.season import Facts, Pair, Season, facts_of, tell
+from fzcheck.calls import reported
+from fzcheck.report import Status
 
-WRONG_WORDS = 5  # the status of `fzcheck`
 MOST_KNOWN = 64
 NUMBER = 8  # bytes of the number of an item
 ON_TERMINAL, ELSEWHERE = 0.2, 60.0  # seconds between two lines
@@ -184,11 +184,10 @@ def claim_jobs(facts: Dict[str, Facts], found: Dict[Pair, Result]) -> Iterator[J
 
 def check_words(setting: Setting) -> str:
     """What is wrong with the options of check, if anything, by a run on no model."""
-    ran = subprocess.run([setting.program, "check", *setting.options, os.devnull, os.devnull],
-                         stdout=subprocess.DEVNULL, stderr=subprocess.PIPE)
-    if ran.returncode != WRONG_WORDS:
+    report = reported(b"", b"", setting.options)
+    if report.status != Status.WRONG_WORDS:
         return ""
-    return ran.stderr.decode(errors="replace").strip() or "fzcheck doesn't take these options"
+    return report.messages.strip() or "fzcheck doesn't take these options"
 
 
 def known_facts(season: Season, names: Optional[str], workers: int) -> Dict[str, Facts]:

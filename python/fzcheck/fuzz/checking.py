@@ -1,21 +1,19 @@
 """What `fzcheck check` says of a stream, and blocks as values."""
-import json
 import re
-import subprocess
-from typing import Any, Dict, Iterable, List, NamedTuple, Tuple
+from typing import Dict, Iterable, List, NamedTuple, Tuple
 
+from fzcheck.calls import Refused, check
 from fzcheck.flatzinc import Argument, Model, Name, Reader, Value, text_of
 from fzcheck.fuzz.running import MOST_PRINTED
+from fzcheck.lines import Object
 
 MARKER = "-" * 10
-STEPS = "200000"  # of the checker's searches: a fuzzer asks for many
+STEPS = 200_000  # of the checker's searches: a fuzzer asks for many
 MOST_SECONDS = 600
-ANSWERED = (0, 1, 2, 3, 4)
 ITEM = re.compile(r"\s*(\w+)\s*=.*;\s*$")
 OTHER_LINE = re.compile(r"\s*(%.*|-{10}|=====([A-Za-z]+)?=====)?\s*$")
 
 Values = Dict[Name, Value]
-Told = Dict[str, Any]
 
 
 class Setting(NamedTuple):
@@ -29,23 +27,22 @@ class Setting(NamedTuple):
     most_printed: int = MOST_PRINTED  # bytes of a run
 
 
-def checked(setting: Setting, words: List[str]) -> List[Told]:
-    """What `fzcheck check` says, line by line."""
-    command = [setting.checker, "check", "--complete", "--complete-steps", STEPS,
-               "--claims=prove", "--json", *words]
-    ran = subprocess.run(command, stdout=subprocess.PIPE, stderr=subprocess.PIPE,
-                         timeout=MOST_SECONDS)
-    if ran.returncode not in ANSWERED:
-        raise OSError(f"{' '.join(command)}: {ran.stderr.decode(errors='replace').strip()}")
-    return [json.loads(line) for line in ran.stdout.splitlines()]
+def checked(model: str, stream: str, known: str = "", is_whole: bool = True) -> List[Object]:
+    """What `fzcheck check` says of a stream for the model in a file, also where it refuses that."""
+    try:
+        return check(model, stream.encode(), complete=True, complete_steps=STEPS, claims="prove",
+                     cut=not is_whole, known=[known.encode()] * bool(known),
+                     timeout=MOST_SECONDS).json
+    except Refused as refused:
+        return refused.report.json
 
 
-def are_solutions(told: List[Told]) -> bool:
+def are_solutions(told: List[Object]) -> bool:
     return all(it.get("verdict", "satisfied") == "satisfied" and "refused" not in it
                for it in told)
 
 
-def violation(told: Told) -> str:
+def violation(told: Object) -> str:
     if told["point"] == "objective":
         return f"objective {told['now']} after {told['before']}"
     number = f" {told['number']}" if "number" in told else ""

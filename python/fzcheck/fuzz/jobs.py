@@ -9,6 +9,7 @@ import time
 from multiprocessing.synchronize import Event
 from typing import Callable, List, NamedTuple, Sequence, Union
 
+from fzcheck.calls import Error
 from fzcheck.fuzz.checking import Setting
 from fzcheck.fuzz.features import Taken
 from fzcheck.fuzz.probe import Prober
@@ -81,7 +82,7 @@ def work(part: Work, deadline: float, messages: "multiprocessing.Queue[Message]"
     try:
         with tempfile.TemporaryDirectory(prefix=PREFIX) as folder:
             part.run(folder, messages.put, lambda: stop.is_set() or time.monotonic() > deadline)
-    except (OSError, AssertionError, ValueError) as error:
+    except (Error, OSError, AssertionError, ValueError) as error:
         messages.put(f"{FAILED}{error}")
     finally:
         messages.put("")

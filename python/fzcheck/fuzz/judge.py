@@ -8,11 +8,12 @@ from typing import Iterator, List, Optional, Sequence
 
 from fzcheck.flatzinc import Model, Name, Stream, stream_of
 from fzcheck.fuzz.checking import (
-    Setting, Told, Values, are_solutions, block_of, checked, cleaned, in_words, printed_values,
+    Setting, Values, are_solutions, block_of, checked, cleaned, in_words, printed_values,
     violation)
 from fzcheck.fuzz.faults import Fault, Kind, Outcome, Wrong
 from fzcheck.fuzz.running import End, Ran, solve
 from fzcheck.fuzz.truth import Truth, truth_of
+from fzcheck.lines import Object
 
 COMPLETE = "=========="
 NOTHING_SAID = ("=====UNKNOWN=====", "=====ERROR=====")
@@ -40,13 +41,8 @@ class Case:
         self.setting, self.model, self.is_own = setting, model, is_own
         self.path = os.path.join(folder, "model.fzn")
         self.given = known
-        self.write("", model.text())
-
-    def write(self, suffix: str, text: str) -> str:
-        path = self.path + suffix
-        with open(path, "w", encoding="utf-8") as file:
-            file.write(text)
-        return path
+        with open(self.path, "w", encoding="utf-8") as file:
+            file.write(model.text())
 
     @cached_property
     def truth(self) -> Optional[Truth]:
@@ -67,14 +63,11 @@ class Case:
         return values_of(self.model, stream_of(ran.output))
 
     @cached_property
-    def known_words(self) -> List[str]:
-        if not self.known:
-            return []
-        return ["--known", self.write(".known", "".join(map(block_of, self.known)))]
+    def known_stream(self) -> str:
+        return "".join(map(block_of, self.known))
 
     def is_solution(self, block: str) -> bool:
-        told = checked(self.setting, [self.path, self.write(".block", block)])
-        return are_solutions(told)
+        return are_solutions(checked(self.path, block))
 
     @cached_property
     def has_solution(self) -> bool:
@@ -108,7 +101,7 @@ class Judgement:
         self.ran = solve(solver, case.path, self.setting.limit, self.setting.most_printed)
         self.stream = stream_of(self.ran.output)
         self.claims = [claim for claim, _ in self.stream.claims]
-        self.told: List[Told] = []
+        self.told: List[Object] = []
         self.is_readable = True
 
     def outcome(self) -> Outcome:
@@ -158,11 +151,9 @@ class Judgement:
                 yield Wrong(kind, f"block {it['block']} is violated: {violation(it)}")
                 break
 
-    def judged(self, output: str) -> List[Told]:
-        stream = self.case.write(".stream", output)
+    def judged(self, output: str) -> List[Object]:
         is_whole = self.ran.end == End.EXIT and self.ran.status == 0
-        return checked(self.setting, [*([] if is_whole else ["--cut"]), *self.case.known_words,
-                                      self.case.path, stream])
+        return checked(self.case.path, output, self.case.known_stream, is_whole)
 
     def of_run(self) -> Iterator[Wrong]:
         ran, blocks = self.ran, self.stream.blocks

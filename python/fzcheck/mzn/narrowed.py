@@ -5,12 +5,12 @@ one of its constraints at a time, and the plan is checked against that, as long 
 import os
 import re
 import time
-from typing import Any, Callable, Dict, List, NamedTuple, Optional
+from typing import Callable, Dict, List, NamedTuple, Optional
 
+from fzcheck.lines import Object
 from fzcheck.mzn.model import MODEL, Failed, Inputs, Model, compiled_beside
 from fzcheck.mzn.sources import SourceItem, declared, shown_path
 
-Object = Dict[str, Any]
 MOST_TRIED, MOST_SECONDS = 20, 30.0
 MOST_BYTES = 5_000_000  # of a FlatZinc that is compiled anew
 DOMAIN = re.compile(r"domain of (\w+) fails in block (\d+)")

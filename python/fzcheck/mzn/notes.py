@@ -1,11 +1,10 @@
 """What `fzcheck check` can't know of a plan: how a name differs that isn't in the FlatZinc, what
 isn't checked and what isn't printed. These become parts of its report, and may change its answer."""
-from typing import Any, Dict, List, NamedTuple, Optional, Tuple
+from typing import Dict, List, NamedTuple, Optional, Tuple
 
+from fzcheck import Status
+from fzcheck.lines import Object
 from fzcheck.mzn.stream import Writer
-
-Object = Dict[str, Any]
-ACCEPTED, UNDECIDED = 0, 2
 
 
 class Notes(NamedTuple):
@@ -18,7 +17,7 @@ class Notes(NamedTuple):
         found = [self.told(one) for one in objects]
         if not found or "answer" not in found[-1]:
             return found, status
-        is_accepted = status == ACCEPTED
+        is_accepted = status == Status.ACCEPTED
         answer = found.pop()
         if self.writer.unchecked:
             found.append({"not_checked": list(self.writer.unchecked)})
@@ -26,7 +25,7 @@ class Notes(NamedTuple):
             found.append({"not_printed": list(self.writer.missing), "found": is_accepted})
         why = self.reason()
         if is_accepted and why:
-            status = UNDECIDED
+            status = Status.UNDECIDED
             answer = {**answer, "answer": "undecided", "why": why}
         return [*found, answer], status
 

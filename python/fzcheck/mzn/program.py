@@ -24,12 +24,12 @@ An example: minizinc roster.mzn roster.dzn | fzcheck-mzn roster.mzn roster.dzn
 import json
 import os
 import shutil
-import subprocess
 import sys
 import tempfile
 from typing import Dict, List, NamedTuple, NoReturn, Optional
 
-from fzcheck import common
+from fzcheck import Report, common
+from fzcheck.calls import reported, version_words
 from fzcheck.mzn.command import Words, Wrong, words_of
 from fzcheck.mzn.computed import OutputModel
 from fzcheck.mzn.model import MODEL, TABLE, Failed, Model, compiled
@@ -111,7 +111,7 @@ class Translation:
         except Refused:
             return {}
         found: Dict[int, str] = {}
-        for one in map(json.loads, checked(words, model, path, []).stdout.splitlines()):
+        for one in checked(words, model, path, []).json:
             if one.get("verdict") == "violated":
                 found[one["block"]] = ""
             elif "explained" in one:
@@ -131,16 +131,13 @@ class Translation:
             raise Failed(f"the model has variables of floats, which fzcheck can't check{of}")
 
 
-def checked(words: Words, model: Model, stream: str,
-            known: List[str]) -> "subprocess.CompletedProcess[str]":
+def checked(words: Words, model: Model, stream: str, known: List[str]) -> Report:
     """Runs the program on the stream, which stands in this file."""
-    others = [word for path in known for word in ("--known", path)]
     explain = "--explain" if words.has("--first") else "--explain=every"
-    options = common.with_defaults(words.options, ("--complete", "--cut", explain, "--json"))
-    return subprocess.run(
-        [common.program() or "fzcheck", "check", *options, *others,
-         "--names", os.path.join(model.folder, TABLE), os.path.join(model.folder, MODEL), stream],
-        stdout=subprocess.PIPE, stderr=subprocess.PIPE, encoding="utf-8", errors="surrogateescape")
+    options = common.with_defaults(words.options, ("--complete", "--cut", explain))
+    others = [word for path in known for word in ("--known", path)]
+    return reported(os.path.join(model.folder, MODEL), stream,
+                    [*options, *others, "--names", os.path.join(model.folder, TABLE)])
 
 
 def judge(words: Words, scratch: str) -> int:
@@ -158,11 +155,11 @@ def judge(words: Words, scratch: str) -> int:
     known = [translation.translated(path, text_of(path), os.path.join(scratch, f"known {number}"))
              for number, path in enumerate(words.known)]
     doing("checking")
-    ran = checked(words, model, stream, [one.path for one in known])
+    report = checked(words, model, stream, [one.path for one in known])
     doing("")
     narrowing = Narrowing(model, words.inputs, translation.sources, scratch,
                           lambda alone: translation.violated(alone, words, text))
-    return tell(words, model, plan, known, narrowing, ran)
+    return tell(words, model, plan, known, narrowing, report)
 
 
 def copied(model: Model, folder: str) -> Model:
@@ -174,15 +171,15 @@ def copied(model: Model, folder: str) -> Model:
 
 
 def tell(words: Words, model: Model, plan: Translated, known: List[Translated],
-         narrowing: Narrowing, ran: "subprocess.CompletedProcess[str]") -> int:
+         narrowing: Narrowing, report: Report) -> int:
     """Reports what the program found, in the words of the model, and what isn't checked."""
     writer, text = plan.writer, plan.text
     cut = None if writer.cut is None else (len(encoded(text[: writer.cut])), len(encoded(text)))
     source = Source(model, plan.name, text.split("\n"), plan.solutions, writer.lines, cut)
     notes = Notes(writer, {one.path: one.name for one in known}, words.has("--strict"))
-    objects, status = notes.added(list(map(json.loads, ran.stdout.splitlines())), ran.returncode)
+    objects, status = notes.added(report.json, report.status)
     write(words, Told(source, list(map(narrowing.told, objects))))
-    sys.stderr.write(ran.stderr)
+    sys.stderr.write(report.messages)
     for message in plan.plan.messages:
         say(f"the plan tells of an error: {message}")
     if writer.cut is not None and not writer.blocks:
@@ -209,7 +206,7 @@ def main(words: List[str]) -> int:
         print(usage, end="")
         return DONE
     if "--version" in words:
-        print(common.version_words("fzcheck-mzn"))
+        print(version_words("fzcheck-mzn"))
         return DONE
     try:
         with tempfile.TemporaryDirectory(prefix="fzcheck") as scratch:

@@ -1,15 +1,15 @@
 """The report of `fzcheck check --json` in the planner's words, as text or as JSON."""
 import json
-from typing import Any, Dict, Iterator, List, NamedTuple, Optional, Tuple
+from typing import Dict, Iterator, List, NamedTuple, Optional, Tuple
 
+from fzcheck import lines
+from fzcheck.lines import Object
 from fzcheck.mzn.failures import Failure, Reader, undecided
 from fzcheck.mzn.groups import grouped
 from fzcheck.mzn.items import Items
 from fzcheck.mzn.model import Model
 from fzcheck.mzn.plan import Solution
 from fzcheck.mzn.wording import Wording, joined
-
-Object = Dict[str, Any]
 
 
 class Source(NamedTuple):
@@ -62,19 +62,15 @@ class Told:
     def report_line(self, found: Object) -> str:
         if "verdict" in found:
             return self.verdict(found)
-        if "claim" in found:
-            return claim_line(found)
-        if "cut" in found:
-            return "cut: {}..{}".format(*found["cut"])
-        if "answer" in found:
-            return answer_line(found)
+        if "answer" in found and "why" in found:
+            return f"{found['answer']}: {found['why']}"
         if "not_checked" in found:
             return f"not checked: {', '.join(found['not_checked'])}"
         if "not_printed" in found:
             fit = ", found values that fit" if found["found"] else ""
             *names, last = found["not_printed"]
             return f"not printed: {', '.join(names)}{' and ' * bool(names)}{last}{fit}"
-        return ""
+        return "\n".join(lines.report_lines([found], tells_file=True))
 
     def verdict(self, found: Object) -> str:
         """The line of a block."""
@@ -103,9 +99,7 @@ class Told:
             if "points_left_out" in found:
                 yield f"... and {found['points_left_out']} more points fail"
             if found.get("unconstrained"):
-                left = found.get("unconstrained_left_out")
-                more = f" and {left} more" if left else ""
-                yield f"printed, and in no constraint: {', '.join(found['unconstrained'])}{more}"
+                yield lines.unconstrained_line(found)
             if "refused" in found and "message" in found:
                 yield found["message"]
 
@@ -149,27 +143,3 @@ def model_of(failure: Failure) -> Object:
     """What fails in the model."""
     place = {"place": str(failure.place)} if failure.place else {}
     return {"names": [failure.subject], **place, "loops": list(failure.loops)}
-
-
-def claim_line(found: Object) -> str:
-    line, refuted = f"claim: {found['claim']}", found.get("refuted_by")
-    if "proved" in found:
-        return f"{line} proved, {found['proved']} node{'s' * (found['proved'] != 1)}"
-    if not refuted:
-        return f"{line} not judged"
-    if "file" in refuted:
-        return f"{line} refuted by known block {refuted['block']} of {refuted['file']}"
-    if refuted["block"] > found["after"]:
-        line = f"claim after block {found['after']}: {found['claim']}"
-    return f"{line} refuted by block {refuted['block']}"
-
-
-def answer_line(found: Object) -> str:
-    answer = str(found["answer"])
-    if "claim_after" in found:
-        return f"{answer}: claim after block {found['claim_after']}"
-    if answer == "accepted":
-        return f"{answer}: blocks {found['blocks']}"
-    if "why" in found:
-        return f"{answer}: {found['why']}"
-    return f"{answer}: block {found['block']}" if "block" in found else answer

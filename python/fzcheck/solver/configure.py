@@ -2,6 +2,7 @@
 
     fzcheck-configure [--library] [--strict] SOLVER
     fzcheck-configure --remove SOLVER
+    fzcheck-configure --help, fzcheck-configure --version
 
 SOLVER is what `minizinc --solver` takes: for `gecode` the solver `gecode-checked` is added to the
 user's own, and with --library also `gecode-checked-library`, which is checked against what our
@@ -16,8 +17,11 @@ import sys
 from typing import Any, Dict, List, Set
 
 from fzcheck import common
+from fzcheck.calls import version_words
 
-SCRIPT = os.path.join(common.PROGRAMS, "fzcheck-solver")
+WRONG_WORDS = 5
+OPTIONS = ("--library", "--remove", "--strict", "--help", "--version")
+SCRIPT = common.companion("fzcheck-solver")
 MARK = "checked by fzcheck while it runs"
 KEPT = ("version", "mznlibVersion", "stdFlags", "extraFlags", "supportsFzn", "needsSolns2Out",
         "needsStdlibDir", "needsMznExecutable", "isGUIApplication")
@@ -108,17 +112,30 @@ def add(solver: Solver, bases: List[str], with_library: bool, is_strict: bool) -
                   **strict)
 
 
+def solver_of(words: List[str], options: List[str]) -> str:
+    """The one word that isn't an option."""
+    others = [word for word in words if word not in options]
+    wrong = next((word for word in others if word.startswith("-")), "")
+    if len(others) == 1 and not wrong:
+        return others[0]
+    print(__doc__.split("\n\n")[1], file=sys.stderr)
+    why = f"{wrong}: there is no such option{common.meant(wrong, OPTIONS)}"
+    print(f"fzcheck-configure: {why if wrong else 'one SOLVER was expected'}", file=sys.stderr)
+    sys.exit(WRONG_WORDS)
+
+
 def main(words: List[str]) -> None:
-    options = [word for word in words if word in ("--library", "--remove", "--strict")]
-    solvers = [word for word in words if word not in options]
-    if len(solvers) != 1 or solvers[0].startswith("-"):
-        sys.exit(__doc__.split("\n\n")[1])
+    if {"--help", "-h", "--version"} & {*words}:
+        print(version_words("fzcheck-configure") if "--version" in words else __doc__.strip())
+        return
+    options = [word for word in words if word in OPTIONS]
+    name = solver_of(words, options)
     folder = minizinc("--config-dirs")["userSolverConfigDir"]
-    short = solvers[0].split(".")[-1].lower()
+    short = name.split(".")[-1].lower()
     bases = [os.path.join(folder, short + end) for end in ("-checked", "-checked-library")]
     if "--remove" in options:
         return remove(bases)
-    solver = found(solvers[0])
+    solver = found(name)
     os.makedirs(folder, exist_ok=True)
     add(solver, bases, "--library" in options, "--strict" in options)
     print(f"run: minizinc --solver {solver['id']}-checked model.mzn")

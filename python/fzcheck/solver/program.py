@@ -2,7 +2,8 @@
 
     FZCHECK_SOLVER=PROGRAM fzcheck-solver [OPTION..] MODEL.fzn
 
-All words are the solver's own. Its output is passed on as it comes, and its status is kept; where a
+All words are the solver's own, except where FZCHECK_SOLVER names none: then --help prints this, and
+--version the version. Its output is passed on as it comes, and its status is kept; where a
 block is violated the status is 1, and a comment in the output says so. Standard error tells what
 isn't satisfied, and at last the answer, or what wasn't checked and why; with FZCHECK_STRICT the
 status is then 1 for all but `accepted`. docs/MINIZINC.md says what FZCHECK_OPTIONS,
@@ -15,6 +16,7 @@ import subprocess
 import sys
 from typing import List, NoReturn, Optional, Tuple
 
+from fzcheck.calls import version_words
 from fzcheck.solver.checker import Checker
 from fzcheck.solver.library import run_against_library
 from fzcheck.solver.output import say, write
@@ -86,6 +88,9 @@ def touch(folder: str, name: str) -> None:
 
 def main(words: List[str]) -> int:
     solver = os.environ.get("FZCHECK_SOLVER")
+    if not solver and words in (["--help"], ["-h"], ["--version"]):
+        print(version_words("fzcheck-solver") if words == ["--version"] else __doc__)
+        return 0
     if not solver or not words:
         say("FZCHECK_SOLVER has to name the solver, and the last word its model")
         return 5
