@@ -37,7 +37,8 @@ def cases() -> Iterator[Tuple[str, str, str]]:
 
 
 def run(program: str, folder: str, words: Sequence[str]) -> Tuple[str, str, int]:
-    ran = subprocess.run([program, "check", *filter(None, words)], cwd=os.path.join(TOP, folder), capture_output=True, timeout=60)
+    ran = subprocess.run([program, "check", *filter(None, words)], cwd=os.path.join(TOP, folder),
+                         capture_output=True, timeout=60)
     return ran.stdout.decode(), ran.stderr.decode(), ran.returncode
 
 
@@ -142,8 +143,8 @@ def found_faults(report: Report, objects: Dict[int, Object]) -> None:
             report.expect(told, (True, "satisfied", True), f"what is found, {number}")
         if it.get("reason") == "not shown better":
             before = objects[number - 1]
-            told = before.get("objective"), before.get("found")
-            report.expect(told, (it["found"], True), f"what was found before {number}")
+            found = before.get("objective"), before.get("found")
+            report.expect(found, (it["found"], True), f"what was found before {number}")
 
 
 def read(folder: str, name: str) -> bytes:

@@ -3,9 +3,11 @@
 
     tests/debian.py [ROOT]
 
-The package is made of what was proved here, by `make dist`. ROOT is a bare root, which `debootstrap` makes where it isn't
-there (700 MB, from Debian's mirrors); it is outside the checkout, where `rt ci` takes no links.
-Where debootstrap isn't installed, or this isn't run by root, it says so, and tries nothing."""
+The package is made of what was proved here, by `make dist`. ROOT is a bare root, which
+`debootstrap` makes where it isn't there (700 MB, from Debian's mirrors); it is outside the checkout,
+where `rt ci` takes no links.
+Where debootstrap isn't installed or reaches no mirror, or this isn't run by root, it says so, and
+tries nothing."""
 import glob
 import os
 import re
@@ -30,6 +32,7 @@ solve minimize x;
 END
 echo "= toolchain"; command -v rt rattle clang cc
 echo "= example"; fzcheck check first.fzn first.out
+echo "= module"; python3 -c 'import fzcheck; print(fzcheck.check("first.fzn", "first.out").text)'
 echo "= manual"; man fzcheck | sed -n 4p
 echo "= checked"; fzcheck-configure gecode >/dev/null
 FZCHECK_VERBOSE=1 minizinc --solver gecode-checked /tmp/model.mzn
@@ -45,6 +48,7 @@ find / -xdev -name "*fzcheck*" -not -path "/tmp/*" -not -path "/var/cache/*"
 WHOLE = {
     "toolchain": "",
     "example": "block 1: satisfied\naccepted: blocks 1\n",
+    "module": "block 1: satisfied\naccepted: blocks 1\n\n",
     "bash": "--explain --explain=all --explain=every\n",
     "zsh": "_fzcheck\n",
     "verified": "",
@@ -57,20 +61,25 @@ PARTS = {
 }
 
 
-def make_root(root: str) -> None:
+def has_root(root: str) -> bool:
+    """Whether there is a bare Debian, or one can be made."""
     if not os.path.exists(f"{root}/is-made"):
         shutil.rmtree(root, ignore_errors=True)
         os.makedirs(root)
-        subprocess.run(("debootstrap", "--variant=minbase", f"--include={PACKAGES}", "bookworm",
-                        root), check=True, stdout=subprocess.DEVNULL)
+        ran = subprocess.run(("debootstrap", "--variant=minbase", f"--include={PACKAGES}",
+                              "bookworm", root), stdout=subprocess.PIPE, text=True)
+        if ran.returncode != 0:
+            print("".join(ran.stdout.splitlines(True)[-3:]), end="")
+            return False
         open(f"{root}/is-made", "w").close()
+    return True
 
 
 def main(root: str = HERE) -> int:
-    if not shutil.which("debootstrap") or os.geteuid() != 0:
-        print("debootstrap isn't installed, or this isn't root: no Debian was tried")
+    if not shutil.which("debootstrap") or os.geteuid() != 0 or not has_root(root):
+        print("debootstrap isn't installed or fails, or this isn't root: no Debian was tried")
+        print("0 passed, 0 failed")
         return 0
-    make_root(root)
     subprocess.run(["make", "-s", "-o", "build/fzcheck", "-C", ROOT, "dist"], check=True)
     package = max(glob.glob(f"{ROOT}/build/fzcheck_*_amd64.deb"), key=os.path.getmtime)
     shutil.copy(package, f"{root}/tmp/fzcheck.deb")

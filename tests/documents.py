@@ -3,7 +3,8 @@
 crate promises", with the contracts in crates/, and the table of docs/TESTING.md, "What the prover
 refuses", with the edits of the gate. Those of tests/wrong, which the gate doesn't try, must still
 fit their files. Each file that a document names by its path must be there. CONTRIBUTING.md, "A
-builtin", names each file in which its example stands.
+builtin", names each file in which its example stands. The program's manual page names those of its
+companions.
 
 Each clause that a row names must stand at one of the row's calls, and each call must have one of
 them; where a row names none, each call must have an `ensures`. A call is looked for in the crates
@@ -102,7 +103,16 @@ def unnamed_places() -> List[pathlib.Path]:
     return [path.relative_to(ROOT) for path, text in texts if EXAMPLE.search(text)]
 
 
+def pages() -> List[pathlib.Path]:
+    """The manual pages of the companions."""
+    return sorted((ROOT / "docs").glob("fzcheck-*.1"))
+
+
 def wrong() -> Iterator[str]:
+    see_also = (ROOT / "docs" / "fzcheck.1").read_text().split(".Sh SEE ALSO\n")[1]
+    for page in pages():
+        if f".Xr {page.stem} 1" not in see_also:
+            yield f"docs/fzcheck.1: {page.stem} isn't seen also"
     for place in unnamed_places():
         yield f"CONTRIBUTING.md: a builtin stands in {place} too"
     for document, path in named_files():
@@ -119,7 +129,7 @@ def wrong() -> Iterator[str]:
 
 
 EDITS = list(ROOT.glob("tests/wrong/*/*.edit"))
-CHECKS = len(list(rows())) + 3 + len(EDITS) + len(list(named_files()))
+CHECKS = len(list(rows())) + 3 + len(pages()) + len(EDITS) + len(list(named_files()))
 faults = list(wrong())
 for fault in faults:
     print(f"failed: {fault}")

@@ -74,8 +74,9 @@ def compare(program: str, case: Case) -> None:
         status, text = ran(program, "check", *options, case.model, case.stream)
         _, objects = ran(program, "check", "--json", *options, case.model, case.stream)
         wanted = status, text, [json.loads(line) for line in objects.splitlines()]
-        for model, stream in ((case.model, pathlib.Path(case.stream)),
-                              (read(case.model), read(case.stream))):
+        ways: List[Tuple[fzcheck.Source, fzcheck.Source]] = [
+            (case.model, pathlib.Path(case.stream)), (read(case.model), read(case.stream))]
+        for model, stream in ways:
             report = checked(model, stream, words)
             expect(f"{case.stream} {options}", wanted,
                    (report.status, report.text.encode(), report.json))
@@ -186,7 +187,7 @@ def of_page(folder: str) -> None:
     for what, printed, waits, parts in (
             ("a right solver", best, "0", "OK"),
             ("a wrong solution", STREAM, "600", "x = 8, not ≤ 7"),
-            ("no better solution", best.replace(b"1", b"6"), "600", "objective 6 not better than 5"),
+            ("no better", best.replace(b"1", b"6"), "600", "objective 6 not better than 5"),
             ("a false claim", b"x = 5;\n----------\n=====UNSATISFIABLE=====\n", "0", "refuted by")):
         with open(os.path.join(models, "printed"), "wb") as file:
             file.write(printed)

@@ -16,12 +16,15 @@ ROOT = os.path.dirname(os.path.dirname(os.path.abspath(__file__)))
 TYPED = (
     "python/fzcheck/*.py python/fzcheck/*/*.py",
     "tools/*.py",
-    """tests/completions.py tests/debian.py tests/documents.py tests/expecting.py tests/headline.py
-    tests/inside.py tests/minizinc.py tests/package.py tests/run.py tests/solver.py
-    tests/typed.py""",
+    """tests/as_json.py tests/completions.py tests/debian.py tests/documents.py tests/expecting.py
+    tests/headline.py tests/inside.py tests/minizinc.py tests/module.py tests/package.py
+    tests/run.py tests/solver.py tests/typed.py""",
     "tests/program/run.py",
+    "tests/cases/*.py",
+    "tests/corpus/*.py",
+    "tests/hostile/*.py",
 )
-FOLDERS = "python:tools:tests"  # where modules are
+FOLDERS = "python:tools:tests:tests/cases:tests/corpus"  # where modules are
 
 
 def files_of(patterns: str) -> List[str]:

@@ -11,6 +11,7 @@ import subprocess
 import sys
 import tempfile
 from concurrent.futures import ThreadPoolExecutor
+from typing import Dict, Iterable, Iterator, Match, Optional, Set, Tuple
 
 import tables
 
@@ -20,25 +21,26 @@ STATUSES = {"accepted": 0, "rejected": 1, "undecided": 2, "no blocks": 3, "refus
 NUMBERS = [-(2**63), -3, -1, 0, 1, 2, 5, 62, 63, 64, 65, 70, 71, 100, 200, 2**63 - 1]
 PAIRS_OF_SETS = 250
 MOST_SECONDS = 60
+Answer = Tuple[Optional[int], str, str]  # a status, standard output and standard error
 
 
-def written(numbers):
+def written(numbers: Set[int]) -> str:
     return "{" + ",".join(map(str, numbers)) + "}"
 
 
-def ranges(numbers):
+def ranges(numbers: Set[int]) -> str:
     """The ranges of a set, as they are told."""
     firsts = sorted(n for n in numbers if n - 1 not in numbers)
     lasts = sorted(n for n in numbers if n + 1 not in numbers)
     return "Ok([" + ", ".join(f"{a}..{b}" for a, b in zip(firsts, lasts)) + "])\n"
 
 
-def told(answers):
+def told(answers: Iterable[object]) -> str:
     shown = (str(a).lower() if isinstance(a, bool) else str(a) for a in answers)
     return "(" + ", ".join(shown) + ")\n"
 
 
-def sets():
+def sets() -> Iterator[tables.Case]:
     """Cases of pairs of random sets, and of all that is asked of them."""
     choice = random.Random(1)
     for _ in range(PAIRS_OF_SETS):
@@ -53,7 +55,7 @@ def sets():
         yield "fz_hostile sets ask TEXT", text, "", "".join(map(told, asked))
 
 
-def many():
+def many() -> Iterator[tables.Case]:
     """Cases of 120 variables that are all different, of which a block has every other one. Any
     order of the other numbers will do, but not where there is one too few."""
     names = [f"x{n}" for n in range(120)]
@@ -67,18 +69,18 @@ def many():
         yield "fzcheck check --complete TEXT STREAM", text, stream, answer
 
 
-def readable(out):
+def readable(out: str) -> str:
     """What CALLS prints, with byte ranges and ranges as `A..B`, and names as they are written."""
     out = re.sub(r"(?:Span|Range) \{ (?:start|lo): (-?\d+), (?:end|hi): (-?\d+) \}", r"\1..\2", out)
     return re.sub(r"\[(\d+(?:, \d+)*)\]", named, out)
 
 
-def named(codes):
+def named(codes: Match[str]) -> str:
     text = "".join(chr(int(code)) for code in codes[1].split(", "))
     return text if text.isascii() and text.isidentifier() else codes[0]
 
 
-def wanted(command, text):
+def wanted(command: str, text: str) -> Answer:
     """The status, standard output and standard error, of which the last two are one text where a
     verdict is explained."""
     if command.startswith("fz_hostile"):
@@ -92,17 +94,17 @@ def wanted(command, text):
     return status, "".join(line for line in lines if line not in refused), "".join(refused)
 
 
-def given(programs, command, text, stream):
+def given(programs: Dict[str, str], command: str, text: str, stream: str) -> Answer:
     program, *words = command.split()
     with tempfile.TemporaryDirectory() as folder:
         for name, content in (("TEXT", text), ("STREAM", stream)):
             with open(os.path.join(folder, name), "wb") as f:
                 f.write(content.encode("latin-1"))
         words = [programs[program], *words]
-        err = subprocess.STDOUT if "--explain" in command else subprocess.PIPE
+        to = subprocess.STDOUT if "--explain" in command else subprocess.PIPE
         try:
             ran = subprocess.run(
-                words, cwd=folder, stdout=subprocess.PIPE, stderr=err, timeout=MOST_SECONDS
+                words, cwd=folder, stdout=subprocess.PIPE, stderr=to, timeout=MOST_SECONDS
             )
         except subprocess.TimeoutExpired:
             return None, f"more than {MOST_SECONDS} seconds", ""
@@ -110,7 +112,7 @@ def given(programs, command, text, stream):
     return ran.returncode, readable(out) if program == "fz_hostile" else out, err
 
 
-def cases():
+def cases() -> Iterator[Tuple[str, tables.Case]]:
     """The name of a table, and a case."""
     for case in tables.constraints("builtins.txt"):
         yield "builtins.txt", case
@@ -125,8 +127,9 @@ def cases():
         yield "many", case
 
 
-def main():
-    programs = dict(zip(("fzcheck", "fz_hostile"), map(os.path.abspath, sys.argv[1:3])))
+def main() -> int:
+    paths = [os.path.abspath(path) for path in sys.argv[1:3]]
+    programs = dict(zip(("fzcheck", "fz_hostile"), paths))
     every = [case for case in cases() if case[1][0].split()[0] in programs]
     with ThreadPoolExecutor(os.cpu_count()) as pool:
         answers = list(pool.map(lambda case: given(programs, *case[1][:3]), every))

@@ -59,8 +59,8 @@ class Contested(damaged.Small):
         own = len(self.kinds)
         self.kinds.append("I")
         self.domains.append(list(range(sum(map(min, products)), sum(map(max, products)) + 1)))
-        terms = [("var", n) for n in [*numbers, own]]
-        args = [[("fixed", f) for f in [*factors, -1]], terms, ("fixed", 0)]
+        terms: slow.Argument = [("var", n) for n in [*numbers, own]]
+        args: List[slow.Argument] = [[("fixed", f) for f in [*factors, -1]], terms, ("fixed", 0)]
         self.constraints.append(("int_lin_eq", slow.Row("int_lin_eq"), args))
         if self.rand.random() < 0.5:
             self.without_domain = own
@@ -71,7 +71,7 @@ class Contested(damaged.Small):
 
     def cost(self, values: slow.Values) -> int:
         """The objective; less is better."""
-        value = values[self.objective]
+        value = int(values[self.objective or 0])
         return value if self.goal.startswith("minimize") else -value
 
     def block(self, values: slow.Values) -> str:
@@ -79,7 +79,7 @@ class Contested(damaged.Small):
         share = self.rand.choice((1, 0.5))
         kept = {n: v for n, v in values.items()
                 if n == self.objective or self.rand.random() < share}
-        return damaged.block_text(kept)
+        return damaged.block_text(slow.Values(kept))
 
     def open_claim(self, known: List[slow.Values]) -> "Claim":
         """A claim behind a block without the objective, and the best solution behind it."""
@@ -171,7 +171,7 @@ def main() -> int:
             models += 1
             text = model.text()
             for claim in claims(model):
-                tally.ask(text, claim, model.rand.choice(([], ["--complete"])))
+                tally.ask(text, claim, ["--complete"] * model.rand.choice((0, 1)))
     for line, right in sorted(+tally.so):
         print(f"{line}: {tally.told[line, right]} of {tally.so[line, right]} are {right}")
     print(f"{tally.most_nodes} nodes at the most")

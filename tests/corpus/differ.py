@@ -15,19 +15,21 @@ import re
 import subprocess
 import sys
 import tempfile
+from typing import Callable, Dict, List, Optional, Tuple
 
 HERE = os.path.dirname(os.path.abspath(__file__))
 sys.path.insert(0, os.path.join(HERE, "..", "..", "bench"))
 sys.path.insert(0, HERE)
-import generate
+import generate  # type: ignore[import]
 import slow
 
 STATUSES = {"accepted": 0, "rejected": 1, "undecided": 2, "no blocks": 3, "refused": 4}
+Answer = Tuple[str, int]  # what is written, and the status
 WORD = re.compile(r"-?[0-9]+|true|false|[A-Za-z_][A-Za-z0-9_]*")
 LARGE = ["9223372036854775807", "-9223372036854775808", "9223372036854775808", "4611686018427387904"]
 
 
-def other_word(word, words, may_be_large, rand):
+def other_word(word: str, words: List[str], may_be_large: bool, rand: random.Random) -> str:
     """Another word in its place, mostly of the same kind."""
     which = rand.random()
     if word in ("true", "false"):
@@ -41,7 +43,8 @@ def other_word(word, words, may_be_large, rand):
     return rand.choice(words) if which < 0.9 else str(rand.randint(-5, 40))
 
 
-def changed(text, places, rand, may_change=None):
+def changed(text: str, places: int, rand: random.Random,
+            may_change: Optional[Callable[[str, int], bool]] = None) -> str:
     """The text with a word changed in some places, anywhere or where a test of places allows it."""
     found = [m for m in WORD.finditer(text) if may_change is None or may_change(text, m.start())]
     words = [m[0] for m in found]
@@ -52,19 +55,19 @@ def changed(text, places, rand, may_change=None):
     return text
 
 
-def in_constraint(text, at):
+def in_constraint(text: str, at: int) -> bool:
     """Whether a place stands in a constraint's arguments or annotations, not in its name."""
     start = text.rfind("\n", 0, at) + 1
     return text.startswith("constraint", start) and "(" in text[start:at]
 
 
-def is_value(text, at):
+def is_value(text: str, at: int) -> bool:
     """Whether a place stands among the printed values of a block, not in a name or an index set."""
     start = text.rfind("\n", 0, at) + 1
     return "[" in text[start:at] or ("=" in text[start:at] and "array" not in text[start : text.find("\n", at)])
 
 
-def pair(rand):
+def pair(rand: random.Random) -> Tuple[str, str]:
     rows = generate.ROWS + generate.POWERS
     model, block = generate.make_model(rand.choice([2_000, 4_000, 8_000]), rand, rows=rows)
     if rand.random() < 0.5:
@@ -86,13 +89,13 @@ def pair(rand):
     return model, "".join(blocks) + rand.choice(["", "==========\n"])
 
 
-def run(program, model, stream, *options):
+def run(program: str, model: str, stream: str, *options: str) -> Answer:
     """Standard output and standard error, and the status."""
     ran = subprocess.run([program, "check", *options, model, stream], capture_output=True, timeout=60)
     return (ran.stdout + ran.stderr).decode("latin-1"), ran.returncode
 
 
-def run_slowly(model, stream, completes=False):
+def run_slowly(model: str, stream: str, completes: bool = False) -> Answer:
     with open(model, "rb") as f, open(stream, "rb") as g:
         texts = f.read(), g.read()
     lines = []
@@ -104,7 +107,7 @@ def run_slowly(model, stream, completes=False):
     return "".join(line + "\n" for line in lines), STATUSES[lines[-1].split(":")[0]]
 
 
-def agree_completed(got, want):
+def agree_completed(got: Answer, want: Answer) -> bool:
     """Whether two reports agree where nothing is looked for, but for which fault is told."""
     lines = [text.split("\n") for text, status in (got, want)]
     for here, there in zip(*lines):
@@ -115,11 +118,11 @@ def agree_completed(got, want):
     return got[1] == want[1]
 
 
-def main():
+def main() -> int:
     program, other, count = sys.argv[1:4]
     seed = sys.argv[4] if len(sys.argv) > 4 else "1"
     passed = failed = 0
-    answers = {}
+    answers: Dict[str, int] = {}
     with tempfile.TemporaryDirectory() as folder:
         for number in range(int(count)):
             model, stream = (os.path.join(folder, name) for name in ("model.fzn", "stream.txt"))

@@ -11,13 +11,14 @@ import subprocess
 import sys
 import tarfile
 import tempfile
+from typing import Iterator, List, Tuple
 
 HERE = os.path.dirname(os.path.abspath(__file__))
 FOLDER = os.path.join(HERE, "left_out")
 MOST_SECONDS = 60
 
 
-def answers():
+def answers() -> Iterator[Tuple[str, ...]]:
     """The name of each stream, with its answers."""
     with open(os.path.join(FOLDER, "answers.txt")) as f:
         for line in f:
@@ -25,7 +26,7 @@ def answers():
                 yield tuple(line.split())
 
 
-def answer(program, options, model, stream):
+def answer(program: str, options: List[str], model: str, stream: str) -> str:
     """The first word of the answer, or of the refusal."""
     words = [program, "check", *options, model, stream]
     try:
@@ -36,16 +37,17 @@ def answer(program, options, model, stream):
     return lines[-1].split(":")[0] if lines else ""
 
 
-def main():
+def main() -> int:
     program = os.path.abspath(sys.argv[1])
     passed = failed = 0
     with tempfile.TemporaryDirectory() as folder:
         with tarfile.open(os.path.join(FOLDER, "streams.tar.xz")) as packed:
-            packed.extractall(folder, filter="data")
+            packed.extractall(folder)
         for name, *wanted in answers():
             stream = os.path.join(folder, "undecided", name + ".out")
             model = os.path.join(folder, "undecided", name.rsplit(".", 1)[0] + ".fzn")
-            given = [answer(program, options, model, stream) for options in ([], ["--complete"])]
+            ways: List[List[str]] = [[], ["--complete"]]
+            given = [answer(program, options, model, stream) for options in ways]
             if given == wanted:
                 passed += 1
             else:

@@ -8,19 +8,18 @@ python/fzcheck/fuzz/rows.py. What `check --explain` tells as the reason is read 
 be so of these literals. COUNT is how many have to fail, 10,000 where none is given. Prints what
 isn't so, how many had a reason, and ends with 'N passed, M failed'."""
 import collections
-import json
 import math
 import os
 import random
 import re
-import subprocess
 import sys
-import tempfile
+from typing import Any, Callable, Dict, List, Optional, Set, Tuple, Union
 
 import slow
+import fzcheck
 from fzcheck.fuzz import relations
 
-RELATIONS = {
+RELATIONS: Dict[str, Callable[[Any, Any], Any]] = {
     "": lambda a, b: a == b,
     "≠": lambda a, b: a != b,
     "≤": lambda a, b: a <= b,
@@ -28,12 +27,12 @@ RELATIONS = {
     "≥": lambda a, b: a >= b,
     ">": lambda a, b: a > b,
 }
-BLOCK = "----------\n"
+BLOCK = b"----------\n"
 MOST_LISTED = 8
 NUMBER = "-?[0-9]+"
 SCALAR = f"(?:{NUMBER}|true|false)"
 # What rows over Booleans compare with their last argument.
-TRUTHS = {
+TRUTHS: Dict[str, Callable[..., Any]] = {
     "bool_le": lambda a, b: a,
     "bool_lt": lambda a, b: a,
     "bool_ge": lambda a, b: a,
@@ -46,7 +45,7 @@ TRUTHS = {
 }
 
 
-def literal(kind, rand):
+def literal(kind: str, rand: random.Random) -> Any:
     """A random value of a kind: small, so that constraints fail in many ways."""
     if kind.startswith("["):
         return [literal(kind[1:-1], rand) for _ in range(rand.randint(0, 5))]
@@ -57,7 +56,7 @@ def literal(kind, rand):
     return rand.randint(-1, 5)
 
 
-def arguments(row, rand):
+def arguments(row: slow.Row, rand: random.Random) -> List[Any]:
     args = [literal(kind, rand) for kind in row.kinds]
     for place in row.together:
         first = args[row.together[0]]
@@ -65,7 +64,7 @@ def arguments(row, rand):
     return args
 
 
-def text_of(value):
+def text_of(value: Any) -> str:
     if isinstance(value, bool):
         return str(value).lower()
     if isinstance(value, int):
@@ -75,7 +74,7 @@ def text_of(value):
     return "[" + ",".join(map(text_of, value)) + "]"
 
 
-def failing(rand):
+def failing(rand: random.Random) -> Tuple[str, List[Any]]:
     """The name and the arguments of a constraint that fails."""
     names = sorted({*slow.TESTS, *slow.OTHER_TESTS, *slow.RESULTS, *slow.EITHER})
     while True:
@@ -94,13 +93,13 @@ def failing(rand):
             continue
 
 
-def product_text(is_first, factor, value):
+def product_text(is_first: bool, factor: int, value: int) -> str:
     sign = ("-" if is_first else " - ") if factor < 0 else "" if is_first else " + "
     size = "" if abs(factor) == 1 else f"{abs(factor)}·"
     return sign + size + (str(value) if value >= 0 or is_first and factor == 1 else f"({value})")
 
 
-def products_are(told, value, pairs):
+def products_are(told: str, value: int, pairs: List[Tuple[int, int]]) -> bool:
     """Whether the listed products are some of these in their order, and make the value. Of one
     number nothing is listed."""
     left_out = re.search(r" \+ ([0-9]+) more$", told)
@@ -114,7 +113,7 @@ def products_are(told, value, pairs):
         and sum(math.prod(pair) for pair in pairs) == value
 
 
-def sides(name, args, told):
+def sides(name: str, args: List[Any], told: str) -> Optional[bool]:
     """Of `LEFT, not RELATION RIGHT`: whether the left side is so and doesn't compare with the right
     one as it is asked."""
     parts = re.fullmatch(f"(.*?)({NUMBER}|true|false|no value)( times)?, not ([≠≤<≥>]?) ?({NUMBER}|true|false)", told)
@@ -145,36 +144,35 @@ def sides(name, args, told):
     return so and text_of(args[-1] if "comes" not in front else right) == right and not RELATIONS[relation](value, int(right))
 
 
-def stretches(told, starts, lengths, one, other):
+def stretches(told: List[str], starts: List[int], lengths: List[int], one: int, other: int) -> bool:
     """Whether two stretches of time are those of the two tasks and overlap or one is in the other."""
     ends = [(starts[place], starts[place] + lengths[place]) for place in (one, other)]
     return told == [str(end) for pair in ends for end in pair] and ends[0][0] < ends[1][1] and ends[1][0] < ends[0][1] \
         or told == [str(end) for pair in ends for end in pair] and 0 in (lengths[one], lengths[other])
 
 
-def circle(name, args, parts):
-    path, length, count = parts
-    path = path.split(" → ")
+def circle(args: List[Any], way: str, length: str, count: str) -> bool:
+    path = way.split(" → ")
     first, following = args[0], args[1]
     steps = [(int(a), int(b)) for a, b in zip(path, path[1:]) if "..." not in (a, b)]
     return all(following[a - first] == b for a, b in steps) and int(length) < int(count) == len(following) \
         and path[0] == path[-1]
 
 
-def leads_nowhere(place, value, one, first, other, other_first):
+def leads_nowhere(place: Any, value: Any, one: List[int], first: Any, other: List[int], other_first: Any) -> Any:
     """Whether the element has the value, and the position that it names isn't back at its own."""
     return at(one, place) == value and at(other, value - first + 1) != place - 1 + other_first
 
 
-def leaves_out(args, path):
+def leaves_out(args: List[Any], way: str) -> bool:
     first, following = args
-    path = path.split(" → ")
+    path = way.split(" → ")
     steps = [(int(a), int(b)) for a, b in zip(path, path[1:]) if "..." not in (a, b)]
     moved = {k + first for k, v in enumerate(following) if v != k + first}
     return all(following[a - first] == b for a, b in steps) and path[0] == path[-1] and not moved <= {a for a, _ in steps}
 
 
-def transitions(args):
+def transitions(args: List[Any]) -> Tuple[List[int], int]:
     x, states, symbols, table, start, final = args
     state, states_before = start, []
     for symbol in x:
@@ -185,104 +183,104 @@ def transitions(args):
     return states_before, state
 
 
-def at(values, place):
+def at(values: List[Any], place: Union[int, str]) -> Any:
     """An element that counts from 1, or none."""
     return values[int(place) - 1] if 1 <= int(place) <= len(values) else None
 
 
-def clash(args, one, other, value):
+def clash(args: List[Any], one: str, other: str, value: str) -> bool:
     elements = next(it for it in args if isinstance(it, list))
     return one != other and at(elements, one) == at(elements, other) == int(value)
 
 
-def scalar(text):
+def scalar(text: str) -> Union[bool, int]:
     return text == "true" if text in ("true", "false") else int(text)
 
 
-def neighbours(args, place, value, relation, other):
+def neighbours(args: List[Any], place: str, value: str, relation: str, other: str) -> bool:
     return at(args[0], place) == scalar(value) and at(args[0], int(place) + 1) == scalar(other) \
         and not RELATIONS[relation](scalar(value), scalar(other))
 
 
-def first_difference(lists, place, left, right):
+def first_difference(lists: List[List[Any]], place: Any, left: Any, right: Any) -> Any:
     place, (one, other) = int(place), lists
     return one[: place - 1] == other[: place - 1] and at(one, place) == scalar(left) != at(other, place) == scalar(right)
 
 
-def compared(name, args):
+def compared(name: str, args: List[Any]) -> List[List[Any]]:
     """The lists that a row compares: one that sorts compares the first in ascending order."""
     return [sorted(args[0]) if name in ("fzn_sort", "sort") else args[0], args[1]]
 
 
-def shared(parts, one, other, value):
+def shared(parts: List[Set[int]], one: str, other: str, value: str) -> bool:
     return one != other and int(value) in at(parts, one) and int(value) in at(parts, other)
 
 
-def not_in_its_set(args, index, value, name_of_set, again):
+def not_in_its_set(args: List[Any], index: str, value: str, name_of_set: str, again: str) -> bool:
     x, first, parts, first_part = args
     return at(x, int(index) - first + 1) == int(value) == int(name_of_set) and index == again \
         and int(index) not in (at(parts, int(value) - first_part + 1) or set())
 
 
-def in_another_set(args, part, value, again, back):
+def in_another_set(args: List[Any], part: str, value: str, again: str, back: Optional[str]) -> bool:
     x, first, parts, first_part = args
     return value == again and int(value) in at(parts, int(part) - first_part + 1) \
         and at(x, int(value) - first + 1) == (None if back is None else int(back)) != int(part)
 
 
-def refers_nowhere(place, value, x, y, first, first_y):
+def refers_nowhere(place: int, value: int, x: List[Any], y: List[Any], first: int, first_y: int) -> bool:
     return value in at(x, place) and first + place - 1 not in (at(y, value - first_y + 1) or set())
 
 
-def early_set(args, place, value, before, *again):
+def early_set(args: List[Any], place: str, value: str, before: str, *again: str) -> bool:
     sets, pair = args[0], (int(before), int(value))
     alone = [(s in it and t not in it) for s, t in (pair, pair[::-1]) for it in sets[: int(place)]]
     return [before, value] == [*again] and [*pair] == args[1:3] and alone[-1] and not any(alone[: int(place) - 1])
 
 
-def in_chosen(args, number, sets, third):
+def in_chosen(args: List[Any], number: str, sets: str, third: str) -> bool:
     chosen = [args[1][i - 1] for i in args[0] if 1 <= i <= len(args[1])]
     return in_one([chosen, args[2]], number, sets, third)
 
 
-def in_range(args, number, elements, fourth):
+def in_range(args: List[Any], number: str, elements: str, fourth: str) -> bool:
     x, first, indices, wanted = args
     chosen = [x[i - first] for i in indices if first <= i < first + len(x)]
     return (int(number) in chosen) == (elements == "one") != (int(number) in wanted) == (fourth == "in")
 
 
-def in_one(args, number, sets, whole):
+def in_one(args: List[Any], number: str, sets: str, whole: str) -> bool:
     return any(int(number) in it for it in args[0]) == (sets == "one") != (int(number) in args[1]) == (whole == "in")
 
 
-def flagged(args, number, there, truth):
+def flagged(args: List[Any], number: str, there: str, truth: str) -> bool:
     flag = at(args[1], int(number) - args[2] + 1) or False
     return (int(number) in args[0]) == (there == "in") != flag == (truth == "is")
 
 
-def in_sets(args, number, *there):
+def in_sets(args: List[Any], number: str, *there: str) -> bool:
     sets = [it for it in args if isinstance(it, set)]
     return all((int(number) in it) == (word == "in") for it, word in zip(sets, there))
 
 
-def tasks_overlap(args, one, other, *ends):
+def tasks_overlap(args: List[Any], one: str, other: str, *ends: str) -> bool:
     return stretches(list(ends), args[0], args[1], int(one) - 1, int(other) - 1)
 
 
-def load(args, time, tasks, used, limit):
+def load(args: List[Any], time: Any, tasks: Any, used: Any, limit: Any) -> Any:
     time = int(time)
     running = [k for k, (s, d) in enumerate(zip(args[0], args[1])) if s <= time < s + d]
     told = [int(it) - 1 for it in tasks.split(", ") if it]
     return told == running[: len(told)] and sum(args[2][k] for k in running) == int(used) > int(limit) == args[3]
 
 
-def boxes(name, args, one, other, *ends):
+def boxes(name: Any, args: List[Any], one: Any, other: Any, *ends: Any) -> Any:
     x, y, dx, dy = (args[0], args[2], args[1], args[3]) if name == "gecode_nooverlap" else args
     one, other = int(one) - 1, int(other) - 1
     return stretches(list(ends[:4]), x, dx, one, other) and stretches(list(ends[4:]), y, dy, one, other)
 
 
-def near_row(args, row, place, wanted, value):
+def near_row(args: List[Any], row: Any, place: Any, wanted: Any, value: Any) -> Any:
     width = len(args[0])
     found = args[1][(int(row) - 1) * width : int(row) * width]
     place = int(place) - 1
@@ -292,7 +290,7 @@ def near_row(args, row, place, wanted, value):
 
 STRETCH = f"from ({NUMBER}) to ({NUMBER}) and from ({NUMBER}) to ({NUMBER})"
 # What is told, and whether it is so of a constraint's arguments.
-FORMS = {
+FORMS: Dict[str, Callable[..., Any]] = {
     "no literal is true": lambda n, a: not any(a[0]) and all(a[1]),
     "an even number of elements are true": lambda n, a: sum(a[0]) % 2 == 0,
     f"elements (\\d+) and (\\d+) are both ({NUMBER})": lambda n, a, *p: clash(a, *p),
@@ -325,7 +323,7 @@ FORMS = {
     f"at ({NUMBER}) the tasks ([0-9, ]*) run and use ({NUMBER}), not ≤ ({NUMBER})": lambda n, a, *p: load(a, *p),
     f"in bin ({NUMBER}) lies ({NUMBER}), not ≤ ({NUMBER})": lambda n, a, b, w, m: (
         relations.load(a[1], a[2], int(b)) == int(w) > int(m) == a[0]),
-    r"the circle (.*) has (\d+) of (\d+)": lambda n, a, *p: circle(n, a, p),
+    r"the circle (.*) has (\d+) of (\d+)": lambda n, a, *p: circle(a, *p),
     f"element (\\d+) of the (first|second) list is ({NUMBER}), which doesn't lead back": lambda n, a, k, l, v: (
         leads_nowhere(int(k), int(v), *(a if l == "first" else (a[2], a[3], a[0], a[1])))),
     f"element (\\d+) of the (first|second) list has ({NUMBER}), which doesn't lead back": lambda n, a, k, l, v: (
@@ -381,11 +379,11 @@ FORMS = {
 }
 
 
-def is_so(name, args, told):
+def is_so(name: str, args: List[Any], told: str) -> Optional[bool]:
     """Whether what is told of a base row's arguments is so; none where it has no known form."""
     for form, test in FORMS.items():
         if parts := re.fullmatch(form, told):
-            return test(name, args, *parts.groups())
+            return bool(test(name, args, *parts.groups()))
     if parts := re.fullmatch(f"({NUMBER}) comes (\\d+) times, not ([≠≤<≥>]?) ?({NUMBER})", told):
         value, times, relation, asked = parts.groups()
         lists = [it for it in args if isinstance(it, list)]
@@ -394,20 +392,15 @@ def is_so(name, args, told):
     return sides(name, args, told)
 
 
-def reason_of(program, folder, name, args):
-    model, stream = os.path.join(folder, "model.fzn"), os.path.join(folder, "stream.txt")
-    with open(model, "w", encoding="utf-8") as file:
-        file.write(f"constraint {name}({','.join(map(text_of, args))});\nsolve satisfy;\n")
-    with open(stream, "w", encoding="utf-8") as file:
-        file.write(BLOCK)
-    ran = subprocess.run([program, "check", "--json", "--explain", model, stream], capture_output=True, text=True)
-    if ran.returncode != 1:
-        raise SystemExit(f"{name}{args}: status {ran.returncode}")
-    told = [json.loads(line) for line in ran.stdout.splitlines()]
-    return next(it["explained"] if isinstance(it.get("explained"), dict) else it for it in told if "explained" in it).get("reason")
+def reason_of(name: str, args: List[Any]) -> Optional[str]:
+    model = f"constraint {name}({','.join(map(text_of, args))});\nsolve satisfy;\n"
+    report = fzcheck.check(model.encode(), BLOCK, explain=True)
+    if report.status != fzcheck.Status.REJECTED:
+        raise SystemExit(f"{name}{args}: status {report.status}")
+    return report.explanations[0].reason or None
 
 
-def outcome(name, args, told):
+def outcome(name: str, args: List[Any], told: str) -> Optional[bool]:
     base, _, form = name.rpartition("_")
     if name in slow.OTHER_TESTS or form not in ("reif", "imp"):
         return is_so(name, args, told)
@@ -416,24 +409,25 @@ def outcome(name, args, told):
     return args[-1] is True and is_so(base, args[:-1], told)
 
 
-def main():
-    program = os.path.abspath(sys.argv[1])
+def main() -> int:
+    os.environ["FZCHECK"] = os.path.abspath(sys.argv[1])
     count = int(sys.argv[2]) if len(sys.argv) > 2 else 10_000
     rand = random.Random(int(sys.argv[3]) if len(sys.argv) > 3 else 1)
-    told_of, without = collections.Counter(), collections.Counter()
+    told_of: "collections.Counter[str]" = collections.Counter()
+    without: "collections.Counter[str]" = collections.Counter()
     failed = 0
-    with tempfile.TemporaryDirectory() as folder:
-        for _ in range(count):
-            name, args = failing(rand)
-            told = reason_of(program, folder, name, args)
-            if told is None:
-                without[name] += 1
-                continue
-            told_of[name] += 1
-            if not outcome(name, args, told):
-                failed += 1
-                print(f"failed: {name}({','.join(map(text_of, args))}): {told}")
-    print(f"{sum(told_of.values())} of {count} had a reason; none of: {' '.join(sorted({*without} - {*told_of}))}")
+    for _ in range(count):
+        name, args = failing(rand)
+        told = reason_of(name, args)
+        if told is None:
+            without[name] += 1
+            continue
+        told_of[name] += 1
+        if not outcome(name, args, told):
+            failed += 1
+            print(f"failed: {name}({','.join(map(text_of, args))}): {told}")
+    never = " ".join(sorted({*without} - {*told_of}))
+    print(f"{sum(told_of.values())} of {count} had a reason; none of: {never}")
     print(f"{count - failed} passed, {failed} failed")
     return 1 if failed else 0
 

@@ -10,23 +10,25 @@ a case fails."""
 import os
 import subprocess
 import sys
+from typing import Iterator, Optional, Tuple
 
 HERE = os.path.dirname(os.path.abspath(__file__))
 STATUSES = {"accepted": 0, "rejected": 1, "undecided": 2, "no blocks": 3, "refused": 4}
 MOST_SECONDS = 60
+Answer = Tuple[str, str, Optional[int]]  # standard output, standard error and the status
 
 
-def cases_of(folder):
+def cases_of(folder: str) -> Iterator[Tuple[str, str, str]]:
     """The model, the stream and the report of each case."""
     for place, _, names in sorted(os.walk(folder)):
         if "model.fzn" not in names:
             continue
         for name in sorted(n for n in names if n.endswith("stream.txt")):
-            paths = "model.fzn", name, name.removesuffix("stream.txt") + "report.txt"
-            yield tuple(os.path.join(place, path) for path in paths)
+            model, stream = os.path.join(place, "model.fzn"), os.path.join(place, name)
+            yield model, stream, stream.removesuffix("stream.txt") + "report.txt"
 
 
-def wanted(report):
+def wanted(report: str) -> Answer:
     """Standard output, standard error and the exit status."""
     with open(report, encoding="latin-1") as f:
         lines = f.readlines()
@@ -36,7 +38,7 @@ def wanted(report):
     return "".join(said), "".join(told), STATUSES[last.split(":")[0]]
 
 
-def given(program, model, stream):
+def given(program: str, model: str, stream: str) -> Answer:
     try:
         ran = subprocess.run([program, "check", model, stream], capture_output=True, timeout=MOST_SECONDS)
     except subprocess.TimeoutExpired:
@@ -44,7 +46,7 @@ def given(program, model, stream):
     return ran.stdout.decode("latin-1"), ran.stderr.decode("latin-1"), ran.returncode
 
 
-def show(words, result):
+def show(words: str, result: Answer) -> None:
     out, err, status = result
     text = (out + err).rstrip("\n").split("\n")
     shown = text if len(text) <= 4 else text[:2] + ["..", text[-1]]
@@ -52,7 +54,7 @@ def show(words, result):
     print("".join(f"    {line}\n" for line in shown), end="")
 
 
-def main():
+def main() -> int:
     program = os.path.abspath(sys.argv[1])
     passed = failed = 0
     for folder in sys.argv[2:] or [HERE]:

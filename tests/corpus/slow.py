@@ -11,14 +11,17 @@ import io
 import os
 import re
 import sys
+from functools import partial
 from typing import (
     Any, Callable, Dict, FrozenSet, Iterator, List, NoReturn, Optional, Tuple, TypeVar, Union)
 
 HERE = os.path.dirname(os.path.abspath(__file__))
 sys.path.insert(0, os.path.join(HERE, os.pardir, os.pardir, "python"))
-# The tests that import this module take the tables from here.
 from fzcheck.fuzz.rows import EITHER, FORMS, OTHER_TESTS, RESULTS, TESTS
 from fzcheck.fuzz.rows import NotKnown, Row, row_named, same, total, where
+
+# What the tests take from here that import this module.
+__all__ = ["EITHER", "FORMS", "OTHER_TESTS", "RESULTS", "TESTS", "NotKnown", "Row", "total", "where"]
 
 TOKEN = re.compile(
     rb"(?P<blank>[ \t\r\n]+|%[^\n]*)|(?P<word>[A-Za-z_][A-Za-z0-9_]*)"
@@ -75,7 +78,7 @@ def tokens_of(source: bytes, what: str) -> List[Token]:
         found = TOKEN.match(source, at)
         if not found:
             raise Refused(what, "BadByte", at, at + 1)
-        sort, text, end = found.lastgroup, found[0].decode("latin-1"), found.end()
+        sort, text, end = found.lastgroup or "", found[0].decode("latin-1"), found.end()
         value = number_of(text) if sort == "whole" else 0
         if not LEAST <= value <= MOST:
             raise Refused(what, "TooLarge", at, end)
@@ -171,7 +174,8 @@ class Reader:
         found = self.literal()
         if found.kind == "I":
             self.fail()
-        return found.raw
+        bounds: Bounds = found.raw
+        return bounds
 
     def base(self) -> Tuple[str, Bounds]:
         if self.has("bool"):
@@ -236,7 +240,8 @@ class Reader:
         """The name and the arguments."""
         if level > MOST_LEVELS and self.next.sort == "name":
             raise Refused(self.what, "TooDeep", self.next.start, self.next.end)
-        name, args = self.take("name").text, []
+        name = self.take("name").text
+        args: List[Any] = []
         if self.has("("):
             if self.next.sort == ")":
                 self.fail()
@@ -251,7 +256,9 @@ class Reader:
     def note_basic(self, level: int) -> Any:
         if self.next.sort == "name":
             return self.note(level)
-        return self.take("float", "string") if self.next.sort in ("float", "string") else self.literal()
+        if self.next.sort in ("float", "string"):
+            return self.take("float", "string")
+        return self.literal()
 
     def declaration(self) -> Declaration:
         length = None
@@ -265,7 +272,7 @@ class Reader:
         self.take(":")
         name = self.take("name")
         self.notes()
-        value = None
+        value: Any = None
         if not is_var or length is not None or self.next.sort == "=":
             self.take("=")
             one = self.basic if is_var else self.literal
@@ -350,7 +357,8 @@ class Model:
             raise Refused("model", "Kind", basic.start, basic.end)
         return kind, term
 
-    def declare(self, is_var: bool, length: Optional[int], kind: str, bounds: Bounds, name: Token, value: Any) -> None:
+    def declare(self, is_var: bool, length: Optional[int], kind: str, bounds: Bounds, name: Token,
+                value: Any) -> None:
         if name.text in self.names:
             raise Refused("model", "DuplicateName", name.start, name.end)
         if length is not None:
@@ -374,7 +382,8 @@ class Model:
 
     def constraint(self, name: str, args: List[Any], notes: List[Note]) -> Constraint:
         """The name, the row or none, the arguments, the target or none."""
-        row, found = row_named(name, len(args)), []
+        row = row_named(name, len(args))
+        found: List[Tuple[str, Any]] = []
         for arg in args:
             if isinstance(arg, list):
                 terms = [self.scalar(a) for a in arg]
@@ -390,13 +399,13 @@ class Model:
             fits = len({len(found[place][1]) for place in row.together}) < 2
         if fits and row.has_whole_rows:
             fits = row.has_whole_rows(*(terms for _, terms in found))
-        target = None
+        target: Optional[Term] = None
         for note, note_args in notes:
             if note == "defines_var" and len(note_args) == 1 and isinstance(note_args[0], tuple):
                 inner, more = note_args[0]
-                kind, term = self.names.get(inner, (None, None)) if not more else (None, None)
+                _, term = self.names.get(inner, ("", None)) if not more else ("", None)
                 if isinstance(term, tuple) and term[0] == "var":
-                    target = term
+                    target = "var", term[1]
                     break
         return name, row if fits else None, [t for _, t in found], target
 
@@ -500,14 +509,15 @@ def step_by_result(constraint: Constraint, values: Values) -> Step:
     return step_of_constraint((name, row, args, unset[0]), values) if unset else None
 
 
-def filled(model: Model, values: Values, step_of_row: Callable[[Constraint, Values], Step] = step_of_constraint) -> Values:
+def filled(model: Model, values: Values,
+           step_of_row: Callable[[Constraint, Values], Step] = step_of_constraint) -> Values:
     """Passes over the points until one sets nothing."""
     kinds = [k for _, k in model.variables]
     again = True
     while again:
         again = False
-        steps = [lambda p=p: step_of(p, values) for p in model.points]
-        steps += [lambda c=c: step_of_row(c, values) for c in model.constraints]
+        steps: List[Callable[[], Step]] = [partial(step_of, p, values) for p in model.points]
+        steps += [partial(step_of_row, c, values) for c in model.constraints]
         for step in steps:
             found = step()
             if found and not (kinds[found[0]] == "S" and not isinstance(found[1], frozenset)):
@@ -541,7 +551,8 @@ def start_of(model: Model, items: List[Item], number: int, offset: int) -> Value
     return values
 
 
-def verdict_on(model: Model, items: List[Item], values: Values, before: Optional[int]) -> Tuple[str, Optional[int]]:
+def verdict_on(model: Model, items: List[Item], values: Values, before: Optional[int]
+               ) -> Tuple[str, Optional[int]]:
     """The verdict's words, and the objective's value."""
     now = None if model.objective is None else values.of(model.objective)
     for name, printed in items:

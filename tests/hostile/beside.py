@@ -2,11 +2,14 @@
 import os
 import re
 import sys
+from typing import Iterator, List, Optional, Tuple
 
-from running import ROOT
+from running import ROOT, Answer
 
 sys.path.insert(0, os.path.join(ROOT, "tests", "corpus"))
 import slow
+
+__all__ = ["slow"]
 
 EXAMPLES = os.path.join(ROOT, "examples")
 CORPUS = os.path.join(ROOT, "tests", "corpus")
@@ -25,12 +28,12 @@ STATUSES = {"accepted": 0, "rejected": 1, "undecided": 2, "no blocks": 3}
 REFUSED = 4
 
 
-def content(path):
+def content(path: str) -> bytes:
     with open(path, "rb") as f:
         return f.read()
 
 
-def pairs(folder):
+def pairs(folder: str) -> Iterator[Tuple[str, str, str]]:
     """The name, the model's path and the stream's path of each case below a folder."""
     for place, _, names in sorted(os.walk(folder)):
         for name in sorted(n for n in names if n.endswith("stream.txt")):
@@ -38,11 +41,11 @@ def pairs(folder):
             yield os.path.relpath(stream, folder), os.path.join(place, "model.fzn"), stream
 
 
-def examples():
+def examples() -> List[Tuple[str, str, str]]:
     return [("first", FIRST_MODEL, FIRST_STREAM), *pairs(EXAMPLES)]
 
 
-def second(model, stream):
+def second(model: bytes, stream: bytes) -> Optional[Answer]:
     """The status, standard output and standard error that the second checker gives for two texts,
     or none where a set is too large for it."""
     lines = []
@@ -56,17 +59,19 @@ def second(model, stream):
     return STATUSES[lines[-1].split(":")[0]], text_of(lines), b""
 
 
-def second_cut(model, stream):
+def second_cut(model: bytes, stream: bytes) -> Optional[Answer]:
     """The same with --cut: where the end is inside a block, what is said of the bytes before it."""
     want = second(model, stream)
     unfinished = rb"refused: stream: Unfinished at (\d+)\.\.(\d+)\n"
     opened = re.fullmatch(unfinished, want[2]) if want else None
     if not opened or b"\n" in stream[int(opened[2]) :]:
         return want  # behind the block is a claim's line, with its LF
-    status, out, err = second(model, stream[: int(opened[1])])
+    front = second(model, stream[: int(opened[1])])
+    assert front
+    status, out, err = front
     *lines, answer = out.splitlines(True)
     return status, b"".join([*lines, b"cut: %b..%b\n" % opened.groups(), answer]), err
 
 
-def text_of(lines):
+def text_of(lines: List[str]) -> bytes:
     return "".join(line + "\n" for line in lines).encode("latin-1")

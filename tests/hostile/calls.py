@@ -16,6 +16,7 @@ import tempfile
 from collections import Counter
 from dataclasses import dataclass
 from multiprocessing import Pool
+from typing import Any, Callable, Dict, Iterable, Iterator, List, Optional, Tuple
 
 import running
 from beside import IMPROVING_MODEL, IMPROVING_REPORT, IMPROVING_STREAM, content, examples
@@ -25,6 +26,7 @@ TESTS = os.path.join(ROOT, "tests")
 sys.path.insert(0, os.path.join(TESTS, "cases"))
 import tables
 
+Told = Tuple[Tally, "Counter[str]"]
 NOT_MADE = 7, b"", b""  # the operands found no memory, or can't be had at all: the call wasn't made
 MEMORY = re.compile(rb"^Err\((?:Memory|AllocError)\)\n", re.MULTILINE)
 FAILED = b"Err(Failed)\nfalse\nErr(Failed)\nErr(Failed)\n"  # `feed`, `waiting`, `take`, `finish`
@@ -69,10 +71,10 @@ class Call:
 
     kind: str
     name: str
-    texts: tuple
-    more: tuple = ()
+    texts: Tuple[bytes, ...]
+    more: Tuple[str, ...] = ()
 
-    def refused(self, ample, given):
+    def refused(self, ample: bytes, given: bytes) -> Optional[str]:
         """The name of the call that found no memory, where this may be told with one growth
         refused and `ample` with ample memory. ENOUGH where all is told; none where it may not
         be."""
@@ -87,7 +89,7 @@ class Call:
             return self.name if rest == ample and ample.startswith(front) else None
         return self.name_before(rest) if front + rest == ample else None
 
-    def name_before(self, rest):
+    def name_before(self, rest: bytes) -> str:
         """The name of the call that gives the next line, where calls stand behind one name."""
         if self.name == "points":
             if rest.startswith((b"Ok(None)", b"Ok(Some(")):
@@ -100,9 +102,9 @@ class Call:
         return "take" if self.name == "split" else self.name
 
 
-def models():
+def models() -> Iterable[Tuple[bytes, List[bytes]]]:
     """Each model of the worked cases with its streams, and those whose names have a fault."""
-    streams = {}
+    streams: Dict[bytes, List[bytes]] = {}
     for name in ("reports.txt", "completed.txt", "shown.txt"):
         for command, text, stream, _ in tables.blocks(name):
             of_text = streams.setdefault(text.encode("latin-1"), [])
@@ -115,7 +117,7 @@ def models():
     return streams.items()
 
 
-def of_model(model):
+def of_model(model: bytes) -> Iterator[Call]:
     yield Call("text", "lex", (model,))
     yield Call("text", "parse", (model,))
     yield Call("text", "to_text", (model,))
@@ -125,7 +127,7 @@ def of_model(model):
         yield Call("model", name, (model,))
 
 
-def of_pair(model, stream):
+def of_pair(model: bytes, stream: bytes) -> Iterator[Call]:
     yield Call("stream", "blocks", (stream,))
     for piece in ("1", "7", ANY):
         yield Call("stream", "split", (stream,), (piece,))
@@ -140,7 +142,7 @@ def of_pair(model, stream):
         yield Call("live", "check_stream_up_to", (model, stream), more)
 
 
-def calls():
+def calls() -> Iterator[Call]:
     for text in SETS:
         for name in SET_CALLS:
             yield Call("sets", name, (text,))
@@ -152,12 +154,13 @@ def calls():
         yield from of_model(model)
         for stream in streams:
             yield from of_pair(model, stream)
-    for _, model, stream in examples():
-        yield from of_model(content(model))
-        yield from of_pair(content(model), content(stream))
+    for _, *paths in examples():
+        model, stream = map(content, paths)
+        yield from of_model(model)
+        yield from of_pair(model, stream)
 
 
-def quiet_calls():
+def quiet_calls() -> Iterator[Call]:
     """Those that take no memory."""
     for text in SETS:
         yield Call("sets", "ask", (text,))
@@ -165,7 +168,7 @@ def quiet_calls():
         yield Call("model", "ask", (model,))
 
 
-def words_of(program, folder, call):
+def words_of(program: str, folder: str, call: Call) -> List[str]:
     words = [program, call.kind, call.name]
     for place, text in enumerate(call.texts):
         words.append(os.path.join(folder, str(place)))
@@ -174,9 +177,10 @@ def words_of(program, folder, call):
     return words + list(call.more)
 
 
-def each_growth(program, call):
+def each_growth(program: str, call: Call) -> Told:
     """Refuses each growth of a call in turn, and at last none."""
-    tally, names = Tally(), Counter()
+    tally = Tally()
+    names: "Counter[str]" = Counter()
     with tempfile.TemporaryDirectory(dir=FOLDER) as folder:
         words = words_of(program, folder, call)
         ample = running.run(words)
@@ -191,12 +195,12 @@ def each_growth(program, call):
             name = call.refused(ample.out, ran.out)
             fits = name is not None and ran.status == 0 and not ran.err
             tally.check(f"{told}, growth {number}", fits, (ran.answer, ample.out))
-            names[name] += 1
+            names[str(name)] += 1
         tally.expect(f"{told}, no refusal", last.answer, ample.answer)
     return tally, names
 
 
-def no_growth(program, call):
+def no_growth(program: str, call: Call) -> Told:
     """Refuses every growth once the operands are made: all is told as before."""
     tally = Tally()
     with tempfile.TemporaryDirectory(dir=FOLDER) as folder:
@@ -216,17 +220,17 @@ ENDS = 18, 36, 47  # behind the LF of each part of the improving stream
 SIZE = len(IMPROVING_STREAM)
 
 
-def written_of(taken):
+def written_of(taken: int) -> bytes:
     """The lines of the parts of the improving stream that end in its first bytes."""
     return b"".join(line for line, end in zip(LINES, ENDS) if end <= taken)
 
 
-def devices():
+def devices() -> Iterator[Tuple[Call, bytes]]:
     """Calls over readers and writers that fail, each with what is told."""
     improving = IMPROVING_MODEL, IMPROVING_STREAM
     accepted, read, write = b"Ok(Accepted(2))\n", b"Err(Read)\n", b"Err(Write)\n"
 
-    def live(texts, *more):
+    def live(texts: Tuple[bytes, ...], *more: object) -> Call:
         return Call("live", "check_stream_up_to", texts, tuple(map(str, more)))
 
     yield live(improving, 1, ANY, ANY, 1), IMPROVING_REPORT + accepted
@@ -248,7 +252,7 @@ def devices():
     yield full, b"%d\nfalse\nfalse\n()\nErr(TooLong)\n" % MOST_BYTES + FAILED
 
 
-def device(program, call, want):
+def device(program: str, call: Call, want: bytes) -> Told:
     tally = Tally()
     with tempfile.TemporaryDirectory(dir=FOLDER) as folder:
         ran = running.run(words_of(program, folder, call))
@@ -256,19 +260,20 @@ def device(program, call, want):
     return tally, Counter()
 
 
-def jobs(program):
+def jobs(program: str) -> Iterator[Tuple[Callable[..., Told], Tuple[Any, ...]]]:
     yield from ((each_growth, (program, call)) for call in calls())
     yield from ((no_growth, (program, call)) for call in quiet_calls())
     yield from ((device, (program, *case)) for case in devices())
 
 
-def job(test, args):
+def job(test: Callable[..., Told], args: Tuple[Any, ...]) -> Told:
     return test(*args)
 
 
-def run(program, shared=running.SHARED):
+def run(program: str, shared: str = running.SHARED) -> Tally:
     """Runs all, and tells how many growths were refused to each call: to each was at least one."""
-    tally, refusals = Tally(), Counter()
+    tally = Tally()
+    refusals: "Counter[str]" = Counter()
     tally.check("what is preloaded was built", os.path.isfile(shared))
     with Pool() as pool:
         for part, names in pool.starmap(job, list(jobs(program)), chunksize=4):

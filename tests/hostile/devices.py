@@ -9,6 +9,7 @@ import os
 import select
 import subprocess
 import tempfile
+from typing import IO, Callable, Dict, List
 
 from beside import (
     FIRST_MODEL,
@@ -19,7 +20,7 @@ from beside import (
     content,
     examples,
 )
-from running import FOLDER, MOST_SECONDS, READ_SIZE, Tally, run
+from running import FOLDER, MOST_SECONDS, READ_SIZE, Answer, Jobs, Tally, opened, run
 
 WRITE = 6, b"refused: write\n"
 INPUT = "(standard input)"
@@ -27,24 +28,24 @@ LINES = IMPROVING_REPORT.splitlines(True)
 ENDS = (18, 36, 47)  # behind the LF of each part of the improving stream
 
 
-def unread(name, written):
+def unread(name: str, written: bytes) -> Answer:
     """The answer where a read of this file fails after so much was written."""
     return 6, written, b"refused: read\n" + f"{name}: Input/output error\n".encode()
 
 
-def written_of(taken):
+def written_of(taken: int) -> bytes:
     """The lines of the parts of the improving stream that end in its first bytes."""
     return b"".join(line for line, end in zip(LINES, ENDS) if end <= taken)
 
 
-def improving(program, test):
+def improving(program: str, test: Callable[[List[str]], Tally]) -> Tally:
     with tempfile.NamedTemporaryFile(dir=FOLDER) as model:
         model.write(IMPROVING_MODEL)
         model.flush()
         return test([program, "check", model.name])
 
 
-def failing_reads(words):
+def failing_reads(words: List[str]) -> Tally:
     """One byte a read, and the kth read of the stream fails; then the same after k bytes in one
     read."""
     tally = Tally()
@@ -64,13 +65,14 @@ def failing_reads(words):
     return tally
 
 
-def failing_writes(words):
+def failing_writes(words: List[str]) -> Tally:
     """The writer takes k bytes of the report and then fails, or takes nothing."""
     tally = Tally()
     report = run(words, IMPROVING_STREAM).out
     size = len(report)
     for k in range(size + 1):
-        for more in ({}, {"REFUSE_NOTHING": "1"}, {"REFUSE_PIECE": "1"}):
+        ways: List[Dict[str, str]] = [{}, {"REFUSE_NOTHING": "1"}, {"REFUSE_PIECE": "1"}]
+        for more in ways:
             limits = {"REFUSE_WRITE": "1", "REFUSE_BYTES": str(k)} | more
             ran = run(words, IMPROVING_STREAM, limits)
             refused = WRITE[0], report[:k], WRITE[1]
@@ -79,33 +81,33 @@ def failing_writes(words):
     return tally
 
 
-def known_lines(words):
+def known_lines(words: List[str]) -> Tally:
     """The lines on the parts that have ended are written before more is read, however the stream is
     cut, and the lines on one read at once."""
     tally = Tally()
     size = len(IMPROVING_STREAM)
-    pipes = {"stdin": subprocess.PIPE, "stdout": subprocess.PIPE, "bufsize": 0}
     for piece in range(1, size + 1):
-        with subprocess.Popen(words, **pipes) as process:
+        with subprocess.Popen(words, 0, stdin=subprocess.PIPE, stdout=subprocess.PIPE) as process:
+            to, out = opened(process.stdin), opened(process.stdout)
             for at in range(0, size, piece):
-                process.stdin.write(IMPROVING_STREAM[at : at + piece])
+                to.write(IMPROVING_STREAM[at : at + piece])
                 want = written_of(at + piece).removeprefix(written_of(at))
-                got = soon(process.stdout) if want else b""
+                got = soon(out) if want else b""
                 if not tally.expect(f"pieces of {piece} bytes, {at} read", got, want):
                     process.kill()
                     return tally
-            process.stdin.close()
-            tally.expect(f"pieces of {piece} bytes, the answer", soon(process.stdout), LINES[-1])
+            to.close()
+            tally.expect(f"pieces of {piece} bytes, the answer", soon(out), LINES[-1])
     return tally
 
 
-def soon(pipe):
+def soon(pipe: IO[bytes]) -> bytes:
     """What one read gives of what is written."""
     ready, _, _ = select.select([pipe], [], [], MOST_SECONDS)
     return os.read(pipe.fileno(), READ_SIZE) if ready else b"too late"
 
 
-def number_of_writes(program):
+def number_of_writes(program: str) -> Tally:
     """The lines on one read are one write, with the answer's line where no read follows. Lines as
     long as names of so many bytes don't all wait for the next read."""
     tally = Tally()
@@ -120,16 +122,18 @@ def number_of_writes(program):
             model.write(text)
             model.flush()
             words = [program, "check", model.name]
-            met = [bool(run(words, stream, {"REFUSE_WRITE": str(n)}).met) for n in (writes, writes + 1)]
-        tally.expect(f"{writes} writes on {stream} and a model of {len(text)}", met, [True, False])
+            met = [bool(run(words, stream, {"REFUSE_WRITE": str(n)}).met)
+                   for n in (writes, writes + 1)]
+        name = f"{writes} writes on {stream!r} and a model of {len(text)}"
+        tally.expect(name, met, [True, False])
     return tally
 
 
-def failing_writes_of_json(words):
+def failing_writes_of_json(words: List[str]) -> Tally:
     return failing_writes([*words, "--json"])
 
 
-def each_read(program, name, model, stream):
+def each_read(program: str, name: str, model: str, stream: str) -> Tally:
     """Each read of an example fails in turn: the model's first, and then the stream's."""
     tally = Tally()
     words = [program, "check", model, stream]
@@ -144,7 +148,7 @@ def each_read(program, name, model, stream):
     return tally
 
 
-def each_byte_shown(program, name, model):
+def each_byte_shown(program: str, name: str, model: str) -> Tally:
     """A writer takes each number of bytes of what `show` prints, and then fails."""
     tally = Tally()
     shown = run([program, "show", model]).out
@@ -154,7 +158,7 @@ def each_byte_shown(program, name, model):
     return tally
 
 
-def jobs(program):
+def jobs(program: str) -> Jobs:
     yield improving, (program, failing_reads)
     yield improving, (program, failing_writes)
     yield improving, (program, known_lines)

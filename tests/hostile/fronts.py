@@ -15,7 +15,7 @@ from beside import (
     second,
     second_cut,
 )
-from running import FOLDER, Tally, run
+from running import FOLDER, Answer, Jobs, Tally, run
 
 LINES = IMPROVING_REPORT.splitlines(True)
 PIECE = 400  # fronts that one job runs
@@ -33,7 +33,7 @@ CUTS = (
 )
 
 
-def of_improving(n, cuts):
+def of_improving(n: int, cuts: bool) -> Answer:
     """The status, standard output and standard error on the first n bytes of the improving stream,
     with --cut or without."""
     lines, opened, accepted = next(cut[1:] for cut in CUTS if n <= cut[0])
@@ -43,12 +43,12 @@ def of_improving(n, cuts):
     if opened is not None:
         accepted = lines  # no claim is among them
         written += b"cut: %d..%d\n" % (opened, n)
-    if accepted == 0:
+    if not accepted:
         return 3, written + b"no blocks\n", b""
     return 0, written + b"accepted: blocks %d\n" % accepted, b""
 
 
-def improving(program):
+def improving(program: str) -> Tally:
     tally = Tally()
     with tempfile.NamedTemporaryFile(dir=FOLDER) as model:
         model.write(IMPROVING_MODEL)
@@ -61,7 +61,7 @@ def improving(program):
     return tally
 
 
-def first_model(program):
+def first_model(program: str) -> Tally:
     """The places of two cuts, and the statuses of all."""
     tally = Tally()
     model = content(FIRST_MODEL)
@@ -77,7 +77,7 @@ def first_model(program):
     return tally
 
 
-def of_model(program, name, model, stream, first):
+def of_model(program: str, name: str, model: str, stream: str, first: int) -> Tally:
     tally = Tally()
     whole, judged = content(model), content(stream)
     for n in range(first, min(first + PIECE, len(whole) + 1)):
@@ -86,7 +86,7 @@ def of_model(program, name, model, stream, first):
     return tally
 
 
-def of_stream(program, name, model, stream):
+def of_stream(program: str, name: str, model: str, stream: str) -> Tally:
     tally = Tally()
     against, whole = content(model), content(stream)
     for n in range(len(whole) + 1):
@@ -97,7 +97,7 @@ def of_stream(program, name, model, stream):
     return tally
 
 
-def jobs(program):
+def jobs(program: str) -> Jobs:
     yield improving, (program,)
     yield first_model, (program,)
     for name, model, stream in examples():

@@ -14,9 +14,13 @@ import sys
 import tempfile
 import time
 from multiprocessing import Pool
+from typing import Any, Callable, Dict, List, Optional, Tuple
 
 from beside import CORPUS, content, examples, pairs, second, second_cut, slow
-from running import FOLDER, ROOT, Tally, run
+from running import FOLDER, ROOT, Jobs, Ran, Tally, run
+
+Pair = Tuple[bytes, bytes]  # a model and a stream
+Written = Tuple[str, Any]  # a text and its value
 
 AT_ONCE = 200  # pairs of one job
 MOST_SOURCE = 2_500  # bytes of a model that is mutated
@@ -38,7 +42,7 @@ SPICE = [
     b" :: defines_var(x1)",
 ]  # fmt: skip
 SCALARS = {"I": "int", "B": "bool", "S": "set of int"}
-WORTH = {  # literals, with their values
+WORTH: Dict[str, Dict[str, Any]] = {  # literals, with their values
     "I": {"0": 0, "1": 1, "2": 2, "3": 3, "-1": -1, "5": 5, "0x2": 2, "40": 40,
           "-9223372036854775808": -(2**63)},
     "B": {"true": True, "false": False},
@@ -53,18 +57,18 @@ TABLE = slow.RESULTS | slow.TESTS | slow.OTHER_TESTS | slow.EITHER
 ROWS = {name: row[0].split() for name, row in TABLE.items()}
 
 
-def sources():
+def sources() -> Tuple[List[Pair], List[Pair]]:
     """Small pairs of the repository: the examples and the corpus, and the broken texts."""
     whole = [(content(m), content(s)) for _, m, s in [*examples(), *pairs(CORPUS)]]
     whole = [pair for pair in whole if sum(map(len, pair)) <= MOST_SOURCE]
-    broken = []
+    broken: List[Pair] = []
     with open(CASES) as f:
         for line in f:
             if not line.startswith("#"):
                 sort, *_, text = line.rstrip("\n").split("\t")
-                text = json.loads(text).encode("latin-1")
-                items = SOLVE, text + MARKER
-                broken.append((text, b"") if sort == "model" else items)
+                source = json.loads(text).encode("latin-1")
+                items = SOLVE, source + MARKER
+                broken.append((source, b"") if sort == "model" else items)
     return whole, broken
 
 
@@ -72,10 +76,11 @@ class Small:
     """A small random model over the whole table, and blocks for it. A term is a text and its
     value; most constraints hold under the values of the names."""
 
-    def __init__(self, rand):
+    def __init__(self, rand: random.Random) -> None:
         self.rand = rand
-        self.names = {kind: [] for kind in ("I", "B", "S", "[I]", "[B]", "[S]")}
-        self.items = []
+        kinds = "I", "B", "S", "[I]", "[B]", "[S]"
+        self.names: Dict[str, List[Written]] = {kind: [] for kind in kinds}
+        self.items: List[str] = []
         for number in range(rand.randint(1, 7)):
             self.declare(f"x{number}")
         for _ in range(rand.randint(0, 8)):
@@ -85,28 +90,28 @@ class Small:
             goal = rand.choice(["minimize ", "maximize "]) + self.scalar("I")[0]
         self.items.append(f"solve {goal};")
 
-    def literal(self, kind):
+    def literal(self, kind: str) -> Written:
         text = self.rand.choice(OFTEN[kind] if self.rand.random() < 0.8 else list(WORTH[kind]))
         value = WORTH[kind][text]
         return text, frozenset(value) if kind == "S" else value
 
-    def scalar(self, kind):
+    def scalar(self, kind: str) -> Written:
         names = self.names[kind]
         is_name = names and self.rand.random() < 0.75
         return self.rand.choice(names) if is_name else self.literal(kind)
 
-    def list_of(self, one, kind, length):
+    def list_of(self, one: Callable[[str], Written], kind: str, length: int) -> Written:
         terms = [one(kind) for _ in range(length)]
         return "[" + ",".join(text for text, _ in terms) + "]", [value for _, value in terms]
 
-    def argument(self, kind):
+    def argument(self, kind: str) -> Written:
         if not kind.startswith("["):
             return self.scalar(kind)
         if self.names[kind] and self.rand.random() < 0.4:
             return self.rand.choice(self.names[kind])
         return self.list_of(self.scalar, kind.strip("[]"), self.rand.choice([2, 2, 2, 1, 3, 0]))
 
-    def declare(self, name):
+    def declare(self, name: str) -> None:
         rand = self.rand
         kind = rand.choice("IIIBBS")
         base = SCALARS[kind]
@@ -128,7 +133,7 @@ class Small:
             self.items.append(f"var {base}: {name}{rand.choice(['', ' :: output_var'])}{text};")
         self.names[kind].append((name, value))
 
-    def post(self):
+    def post(self) -> None:
         rand = self.rand
         name = rand.choice(sorted(ROWS))
         kinds = ROWS[name]
@@ -145,13 +150,13 @@ class Small:
             name = "other"
         self.items.append(f"constraint {name}({texts}){notes};")
 
-    def holds(self, name, values):
+    def holds(self, name: str, values: List[Any]) -> bool:
         try:
             return slow.Row(name).holds(values)
         except (slow.NotKnown, OverflowError):
             return False
 
-    def block(self):
+    def block(self) -> str:
         rand, lines = self.rand, []
         some = rand.choice([0.3, 0.1, 0])  # are left out, or have another value
         for kind, names in self.names.items():
@@ -167,30 +172,31 @@ class Small:
             rand.shuffle(lines)
         return "\n".join(lines + ["----------", ""])
 
-    def printed(self, kind, value, others):
+    def printed(self, kind: str, value: Any, others: float) -> str:
         if self.rand.random() < others / 2:
             return self.literal(kind)[0]
         if kind == "B":
             return "true" if value else "false"
         return str(value) if kind == "I" else "{" + ",".join(map(str, sorted(value))) + "}"
 
-    def stream(self):
+    def stream(self) -> str:
         claim = self.rand.choice(["", "", "==========\n", "=====UNKNOWN=====\n", "% done\n"])
         return "".join(self.block() for _ in range(self.rand.choice([0, 1, 1, 2, 3]))) + claim
 
 
-def in_bytes(text):
+def in_bytes(text: bytes) -> List[bytes]:
     return [text[at : at + 1] for at in range(len(text))]
 
 
-def in_lines(text):
+def in_lines(text: bytes) -> List[bytes]:
     return text.splitlines(True)
 
 
-def mutated(text, other, rand):
+def mutated(text: bytes, other: bytes, rand: random.Random) -> bytes:
     """The text with one change: bytes, tokens or lines dropped, doubled, exchanged, put in or cut
     off."""
-    parts = rand.choice([TOKEN.findall, TOKEN.findall, in_lines, in_bytes])(text)
+    ways: List[Callable[[bytes], List[bytes]]] = [TOKEN.findall, TOKEN.findall, in_lines, in_bytes]
+    parts = rand.choice(ways)(text)
     at = rand.randint(0, len(parts))
     to = min(len(parts), at + rand.choice([1, 1, 1, 2, 5]))
     which = rand.randrange(8)
@@ -214,7 +220,7 @@ def mutated(text, other, rand):
     return b"".join(parts)
 
 
-def pair(rand, whole, broken):
+def pair(rand: random.Random, whole: List[Pair], broken: List[Pair]) -> Pair:
     """A model and a stream, made or found, and in most cases changed in some places."""
     which = rand.random()
     if which < 0.7:
@@ -233,7 +239,7 @@ def pair(rand, whole, broken):
     return model, stream
 
 
-def in_pieces(words, stream, rand):
+def in_pieces(words: List[str], stream: bytes, rand: random.Random) -> Ran:
     """Runs a program with a stream that comes in pieces of random sizes, each of which is one
     read."""
     cuts = sorted(rand.randint(0, len(stream)) for _ in range(rand.randint(0, MOST_PIECES - 1)))
@@ -246,7 +252,8 @@ def in_pieces(words, stream, rand):
     return ran
 
 
-def differs(program, folder, model, stream, rand):
+def differs(program: str, folder: str, model: bytes, stream: bytes, rand: random.Random
+            ) -> Optional[str]:
     """What the program says otherwise than the second checker, or in pieces, or none."""
     paths = [os.path.join(folder, name) for name in ("model.fzn", "stream.txt")]
     for path, text in zip(paths, (model, stream)):
@@ -264,7 +271,7 @@ def differs(program, folder, model, stream, rand):
     return None if pieces == got else f"gave {got}, in pieces {pieces}"
 
 
-def batch(program, seed, first, count):
+def batch(program: str, seed: str, first: int, count: int) -> Tally:
     tally, (whole, broken) = Tally(), sources()
     with tempfile.TemporaryDirectory(dir=FOLDER) as folder:
         for number in range(first, first + count):
@@ -277,26 +284,27 @@ def batch(program, seed, first, count):
     return tally
 
 
-def jobs(program, count, seed):
+def jobs(program: str, count: int, seed: str) -> Jobs:
     for first in range(0, count, AT_ONCE):
         yield batch, (program, seed, first, min(AT_ONCE, count - first))
 
 
-def until(program, seed, at, step, end):
+def until(program: str, seed: str, at: int, step: int, end: float) -> Tally:
     """Runs each of so many batches, from one on, up to a time."""
     tally = Tally()
     for number in itertools.count(at, step):
         if time.monotonic() >= end:
             return tally
         tally.add(batch(program, seed, number * AT_ONCE, AT_ONCE))
+    return tally
 
 
-def main():
+def main() -> int:
     program, seconds = os.path.abspath(sys.argv[1]), float(sys.argv[2])
     seed = sys.argv[3] if len(sys.argv) > 3 else "1"
     os.makedirs(FOLDER, exist_ok=True)
     print(f"seed {seed}", flush=True)
-    end, cores, tally = time.monotonic() + seconds, os.cpu_count(), Tally()
+    end, cores, tally = time.monotonic() + seconds, os.cpu_count() or 1, Tally()
     with Pool(cores) as pool:
         for part in pool.starmap(until, [(program, seed, at, cores, end) for at in range(cores)]):
             tally.add(part)

@@ -8,9 +8,10 @@ import subprocess
 import sys
 import tempfile
 import threading
+from typing import Iterator, Tuple
 
 from beside import FIRST_MODEL
-from running import FOLDER, Tally, run
+from running import FOLDER, Answer, Jobs, Tally, opened, run
 from sizes import ACCEPTED, NOTHING, SOLVE, Filled, measured, refused, to_length
 
 SIZE = 40_000_000
@@ -21,12 +22,13 @@ STANDARD = 1_048_576  # elements of a list without `--large`
 FAR = 1 << 31  # bytes of a stream before its block
 COMMENT = b"%" + b"x" * 65_534 + b"\n"
 BLOCK = b"\n----------\n"
+Large = Tuple[str, Filled, Answer]  # a name, a text, and what is given
 
 
-def models(size):
+def models(size: int) -> Iterator[Large]:
     """A name, a text, and what `check --large` gives on an empty stream."""
 
-    def of(before, piece, behind):
+    def of(before: bytes, piece: bytes, behind: bytes) -> Filled:
         return to_length(before, piece, behind, size)
 
     yield "blanks", of(b"", b" ", SOLVE), NOTHING
@@ -49,7 +51,7 @@ def models(size):
     yield "a name at the end", unknown, refused("model", "UnknownName", at, at + 1)
 
 
-def streams(size):
+def streams(size: int) -> Iterator[Large]:
     """A name, a text, and what `check --large` gives on it against a model with one number x."""
     held = Filled(b"", b"x", size)
     yield "a line that is held", held, refused("stream", "Unfinished", 0, size)
@@ -58,7 +60,7 @@ def streams(size):
     yield "one name", name, refused("block 1", "UnknownName", 0, name.count)
 
 
-def judged(program, sort, name, text, want):
+def judged(program: str, sort: str, name: str, text: Filled, want: Answer) -> Tally:
     """One text is judged, in its time and its memory, and refused where it isn't to be large."""
     tally = Tally()
     name = f"{sort} of {text.size} bytes: {name}"
@@ -74,14 +76,14 @@ def judged(program, sort, name, text, want):
     return tally
 
 
-def written(folder, name, *parts):
+def written(folder: str, name: str, *parts: bytes) -> str:
     path = os.path.join(folder, name)
     with open(path, "wb") as f:
         f.writelines(parts)
     return path
 
 
-def explained(program):
+def explained(program: str) -> Tally:
     """What is found behind 2^24 bytes and a million constraints is told by its number and line."""
     tally = Tally()
     count = 1_500_000
@@ -106,13 +108,13 @@ def explained(program):
     return tally
 
 
-def far(program):
+def far(program: str) -> Tally:
     """A block that doesn't fit, behind 2^31 bytes of a stream."""
     tally = Tally()
     words = [program, "check", FIRST_MODEL]
     with subprocess.Popen(words, stdin=subprocess.PIPE, stderr=subprocess.PIPE) as process:
         for _ in range(FAR // len(COMMENT) + 1):
-            process.stdin.write(COMMENT)
+            opened(process.stdin).write(COMMENT)
         at = (FAR // len(COMMENT) + 1) * len(COMMENT)
         _, err = process.communicate(b"y = 3;" + BLOCK)
     want = refused("block 1", "UnknownName", at, at + 1)
@@ -120,14 +122,14 @@ def far(program):
     return tally
 
 
-def growing(program):
+def growing(program: str) -> Tally:
     """A model that grows, by comments, while it is read."""
     tally = Tally()
     stopped = threading.Event()
     with tempfile.TemporaryDirectory(dir=FOLDER) as folder:
         path = written(folder, "model", SOLVE, COMMENT * 100)
 
-        def grow():
+        def grow() -> None:
             with open(path, "ab", buffering=0) as f:
                 while not stopped.is_set() and f.tell() < 4 * SIZE:
                     f.write(COMMENT)
@@ -141,7 +143,7 @@ def growing(program):
     return tally
 
 
-def short_of_memory(program):
+def short_of_memory(program: str) -> Tally:
     """A large model, where memory ends at each tenth of ten times its bytes."""
     tally = Tally()
     with tempfile.TemporaryDirectory(dir=FOLDER) as folder:
@@ -161,20 +163,20 @@ def short_of_memory(program):
     return tally
 
 
-def texts(size):
+def texts(size: int) -> Iterator[Tuple[str, str, Filled, Answer]]:
     for sort, listed in (("model", models(size)), ("stream", streams(size))):
         for name, text, want in listed:
             yield sort, name, text, want
 
 
-def jobs(program):
+def jobs(program: str) -> Jobs:
     for text in texts(SIZE):
         yield judged, (program, *text)
     for test in (explained, far, growing, short_of_memory):
         yield test, (program,)
 
 
-def main():
+def main() -> int:
     program, gigabytes = os.path.abspath(sys.argv[1]), float(sys.argv[2])
     os.makedirs(FOLDER, exist_ok=True)
     tally = Tally()

@@ -5,9 +5,10 @@ import shutil
 import subprocess
 import tempfile
 import time
+from typing import Any, Dict, Tuple
 
 from beside import FIRST_MODEL, FIRST_STREAM, content, examples
-from running import FOLDER, ROOT, Tally, run
+from running import FOLDER, ROOT, Answer, Jobs, Ran, Tally, opened, run
 
 ACCEPTED = 0, b"block 1: satisfied\naccepted: blocks 1\n", b""
 INPUT = "(standard input)"
@@ -21,17 +22,17 @@ LEAST_MEMORY, MOST_MEMORY = 4_096, 131_072  # KB of address space
 DEEP = b"solve :: " + b"a([" * 31 + b"a" + b"])" * 31 + b" satisfy;\n"
 
 
-def unread(name, message):
+def unread(name: str, message: str) -> Answer:
     """The answer where a file can't be opened or read, and what the system says of it."""
     return 6, b"", f"refused: read\n{name}: {message}\n".encode()
 
 
-def in_shell(script, *words, **more):
+def in_shell(script: str, *words: str, **more: Any) -> Ran:
     """Runs words by a shell that first does what the script says."""
     return run(["sh", "-c", script, "sh", *words], **more)
 
 
-def closed(program):
+def closed(program: str) -> Tally:
     """A standard stream that is closed. Files that are opened must not take its place."""
     tally = Tally()
     both = [program, "check", FIRST_MODEL, FIRST_STREAM]
@@ -54,7 +55,7 @@ def closed(program):
     return tally
 
 
-def full(program):
+def full(program: str) -> Tally:
     tally = Tally()
     for form in (), ("--json",):
         words = [program, "check", *form, FIRST_MODEL, FIRST_STREAM]
@@ -66,7 +67,7 @@ def full(program):
     return tally
 
 
-def no_reader(program):
+def no_reader(program: str) -> Tally:
     """A pipe that nobody reads is a write that fails: the program isn't ended by the signal of
     it."""
     tally = Tally()
@@ -80,7 +81,7 @@ def no_reader(program):
     return tally
 
 
-def files(program):
+def files(program: str) -> Tally:
     """A folder, a missing file, one without leave to read, an endless one."""
     tally = Tally()
     with tempfile.TemporaryDirectory(dir=FOLDER) as folder:
@@ -108,12 +109,12 @@ def files(program):
     return tally
 
 
-def as_another():
+def as_another() -> Dict[str, Any]:
     """How to run a program as a user that may not read all, as the superuser may."""
     return {"user": NOBODY, "group": NOBODY, "extra_groups": []} if os.getuid() == 0 else {}
 
 
-def no_leave(program):
+def no_leave(program: str) -> Tally:
     """Files that the user may not read. Where no program can be run as another, nothing is
     tried."""
     tally = Tally()
@@ -134,7 +135,7 @@ def no_leave(program):
     return tally
 
 
-def little_stack(program):
+def little_stack(program: str) -> Tally:
     """A stack of 80 KB gives what an ample one gives. A program without proof is compiled
     otherwise, and wants more."""
     tally, stack = Tally(), STACK
@@ -156,7 +157,7 @@ def little_stack(program):
     return tally
 
 
-def all_shown(terminal):
+def all_shown(terminal: int) -> bytes:
     """What a terminal got until nobody writes to it any more: it may come in several pieces, and
     its end is told as an error."""
     shown = b""
@@ -167,7 +168,7 @@ def all_shown(terminal):
     return shown
 
 
-def waiting(program):
+def waiting(program: str) -> Tally:
     """Where standard error is a terminal and standard output isn't, a line tells after two seconds
     how far the check is, and is gone at the end."""
     tally = Tally()
@@ -176,13 +177,14 @@ def waiting(program):
     with subprocess.Popen(
         [program, "check", FIRST_MODEL], stdin=subprocess.PIPE, stdout=subprocess.PIPE, stderr=err
     ) as process:
-        process.stdin.write(block)
-        process.stdin.flush()
-        first = process.stdout.readline()
+        to, out = opened(process.stdin), opened(process.stdout)
+        to.write(block)
+        to.flush()
+        first = out.readline()
         time.sleep(2.2)
-        process.stdin.write(block)
-        process.stdin.close()
-        rest = process.stdout.read()
+        to.write(block)
+        to.close()
+        rest = out.read()
     os.close(err)
     shown = all_shown(terminal)
     line = b"2 blocks, all satisfied so far"
@@ -192,7 +194,7 @@ def waiting(program):
     return tally
 
 
-def large_pair(folder):
+def large_pair(folder: str) -> Tuple[str, str]:
     """A model and a stream of some hundred KB, whose memory a limit can cut anywhere."""
     model, stream = os.path.join(folder, "model.fzn"), os.path.join(folder, "stream.txt")
     count = 10_000
@@ -206,7 +208,7 @@ def large_pair(folder):
     return model, stream
 
 
-def little_memory(program):
+def little_memory(program: str) -> Tally:
     """Limits of memory from 4 MB up: out of memory, or the full answer."""
     tally = Tally()
     with tempfile.TemporaryDirectory(dir=FOLDER) as folder:
@@ -224,6 +226,6 @@ def little_memory(program):
     return tally
 
 
-def jobs(program):
+def jobs(program: str) -> Jobs:
     tests = closed, full, no_reader, files, no_leave, waiting, little_stack, little_memory
     return [(test, (program,)) for test in tests]

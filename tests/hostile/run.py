@@ -8,6 +8,7 @@ import os
 import sys
 import time
 from multiprocessing import Pool
+from typing import Any, Tuple
 
 import devices
 import fronts
@@ -22,7 +23,7 @@ PAIRS = 20_000  # of random texts
 SEED = "1"
 
 
-def job(test, args):
+def job(test: running.Test, args: Tuple[Any, ...]) -> running.Tally:
     try:
         return test(*args)
     except Exception as error:
@@ -31,7 +32,7 @@ def job(test, args):
         return tally
 
 
-def main():
+def main() -> int:
     program = os.path.abspath(sys.argv[1])
     running.build()
     tally = running.Tally()

@@ -5,6 +5,7 @@ import signal
 import subprocess
 import tempfile
 from dataclasses import dataclass, field
+from typing import IO, Any, Callable, Dict, Iterable, List, Optional, Tuple, Union
 
 HERE = os.path.dirname(os.path.abspath(__file__))
 ROOT = os.path.dirname(os.path.dirname(HERE))
@@ -14,8 +15,11 @@ MOST_SECONDS = 600  # by the clock, on a machine that may have much else to do
 READ_SIZE = 65_536
 MOST_SECONDS_OF_ALL = 1_200  # of a run whose growths are refused in turn
 
+Answer = Tuple[Optional[int], bytes, bytes]  # a status, standard output and standard error
+Input = Union[bytes, int, IO[bytes]]  # a text, or what is read
 
-def build():
+
+def build() -> str:
     """Compiles what is preloaded, and gives its path."""
     os.makedirs(FOLDER, exist_ok=True)
     source = os.path.join(HERE, "refuse.c")
@@ -28,17 +32,18 @@ def build():
 class Ran:
     """What a run gave: a status below 0 is a signal's number, None is a run that took too long."""
 
-    status: int | None
+    status: Optional[int]
     out: bytes
     err: bytes
     met: int = 0  # how many refusals it met
 
     @property
-    def answer(self):
+    def answer(self) -> Answer:
         return self.status, self.out, self.err
 
 
-def run(words, stdin=b"", env=None, limit=MOST_SECONDS, shared=SHARED, **more):
+def run(words: List[str], stdin: Input = b"", env: Optional[Dict[str, str]] = None,
+        limit: float = MOST_SECONDS, shared: str = SHARED, **more: Any) -> Ran:
     """Runs a program. `env` has what refuse.c reads, and only where it has something is that
     preloaded. `stdin` is bytes, or a file or descriptor; `more` goes to subprocess."""
     if not env:
@@ -49,11 +54,12 @@ def run(words, stdin=b"", env=None, limit=MOST_SECONDS, shared=SHARED, **more):
         ran = given(words, stdin, os.environ | preload | env, limit, more | {"pass_fds": (to,)})
     finally:
         os.close(to)
-    with os.fdopen(log, "rb") as log:
-        return Ran(*ran, len(log.read(READ_SIZE)))
+    with os.fdopen(log, "rb") as file:
+        return Ran(*ran, len(file.read(READ_SIZE)))
 
 
-def each_refused(words, stdin=b"", onward=False):
+def each_refused(words: List[str], stdin: bytes = b"", onward: bool = False
+                 ) -> Tuple[List[Ran], Ran]:
     """Runs a program in which each growth of memory is refused in turn: what it gives with each
     refused, and with none. With `onward` all that follow are refused too."""
     files = [tempfile.TemporaryFile(dir=FOLDER) for _ in range(4)]
@@ -72,18 +78,27 @@ def each_refused(words, stdin=b"", onward=False):
     refused = []
     while line := told.readline():
         status, *sizes = map(int, line.split())
-        refused.append(Ran(status, *map(told.read, sizes), met=1))
+        refused.append(Ran(status, told.read(sizes[0]), told.read(sizes[1]), met=1))
     for file in files:
         file.close()
     return refused, ran
 
 
-def given(words, stdin, env, limit, more):
+def opened(pipe: Optional[IO[bytes]]) -> IO[bytes]:
+    """A pipe that a process was started with."""
+    assert pipe
+    return pipe
+
+
+def given(words: List[str], stdin: Input, env: Optional[Dict[str, str]], limit: float,
+          more: Dict[str, Any]) -> Answer:
     """The status, standard output and standard error."""
     more = {"stdout": subprocess.PIPE, "stderr": subprocess.PIPE} | more
     text = stdin if isinstance(stdin, bytes) and stdin else None
-    source = subprocess.PIPE if text else subprocess.DEVNULL if stdin == b"" else stdin
-    with subprocess.Popen(words, stdin=source, env=env, **more) as process:
+    source = (stdin if not isinstance(stdin, bytes) else
+              subprocess.PIPE if stdin else subprocess.DEVNULL)
+    process: "subprocess.Popen[bytes]" = subprocess.Popen(words, stdin=source, env=env, **more)
+    with process:
         try:
             out, err = process.communicate(text, timeout=limit)
         except subprocess.TimeoutExpired:
@@ -98,24 +113,28 @@ class Tally:
     """Counts passes and failures, and keeps what is to be told of failures."""
 
     passed: int = 0
-    told: list = field(default_factory=list)
+    told: List[str] = field(default_factory=list)
 
-    def check(self, name, holds, said=""):
+    def check(self, name: str, holds: object, said: object = "") -> bool:
         if holds:
             self.passed += 1
         else:
             self.told.append(f"failed: {name}: {said}")
-        return holds
+        return bool(holds)
 
-    def expect(self, name, got, want):
+    def expect(self, name: str, got: object, want: object) -> bool:
         return self.check(name, got == want, f"gave {got!r}, wanted {want!r}")
 
-    def add(self, other):
+    def add(self, other: "Tally") -> None:
         self.passed += other.passed
         self.told += other.told
 
-    def end(self):
+    def end(self) -> int:
         """Prints the failures and the count, and gives the status to end with."""
         print("".join(line + "\n" for line in self.told), end="")
         print(f"{self.passed} passed, {len(self.told)} failed")
         return 1 if self.told else 0
+
+
+Test = Callable[..., Tally]
+Jobs = Iterable[Tuple[Test, Tuple[Any, ...]]]  # each a test and its arguments

@@ -10,9 +10,10 @@ import resource
 import subprocess
 import tempfile
 from dataclasses import dataclass
+from typing import Any, Iterator, List, Optional, Tuple
 
 from beside import FIRST_MODEL, content
-from running import FOLDER, Tally
+from running import FOLDER, Answer, Jobs, Tally
 
 MOST_SECONDS = 2
 TRIES = 3  # of which the fastest counts, since another load on the machine only ever adds
@@ -37,10 +38,10 @@ class Filled:
     behind: bytes = b""
 
     @property
-    def size(self):
+    def size(self) -> int:
         return len(self.before) + len(self.piece) * self.count + len(self.behind)
 
-    def write(self, path):
+    def write(self, path: str) -> None:
         at_once = max(1, PIECE // len(self.piece))
         with open(path, "wb") as f:
             f.write(self.before)
@@ -49,13 +50,14 @@ class Filled:
             f.write(self.piece * (self.count % at_once) + self.behind)
 
 
-def to_length(before, piece, behind, size=MOST_BYTES):
+def to_length(before: bytes, piece: bytes, behind: bytes, size: int = MOST_BYTES) -> Filled:
     """A text of a length, or of as few bytes below it as the piece has room for."""
     count = (size - len(before) - len(behind)) // len(piece)
     return Filled(before, piece, count, behind)
 
 
-def refused(what, fault, start=None, end=None):
+def refused(what: str, fault: str, start: Optional[int] = None, end: Optional[int] = None
+            ) -> Answer:
     place = "" if start is None else f" at {start}..{end}"
     return 4, b"", f"refused: {what}: {fault}{place}\n".encode()
 
@@ -64,7 +66,7 @@ NOTHING = 3, b"no blocks\n", b""
 ACCEPTED = 0, SATISFIED, b""
 
 
-def models():
+def models() -> Iterator[Tuple[Any, ...]]:
     """A name, a text, what `check` gives on an empty stream, and how many times the bytes it may
     take."""
     most, too_many = MOST_ELEMENTS, 2 * MOST_ELEMENTS
@@ -81,8 +83,8 @@ def models():
     yield "one constraint's name", to_length(b"constraint ", b"x", b"();\n" + SOLVE), NOTHING
     yield "colons", to_length(b"solve ", b"::", b""), refused("model", "Syntax", 8, 10)
     yield "annotations", to_length(b"solve ", b"::a", b" satisfy;\n"), NOTHING, 21
-    deep = 9 + 2 * 32
-    deep = refused("model", "TooDeep", deep, deep + 1)
+    at = 9 + 2 * 32
+    deep = refused("model", "TooDeep", at, at + 1)
     yield "open parentheses", Filled(b"solve :: ", b"a(", 8_000_000), deep
     bare = to_length(b"solve :: a", b"(", b"")
     yield "bare parentheses", bare, refused("model", "Syntax", 11, 12)
@@ -95,8 +97,8 @@ def models():
     yield "points", to_length(b"", b".", b""), refused("model", "Syntax", 0, 2)
     listed = Filled(b"constraint p([", b"1,", most - 1, b"1]);\n" + SOLVE)
     yield "a list", listed, NOTHING, 35
-    one_more = 14 + too_many
-    one_more = refused("model", "TooMany", one_more, one_more + 1)
+    at = 14 + too_many
+    one_more = refused("model", "TooMany", at, at + 1)
     listed = Filled(b"constraint p([", b"1,", most, b"1]);\n" + SOLVE)
     yield "an element too many", listed, one_more, 32
     yield "a number too many", Filled(b"constraint p({", b"1,", most, b"1});\n" + SOLVE), one_more
@@ -109,7 +111,7 @@ def models():
     yield "bytes past ASCII", to_length(b"%", b"\xff", b"\n" + SOLVE), NOTHING
 
 
-def streams():
+def streams() -> Iterator[Tuple[Any, ...]]:
     """A name, a text, what `check` gives on it against a model with one number x from 1 to 5."""
     held = Filled(b"", b"x", MOST_BYTES)
     yield "a line that is held", held, refused("stream", "Unfinished", 0, MOST_BYTES)
@@ -141,7 +143,7 @@ def streams():
     yield "blocks", Filled(b"", block, MANY), (0, lines + b"accepted: blocks %d\n" % MANY, b"")
 
 
-def measured(program, words, text, path):
+def measured(program: str, words: List[str], text: Filled, path: str) -> Tuple[Answer, float, int]:
     """Runs the program; its status, standard output and standard error, its seconds and its
     bytes."""
     text.write(path)
@@ -155,7 +157,8 @@ def measured(program, words, text, path):
     return answer, used.ru_utime + used.ru_stime, used.ru_maxrss * 1024
 
 
-def judged(program, sort, name, text, want, times=TIMES):
+def judged(program: str, sort: str, name: str, text: Filled, want: Optional[Answer],
+           times: int = TIMES) -> Tally:
     """One text is judged or shown, in its time and its memory."""
     tally = Tally()
     with tempfile.TemporaryDirectory(dir=FOLDER) as folder:
@@ -181,13 +184,13 @@ def judged(program, sort, name, text, want, times=TIMES):
     return tally
 
 
-def shown():
+def shown() -> Iterator[Tuple[str, Filled]]:
     """A name and a text that is shown as it stands."""
     yield "one name", to_length(b"var int: ", b"x", b";\n" + SOLVE)
     yield "one string", to_length(b'solve :: a("', b"x", b'") satisfy;\n')
 
 
-def jobs(program):
+def jobs(program: str) -> Jobs:
     for sort, texts in (("model", models()), ("stream", streams())):
         for name, *rest in texts:
             yield judged, (program, sort, name, *rest)
