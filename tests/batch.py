@@ -19,7 +19,7 @@ import subprocess
 import sys
 import tempfile
 import time
-from typing import Dict, Iterator, List, NamedTuple, Set, Tuple
+from typing import Dict, Iterator, List, NamedTuple, Optional, Set, Tuple
 
 import hosts
 import minizinc
@@ -191,7 +191,7 @@ class Table(html.parser.HTMLParser):
         self.rows: List[List[str]] = []
         self.is_inside = False
 
-    def handle_starttag(self, tag: str, pairs: List[Tuple[str, object]]) -> None:
+    def handle_starttag(self, tag: str, pairs: List[Tuple[str, Optional[str]]]) -> None:
         attributes = dict(pairs)
         if tag == "table":
             self.is_inside = attributes.get("id") == "models"
@@ -280,7 +280,8 @@ def try_shards(place: Place) -> None:
 def script_with(word: str) -> str:
     """The block of the page between lines of three backquotes that has a word."""
     page = (ROOT / "docs" / "ORGANISERS.md").read_text(encoding="utf-8")
-    return next(text for text in re.findall(r"^```\n(.*?)^```", page, re.M | re.S) if word in text)
+    blocks: List[str] = re.findall(r"^```\n(.*?)^```", page, re.M | re.S)
+    return next(text for text in blocks if word in text)
 
 
 def season_of_few(place: Place, folder: str) -> Place:

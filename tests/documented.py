@@ -44,7 +44,7 @@ def names() -> List[str]:
 def forms() -> int:
     """How many names have the suffix of a reified or a half-reified form."""
     sys.path.insert(0, str(ROOT / "python"))
-    from fzcheck.fuzz.rows import FORMS  # type: ignore[import]
+    from fzcheck.fuzz.rows import FORMS
     return 2 * len(FORMS)
 
 

@@ -32,7 +32,8 @@ PROGRAMS = re.compile(r"```python\n(.*?)```\n(?:\nprints\n\n```\n(.*?)```\n)?", 
 WAYS: Tuple[Tuple[List[str], Dict[str, object]], ...] = (
     ([], {}),
     (["--complete", "--cut"], {"complete": True, "cut": True}),
-    (["--claims=prove", "--explain"], {"claims": "prove", "explain": True}),
+    (["--claims=prove", "--complete-steps", "1000", "--explain"],
+     {"claims": "prove", "complete_steps": 1000, "explain": True}),
     (["--claims", "--explain=every"], {"claims": True, "explain": "every"}),
 )
 
@@ -149,7 +150,8 @@ def other_programs(folder: str) -> None:
     path = os.path.join(folder, "program")
     told = '{"block":1,"verdict":"satisfied"}'
     for script, kind in ((f"printf '{told}\\n{told[:9]}'; kill -9 $$", fzcheck.Ended),
-                         ("exit 7", fzcheck.OutOfMemory), ("sleep 60", fzcheck.OutOfTime)):
+                         ("exit 7", fzcheck.OutOfMemory), ("exit 99", fzcheck.Error),
+                         ("echo what", fzcheck.Error), ("sleep 60", fzcheck.OutOfTime)):
         with open(path, "w", encoding="utf-8") as file:
             file.write(f"#!/bin/sh\nexec 3>&-\n{script.replace('sleep', 'exec sleep')}\n")
         os.chmod(path, stat.S_IRWXU)

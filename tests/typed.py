@@ -16,9 +16,10 @@ ROOT = os.path.dirname(os.path.dirname(os.path.abspath(__file__)))
 TYPED = (
     "python/fzcheck/*.py python/fzcheck/*/*.py",
     "tools/*.py",
-    """tests/as_json.py tests/completions.py tests/debian.py tests/documents.py tests/expecting.py
-    tests/headline.py tests/inside.py tests/minizinc.py tests/module.py tests/package.py
-    tests/run.py tests/solver.py tests/typed.py""",
+    """tests/as_json.py tests/batch.py tests/completions.py tests/debian.py tests/documented.py
+    tests/documents.py tests/expecting.py tests/fuzz.py tests/headline.py tests/hosts.py
+    tests/inside.py tests/minizinc.py tests/module.py tests/package.py tests/run.py
+    tests/season.py tests/solver.py tests/transcripts.py tests/typed.py tests/wrong.py""",
     "tests/program/run.py",
     "tests/cases/*.py",
     "tests/corpus/*.py",

@@ -4,7 +4,7 @@ import os
 import re
 import signal
 import subprocess
-from typing import Dict, Iterable, Iterator, List, NamedTuple, Optional, Sequence, Union
+from typing import Dict, Iterable, Iterator, List, NamedTuple, Optional, Sequence, Type, Union
 
 from fzcheck import lines
 from fzcheck.common import NotInstalled, needed_program
@@ -62,8 +62,9 @@ class OutOfTime(Error):
     """The check took longer than it may."""
 
 
-OF_STATUS = {Status.REFUSED: Refused, Status.WRONG_WORDS: WrongOptions,
-             Status.NOT_READ: NotRead, Status.OUT_OF_MEMORY: OutOfMemory}
+OF_STATUS: Dict[int, Type[Error]] = {
+    Status.REFUSED: Refused, Status.WRONG_WORDS: WrongOptions, Status.NOT_READ: NotRead,
+    Status.OUT_OF_MEMORY: OutOfMemory}
 
 
 class Text(NamedTuple):
@@ -143,7 +144,11 @@ def reported(model: Source, stream: Source, words: Sequence[Word] = (),
     """What a check with these words reports, whatever its status is."""
     ran = _ran(["check", "--json", *words, "--", word_of(model, "<model>"),
                 word_of(stream, "<stream>")], timeout)
-    return Report(ran.status, objects_of(ran.output), ran.errors, words.count("--known"))
+    try:
+        objects = objects_of(ran.output)
+    except ValueError:
+        raise Error("fzcheck wrote no JSON", Report(ran.status, [], ran.errors)) from None
+    return Report(ran.status, objects, ran.errors, words.count("--known"))
 
 
 def valued(option: str, value: Union[bool, str]) -> List[str]:
@@ -175,7 +180,7 @@ def error_of(report: Report) -> Error:
         file = f"{refusal['file']}: " if "file" in refusal else ""
         told = f": {file}{place}{refusal['message']}" if "message" in refusal else ""
         message = lines.refusal_line(refusal) + told
-    return OF_STATUS.get(Status(report.status), Error)(message, report)
+    return OF_STATUS.get(report.status, Error)(message, report)
 
 
 @contextlib.contextmanager
@@ -191,7 +196,7 @@ def in_memory(text: bytes) -> Iterator[int]:
 
 
 def _ran(words: Sequence[Word], timeout: Optional[float]) -> Ran:
-    """Runs the program. All that is asked of it is asked here, so another way can take its place."""
+    """Runs the program. All is asked of it here, so that another way can take its place."""
     names: Dict[bytes, bytes] = {}
     with contextlib.ExitStack() as files:
         told = [needed_program()]

@@ -25,13 +25,15 @@ class NotInstalled(FileNotFoundError):
 def program() -> Optional[str]:
     """The program `fzcheck`: what FZCHECK names, or the one that was installed or built with the
     companions, or else the first on the path."""
-    return os.environ.get("FZCHECK") or shutil.which("fzcheck", path=os.pathsep.join(program_places()))
+    places = os.pathsep.join(program_places())
+    return os.environ.get("FZCHECK") or shutil.which("fzcheck", path=places)
 
 
 def needed_program() -> str:
     found = program()
     if not found:
-        raise NotInstalled(errno.ENOENT, "is neither beside this program nor on the PATH", "fzcheck")
+        why = "is neither beside this program nor on the PATH"
+        raise NotInstalled(errno.ENOENT, why, "fzcheck")
     return found
 
 

@@ -184,7 +184,7 @@ def claim_jobs(facts: Dict[str, Facts], found: Dict[Pair, Result]) -> Iterator[J
 
 def check_words(setting: Setting) -> str:
     """What is wrong with the options of check, if anything, by a run on no model."""
-    report = reported(b"", b"", setting.options)
+    report = reported(os.devnull, os.devnull, setting.options)
     if report.status != Status.WRONG_WORDS:
         return ""
     return report.messages.strip() or "fzcheck doesn't take these options"
