@@ -1,6 +1,7 @@
-// Sets of numbers from 0 to 63, each as the bits of a word: bit n is 1 where n is in the set. A
-// question about such sets, or an operation on two of them, takes a few instructions. Only building
-// a set from a list or from ranges, and listing its ranges, takes a loop.
+//! Sets of numbers from 0 to 63, each as the bits of a word: bit n is 1 where n is in the set. A
+//! question about such sets, or an operation on two of them, takes a few instructions. Only building
+//! a set from a list or from ranges, and listing its ranges, takes a loop.
+
 ghost use Rattle.std.specs.Prelude.{◌≡◌, ◌<◌, ◌≤◌, ◌+◌, ℤ, ◌≤ℤ◌, ◌-ℤ◌, ◌↔◌, ◌&&◌, ◌||◌, true, pos, IsTrue, IfNone, IfSome};
 ghost use Rattle.std.specs.FinSet as set;
 ghost use Rattle.std.specs.List.{list_any};

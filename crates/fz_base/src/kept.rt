@@ -1,6 +1,7 @@
-// How the numbers of a set are stored. Most sets have numbers from 0 to 63 alone. These are stored
-// as the bits of a word inside the set itself, so reading them needs no second access to memory.
-// The numbers of other sets are stored as ranges in a box.
+//! How the numbers of a set are stored. Most sets have numbers from 0 to 63 alone. These are stored
+//! as the bits of a word inside the set itself, so reading them needs no second access to memory.
+//! The numbers of other sets are stored as ranges in a box.
+
 ghost use Rattle.std.specs.Prelude.{◌≡◌, ℤ, ◌≤◌, ◌^◌, ◌≤ℤ◌, ◌↔◌, true, IsTrue, IfNone, IfOk, IfSome};
 ghost use Rattle.std.specs.FinSet as set;
 ghost use Rattle.std.specs.List.{list_any};

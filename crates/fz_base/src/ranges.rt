@@ -1,7 +1,8 @@
-// Ranges of integers in order, as sets with numbers outside 0 to 63 are stored. Each function goes
-// over its ranges at most once. A set operation walks two lists side by side, one stretch of
-// numbers after another on which the answer doesn't change. Whether one set is a subset of another,
-// and whether two are equal, is found by comparing whole ranges.
+//! Ranges of integers in order, as sets with numbers outside 0 to 63 are stored. Each function goes
+//! over its ranges at most once. A set operation walks two lists side by side, one stretch of
+//! numbers after another on which the answer doesn't change. Whether one set is a subset of another,
+//! and whether two are equal, is found by comparing whole ranges.
+
 ghost use Rattle.std.specs.Prelude.{◌≡◌, ◌≤◌, ◌^◌, ℤ, ◌≤ℤ◌, ◌<ℤ◌, ◌+◌, ◌↔◌, ◌||◌, false, true, IsTrue, IfNone, IfOk, IfSome, OnOk, pos, ◌+ℤ◌, ◌-ℤ◌, ◌&&◌};
 ghost use Rattle.std.specs.List.{sum_by, list_any};
 ghost use Rattle.std.specs.Ordering.{int_cmp, int_eq};

@@ -1,4 +1,5 @@
-// Finite sets of integers.
+//! Finite sets of integers.
+
 ghost use Rattle.std.specs.Prelude.{◌≡◌, ◌≤◌, ◌^◌, ◌↔◌, ℤ, IsTrue, IfNone, IfOk, IfSome};
 ghost use Rattle.std.specs.FinSet as set;
 ghost use Rattle.fz_base.specs.Keeping.{combined, has, set_of, AreKept};

@@ -1,4 +1,5 @@
-// Values of FlatZinc's types over int, bool and set.
+//! Values of FlatZinc's types over int, bool and set.
+
 ghost use Rattle.std.specs.Prelude.{◌≡◌, ◌↔◌, IsTrue, IfOk};
 
 use crate::sets::IntSet;

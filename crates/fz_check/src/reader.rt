@@ -1,3 +1,5 @@
+//! The parts of a stream, one after another, as its reader gives its bytes.
+
 ghost use Rattle.std.specs.Prelude.{◌≡◌, ◌≢◌, ℕ, Option, ◌+◌, ◌<◌, ◌≤◌, List, [], ◌∷◌, ◌++◌, length, map, Ok, Some, IfOk, IfSome, OnOk, OnErr, IfErr, IsSome, true, false};
 ghost use Rattle.std.specs.Io.KnownBytes.{Consumes, IsAtEnd};
 ghost use Rattle.fz_filling.specs.of_stream.Parts.{StreamPart, Frame, frame_of};

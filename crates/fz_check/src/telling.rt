@@ -1,3 +1,5 @@
+//! The lines of a report, as the parts of a stream come.
+
 ghost use Rattle.std.specs.Prelude.{◌≡◌, ℕ, ◌<◌, ◌≤◌, ◌+◌, List, [], ◌∷◌, ◌++◌, Option, IfOk, IfErr, OnOk, OnErr, IsSome};
 ghost use Rattle.fz_search.specs.of_model.Meaning.{Model as PlainModel};
 ghost use Rattle.fz_filling.specs.of_stream.Parts.{StreamPart};

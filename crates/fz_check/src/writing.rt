@@ -1,3 +1,5 @@
+//! Writes all of some bytes.
+
 ghost use Rattle.std.specs.Prelude.{◌≡◌, ℕ, List, [], ◌++◌, OnOk, OnErr};
 ghost use Rattle.std.specs.Io.KnownBytes.{Appends};
 ghost use Rattle.fz_check.specs.Writing.{WritesFront};

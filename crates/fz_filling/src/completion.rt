@@ -1,3 +1,5 @@
+//! Whether missing values are looked for.
+
 /// Whether values that a solver left out, and that nothing forces, are looked for.
 #[derive(Clone, Copy, PartialEq, Eq)]
 pub enum Completion {

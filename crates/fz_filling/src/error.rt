@@ -1,3 +1,5 @@
+//! Why a block cannot be judged.
+
 use fz_stream::Span;
 use std::alloc::{AllocError, AllocFailed};
 use thiserror::Error;

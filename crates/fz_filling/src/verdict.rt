@@ -1,3 +1,5 @@
+//! The verdict on a block, and what it rests on.
+
 /// What fails in a block. Names and predicates are slices of the model's source.
 #[derive(Clone, Copy, Debug)]
 pub enum Fault<'a> {

@@ -1,4 +1,5 @@
-// The indices of the greatest and of the least element.
+//! The indices of the greatest and of the least element.
+
 ghost use Rattle.std.specs.Prelude.{◌≡◌, ℤ, false, int_le, map, IfSome, IfNone};
 ghost use Rattle.fz_kernel.specs.of_meaning.Relations.{◌=ℤ◌, as_number, index_from, is_index_of_best};
 ghost use Rattle.fz_kernel.specs.Views.{bools, ints};

@@ -1,4 +1,5 @@
-// Channelling: each number is the index of the set that has the number's own index.
+//! Channelling: each number is the index of the set that has the number's own index.
+
 ghost use Rattle.std.specs.Prelude.{◌≡◌};
 ghost use Rattle.fz_kernel.specs.of_meaning.Relations.{are_channelled};
 ghost use Rattle.fz_kernel.specs.Views.{ints, sets};

@@ -1,4 +1,5 @@
-// The elements of an array whose indices are in a set.
+//! The elements of an array whose indices are in a set.
+
 ghost use Rattle.std.specs.Prelude.{◌≡◌, ◌&&◌, IfOk, length, pos};
 ghost use Rattle.std.specs.List.{list_all};
 ghost use Rattle.std.specs.FinSet.{contains, from_list, is_subset};

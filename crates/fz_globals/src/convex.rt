@@ -1,4 +1,5 @@
-// Sets that have no gap.
+//! Sets that have no gap.
+
 ghost use Rattle.std.specs.Prelude.{◌≡◌, IfOk};
 ghost use Rattle.fz_kernel.specs.of_meaning.Relations.{is_convex};
 

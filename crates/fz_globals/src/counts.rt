@@ -1,4 +1,5 @@
-// How many elements have a value or lie in a set, and how many different values there are.
+//! How many elements have a value or lie in a set, and how many different values there are.
+
 ghost use Rattle.std.specs.Prelude.{◌≡◌, length, pos, IfOk};
 ghost use Rattle.std.specs.List.{filter, list_any};
 ghost use Rattle.std.specs.FinSet as set;

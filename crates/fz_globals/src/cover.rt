@@ -1,4 +1,5 @@
-// How often each value of a cover occurs, and whether all elements are values of it.
+//! How often each value of a cover occurs, and whether all elements are values of it.
+
 ghost use Rattle.std.specs.Prelude.{◌≡◌, int_le, IfOk};
 ghost use Rattle.std.specs.Ordering.{int_cmp};
 ghost use Rattle.std.specs.List.{list_all};

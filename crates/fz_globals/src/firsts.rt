@@ -1,4 +1,5 @@
-// The first indices of numbers in a list.
+//! The first indices of numbers in a list.
+
 ghost use Rattle.std.specs.Prelude.{◌≡◌, ◌+◌, ◌<◌, ◌≤◌, ◌+ℤ◌, ◌<ℤ◌, ◌≤ℤ◌, ℕ, ℤ, List, pos, get_or, length, option_map, IfNone, IfOk, IfSome};
 ghost use Rattle.std.specs.Ordering.{int_cmp};
 ghost use Rattle.std.specs.List.Sorted.{IsSorted};

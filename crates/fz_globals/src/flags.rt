@@ -1,4 +1,5 @@
-// Sets of the indices of Booleans.
+//! Sets of the indices of Booleans.
+
 ghost use Rattle.std.specs.Prelude.{◌≡◌};
 ghost use Rattle.std.specs.FinSet as number_sets;
 ghost use Rattle.fz_kernel.specs.of_meaning.Relations.{flags_are, is_flagged};

@@ -1,4 +1,5 @@
-// Indices of elements.
+//! Indices of elements.
+
 ghost use Rattle.std.specs.Prelude.{◌≡◌, ◌+◌, ◌<◌, ◌≤◌, ◌+ℤ◌, ◌-ℤ◌, ℕ, pos, IfNone, IfSome};
 ghost use Rattle.std.specs.Int.{int_min};
 ghost use Rattle.std.specs.FinSet.{is_subset};

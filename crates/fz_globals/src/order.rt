@@ -1,4 +1,5 @@
-// Elements compared with the next ones, and with their sorted list.
+//! Elements compared with the next ones, and with their sorted list.
+
 ghost use Rattle.std.specs.Prelude.{◌≡◌, not, ◌||◌, int_le, int_lt, IfOk};
 ghost use Rattle.fz_kernel.specs.of_meaning.Relations.{◌=ℤ◌, all_neighbours, is_same_list, is_sorted_form};
 ghost use Rattle.fz_kernel.specs.Views.{ints, bools};

@@ -1,4 +1,5 @@
-// Numbers in ascending order, and what binary search finds among them.
+//! Numbers in ascending order, and what binary search finds among them.
+
 ghost use Rattle.std.specs.Prelude.{◌≡◌, length, int_le, int_lt, IfOk};
 ghost use Rattle.std.specs.Ordering.{int_cmp};
 ghost use Rattle.std.specs.List.{filter};

@@ -1,4 +1,5 @@
-// Sets that have no element in common.
+//! Sets that have no element in common.
+
 ghost use Rattle.std.specs.Prelude.{◌≡◌, IfOk};
 ghost use Rattle.std.specs.FinSet.{difference};
 ghost use Rattle.fz_kernel.specs.of_meaning.Relations.{are_disjoint, is_partition};

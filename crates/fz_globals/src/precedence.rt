@@ -1,4 +1,5 @@
-// Which values come before which in a list.
+//! Which values come before which in a list.
+
 ghost use Rattle.std.specs.Prelude.{◌≡◌, List, Some, ℤ, pos, option_map, IfOk};
 ghost use Rattle.std.specs.Ordering.{int_cmp};
 ghost use Rattle.std.specs.List.Sorted.{IsSorted};

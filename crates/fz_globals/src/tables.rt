@@ -1,4 +1,5 @@
-// Rows of tables, which are written one after another.
+//! Rows of tables, which are written one after another.
+
 ghost use Rattle.std.specs.Prelude.{◌≡◌, ◌+◌, ◌*◌, ◌%◌, ◌≤◌, ◌<◌, false, drop, length, nat_eq, take, IfNone, IfSome};
 ghost use Rattle.fz_kernel.specs.of_meaning.Relations.{◌=ℤ◌, ◌=ᴮ◌, is_row_of, is_same_list};
 ghost use Rattle.fz_kernel.specs.Views.{bools, ints, slots_of};

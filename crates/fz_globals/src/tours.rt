@@ -1,5 +1,6 @@
-// Lists of successors: an element is the index of the one that follows it. Where the indices in a
-// list begin with `first`, a position is counted from 0 and is the index less `first`.
+//! Lists of successors: an element is the index of the one that follows it. Where the indices in a
+//! list begin with `first`, a position is counted from 0 and is the index less `first`.
+
 ghost use Rattle.std.specs.Prelude.{◌≡◌, ◌+◌, ◌<◌, ◌≤◌, ◌+ℤ◌, ◌-ℤ◌, ℕ, pos, true, false, [], length, slice_get, IfNone, IfOk, IfSome, Some};
 ghost use Rattle.std.specs.Option.{option_map_or};
 ghost use Rattle.fz_kernel.specs.of_meaning.Relations.{◌=ℤ◌, all_different, element_at, are_inverse, are_places, as_places, end_of_tour, is_circuit, is_one_tour, is_subcircuit, leads_back, lies_between, moved_from, tour};

@@ -1,4 +1,5 @@
-// Whether listed numbers are all different.
+//! Whether listed numbers are all different.
+
 ghost use Rattle.std.specs.Prelude.{◌≡◌, ◌<◌, ◌≤◌, ◌-◌, pos, not, get_or, length};
 ghost use Rattle.std.specs.Ordering.{int_cmp};
 ghost use Rattle.std.specs.List.Sorted.{IsSorted};

@@ -1,4 +1,5 @@
-// Integers: the exact results of the builtins' arithmetic.
+//! Integers: the exact results of the builtins' arithmetic.
+
 ghost use Rattle.std.specs.Prelude.{◌≡◌, pos, ◌+ℤ◌, ◌*ℤ◌, true, false, int_div, int_rem, unsigned_abs, IfSome, IfNone};
 ghost use Rattle.std.specs.Int.{int_min, int_max, int_pow};
 ghost use Rattle.fz_store.specs.of_meaning.Relations.{as_number};

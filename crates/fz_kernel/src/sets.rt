@@ -1,4 +1,5 @@
-// Sets.
+//! Sets.
+
 ghost use Rattle.std.specs.Prelude.{◌≡◌};
 ghost use Rattle.fz_store.specs.of_meaning.Relations.{◌=ˢ◌};
 

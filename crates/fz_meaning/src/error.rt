@@ -1,3 +1,5 @@
+//! Why a tree is no model.
+
 ghost use Rattle.std.specs.Prelude.{◌≡◌};
 
 use fz_tree::Span;

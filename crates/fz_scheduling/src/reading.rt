@@ -1,4 +1,5 @@
-// Reading the numbers of arrays.
+//! Reading the numbers of arrays.
+
 ghost use Rattle.std.specs.Prelude.{◌≡◌, false, pos, length, slice_index_or};
 ghost use Rattle.std.specs.List.{zip};
 ghost use Rattle.fz_kernel.specs.of_meaning.Relations.{◌=ℤ◌, is_natural};

@@ -1,4 +1,5 @@
-// Spans: each begins at the number of one array, and is as long as that of another.
+//! Spans: each begins at the number of one array, and is as long as that of another.
+
 ghost use Rattle.std.specs.Prelude.{◌≡◌, ◌<◌, ◌+◌, drop, length};
 ghost use Rattle.std.specs.List.{list_all, zip};
 ghost use Rattle.fz_kernel.specs.of_meaning.Relations.{all_pairs, are_apart, ends_before, last_naturally, runs_at};

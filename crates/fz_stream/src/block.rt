@@ -1,3 +1,5 @@
+//! A solution block, and how its text is read.
+
 ghost use Rattle.std.specs.Prelude.{◌≡◌, ◌≢◌, ◌+◌, ◌≤◌, List, length, IfOk, IfErr, IfSome, IfNone};
 ghost use Rattle.fz_syntax.specs.declared.Printed.{Printed};
 ghost use Rattle.fz_syntax.specs.Tree.{Printed as PlainPrinted};

@@ -1,3 +1,5 @@
+//! Why a stream is refused.
+
 ghost use Rattle.std.specs.Prelude.{◌≡◌, ◌≤◌, ◌+◌, ◌-◌};
 ghost use Rattle.fz_syntax.specs.Places.{IsSpanWithin, IsPlacedWithin};
 ghost use Rattle.fz_stream.specs.Moving.{moved_span, item_fault};

@@ -1,4 +1,5 @@
-// How printed names are hashed.
+//! How printed names are hashed.
+
 ghost use Rattle.std.specs.Prelude.{◌≡◌, ◌+◌, ◌*◌, ◌%◌, ◌^◌};
 ghost use Rattle.fz_stream.specs.Hashing.{with_first};
 

@@ -1,4 +1,5 @@
-// What a splitter holds: the text of the open block, and the current line.
+//! What a splitter holds: the text of the open block, and the current line.
+
 ghost use Rattle.std.specs.Prelude.{◌≡◌, ◌≢◌, ℕ, ◌+◌, ◌≤◌, ◌<◌, ◌++◌, ◌∷◌, [], List, length, take, Err, Ok, Some, None, IfOk, IfErr, IsSome, OnErr};
 ghost use Rattle.fz_syntax.specs.Limits.{Limits};
 ghost use Rattle.fz_syntax.specs.Places.{IsSpanWithin};

@@ -1,3 +1,5 @@
+//! What a line of a stream is: an item, a marker, a claim or none of them.
+
 ghost use Rattle.std.specs.Prelude.{◌≡◌, ◌⊎◌, reverse, ◌∷◌, length, ◌<◌, ◌≤◌, take, drop};
 ghost use Rattle.fz_syntax.specs.Token.{is_blank};
 ghost use Rattle.fz_stream.specs.Parts.{kind_of, kind_of_words, lines_of, skip_blanks};

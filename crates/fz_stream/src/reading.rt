@@ -1,3 +1,5 @@
+//! Reads a whole stream.
+
 ghost use Rattle.std.specs.Prelude.{◌≡◌, ◌≢◌, List, map, length, vec_len, ◌<◌, ◌↔◌, IfOk, IfErr, Err};
 ghost use Rattle.std.specs.List.{AllByRecursion};
 ghost use Rattle.fz_syntax.specs.Places.{most_bytes};

@@ -1,3 +1,5 @@
+//! Cuts a stream that comes in pieces.
+
 ghost use Rattle.std.specs.Prelude.{◌≡◌, ◌≢◌, ℕ, ◌+◌, ◌≤◌, ◌<◌, List, [], ◌∷◌, ◌++◌, ◌↔◌, length, take, Ok, Err, Some, None, IfOk, IfSome, OnOk, OnErr, IfErr, IsTrue, IsSome, option_map};
 ghost use Rattle.fz_syntax.specs.Places.{standard_limits};
 ghost use Rattle.fz_stream.specs.Broken.{BreaksAfter, CannotGoOn, CannotEnd};

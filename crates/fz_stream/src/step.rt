@@ -1,3 +1,5 @@
+//! What each kind of line does to a stream.
+
 ghost use Rattle.std.specs.Prelude.{◌≡◌};
 ghost use Rattle.fz_stream.specs.Step.{step_of};
 

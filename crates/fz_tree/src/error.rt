@@ -1,3 +1,5 @@
+//! Why a text is refused.
+
 ghost use Rattle.std.specs.Prelude.{◌≡◌};
 
 use crate::span::Span;

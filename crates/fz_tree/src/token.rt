@@ -1,3 +1,5 @@
+//! Tokens.
+
 use crate::span::Span;
 
 /// A mark of the language: `(` `)` `[` `]` `{` `}` `,` `;` `:` `::` `=` `..`.

@@ -1,4 +1,5 @@
-// Whether elements are all different.
+//! Whether elements are all different.
+
 ghost use Rattle.std.specs.Prelude.{◌≡◌, ◌≤◌, drop, length, IfOk};
 ghost use Rattle.fz_store.specs.of_meaning.Relations.{is_among, all_different};
 ghost use Rattle.fz_kernel.specs.Views.{ints};

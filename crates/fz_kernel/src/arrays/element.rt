@@ -1,4 +1,5 @@
-// The element at an index.
+//! The element at an index.
+
 ghost use Rattle.std.specs.Prelude.{◌≡◌, ◌+◌, ◌≤◌, ◌<◌, ℕ, pos, IfSome, IfNone, option_map};
 ghost use Rattle.fz_store.specs.of_meaning.Relations.{element_at};
 ghost use Rattle.fz_kernel.specs.Views.{ints, bools, sets};

@@ -1,4 +1,5 @@
-// The greatest and the least element.
+//! The greatest and the least element.
+
 ghost use Rattle.std.specs.Prelude.{◌≡◌, ℤ, [], ◌&&◌, int_le, IfSome, IfNone};
 ghost use Rattle.std.specs.List.{list_all};
 ghost use Rattle.fz_store.specs.of_meaning.Relations.{◌=ℤ◌, is_among};

@@ -1,4 +1,5 @@
-// Sums over arrays.
+//! Sums over arrays.
+
 ghost use Rattle.std.specs.Prelude.{◌≡◌, true, false, IfSome, IfNone};
 ghost use Rattle.fz_store.specs.of_meaning.Relations.{total, products, where_true};
 ghost use Rattle.fz_store.specs.of_meaning.States.{leaves_128};

@@ -1,4 +1,5 @@
-// Booleans in arrays.
+//! Booleans in arrays.
+
 ghost use Rattle.std.specs.Prelude.{◌≡◌, not, length};
 ghost use Rattle.std.specs.List.{list_all, list_any, filter};
 ghost use Rattle.fz_store.specs.of_meaning.Relations.{is_odd};
