@@ -193,8 +193,10 @@ def waiting(program: str) -> Tally:
     tally = Tally()
     one = b"block 1: satisfied\naccepted: blocks 1\n"
     two = b"block 1: satisfied\nblock 2: satisfied\naccepted: blocks 2\n"
+    three = two.replace(b"accepted: blocks 2", b"block 3: satisfied\naccepted: blocks 3")
     for what, front, report, line in [
-        ("a second block", content(FIRST_STREAM), two, b"2 blocks, all satisfied so far"),
+        ("a second block", content(FIRST_STREAM), two, b"1 block, satisfied"),
+        ("a third block", 2 * content(FIRST_STREAM), three, b"2 blocks, all satisfied so far"),
         ("a long block", b"% no value\n" * 300_000, one, b"no block so far, 3 MB read"),
     ]:
         told, shown = told_while_waiting(program, front)

@@ -89,16 +89,18 @@ impl<'r> Progress<'r> {
     }
 
     fn text(&self) -> Result<String, AllocError> {
-        let (blocks, megabytes) = (self.blocks, self.bytes / MEGABYTE);
-        let mut text = match self.other {
-            Some(other) => {
-                format!(in self.rt.alloc(); "{blocks} blocks, and block {other} isn't satisfied")
+        let (alloc, blocks, megabytes) = (self.rt.alloc(), self.blocks, self.bytes / MEGABYTE);
+        let mut text = match (blocks, self.other) {
+            (0, _) => format!(in alloc; "no block so far"),
+            (1, None) => format!(in alloc; "1 block, satisfied"),
+            (1, Some(_)) => format!(in alloc; "1 block, and it isn't satisfied"),
+            (_, None) => format!(in alloc; "{blocks} blocks, all satisfied so far"),
+            (_, Some(other)) => {
+                format!(in alloc; "{blocks} blocks, and block {other} isn't satisfied")
             }
-            None if blocks == 0 => format!(in self.rt.alloc(); "no block so far"),
-            None => format!(in self.rt.alloc(); "{blocks} blocks, all satisfied so far"),
         }?;
         if megabytes > 0 {
-            text.push_str(&format!(in self.rt.alloc(); ", {megabytes} MB read")?)?;
+            text.push_str(&format!(in alloc; ", {megabytes} MB read")?)?;
         }
         Ok(text)
     }
