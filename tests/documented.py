@@ -26,7 +26,8 @@ SOURCES = ("crates", "tests", "tools", "python", "examples", "bench", "minizinc"
            "plain", "Makefile", "crates.txt", ".ci")
 BUILT = {"out", "build", "target", "__pycache__"}
 # Words of the toolchain and of the system, which the tree needn't have.
-OUTSIDE = set("antt apt cc debootstrap git rlib sshd subst strace ttt trace tidy fz_x of_x".split())
+OUTSIDE = set("""antt apt cc debootstrap git rlib sshd subst strace ttt trace tidy plant
+fz_x of_x""".split())
 # What a reader puts a word of his own in place of, and the documents themselves.
 PLACEHOLDER = re.compile(r"[A-Z]+(_imp|_reif)?")
 
