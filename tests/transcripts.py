@@ -17,7 +17,7 @@ from typing import Dict, Iterator, NamedTuple
 
 ROOT = os.path.dirname(os.path.dirname(os.path.abspath(__file__)))
 PAGES = {"README.md": "examples/plan", "docs/GUIDE.md": "examples/jobs",
-         "docs/WORKED.md": "examples/worked"}
+         "docs/WORKED.md": "examples"}
 BLOCK = re.compile(r"^    \$ (.*)\n((?:    (?!\$ ).*\n|\n(?=    (?!\$ )))*)", re.M)
 
 
