@@ -19,6 +19,7 @@ use crate::refutation::note_refutation;
 use crate::sentence::{point_sentence, sentence};
 use crate::sums::too_large_at;
 use crate::variables::variables_of;
+use fz_bounds::{Bounds, cannot_hold};
 use fz_filling::{Completion, Fault, Giver, Reason, Verdict};
 use fz_index::Narrowing;
 use fz_places::NameTable;
@@ -26,6 +27,9 @@ use fz_reasons::{Told, reason_at};
 use fz_store::{Goal, Model, Partial, Point, Term};
 use fz_tree::{Ast, Basic, Goal as GoalItem, Span};
 use std::alloc::{AllocError, Global};
+
+/// What is said of a point that no block can satisfy.
+const NEVER: &str = "no values of the declared domains satisfy it";
 
 /// A case with the model's text, tree and table of names, and the block's filling with its steps.
 #[derive(Clone, Copy)]
@@ -237,6 +241,7 @@ fn note_point(reading: &Reading, message: &mut Message, point: usize) -> Result<
     let (alloc, model) = (reading.alloc, reading.model);
     note_reason(reading, message, point)?;
     note_chain(reading, message, point, &reading.past(&[])?)?;
+    note_fault_of_model(reading, message, point)?;
     if let Some(domain) = declared_domain(model, point) {
         note_domain(reading, message, &model.point(point), domain)?;
     }
@@ -244,6 +249,22 @@ fn note_point(reading: &Reading, message: &mut Message, point: usize) -> Result<
         let mut told = Phrase::of_words(alloc, "the sum leaves 128 bits at element ")?;
         told.number(place)?;
         message.note(told)?;
+    }
+    Ok(())
+}
+
+/// Adds that the model is wrong, and not the block, where the declared domains alone refute a point.
+fn note_fault_of_model(
+    reading: &Reading,
+    message: &mut Message,
+    point: usize,
+) -> Result<(), AllocError>
+    requires in_range { point < length (points reading.now.model.now) }
+{
+    let (alloc, model) = (reading.alloc, reading.model);
+    let bounds = Bounds::new(alloc, model, &Partial::new(alloc, model)?)?;
+    if cannot_hold(alloc, model, point, &bounds)? {
+        message.note(Phrase::of_words(alloc, NEVER)?)?;
     }
     Ok(())
 }

@@ -1,29 +1,34 @@
 //! A sum of products in words, first with the names of variables and then with their values.
 
+use crate::reason::{Relation, Sides};
 use crate::teller::{Teller, say};
 use crate::told::Sayable;
-use fz_kernel::Elements;
+use fz_store::Builtin;
 
 /// The most products that are listed.
 const MOST_LISTED: usize = 8;
 
 /// The products of a sum, with a sign of equality behind them: of more than so many the values of
-/// the greatest ones in their order, and how many are left out. What one number is, isn't told.
+/// the greatest ones alone. What one number is, isn't told.
 pub(crate) fn say_sum(teller: &mut Teller<'_, '_>) {
-    let (factors, terms) = (teller.view.elements(0), teller.view.elements(1));
-    let count = factors.len().min(terms.len());
-    if count <= MOST_LISTED && has_variable(teller, count) {
-        say_products(teller, true, 0);
+    let count = count_of_products(teller);
+    if count > MOST_LISTED {
+        return say_greatest(teller, count);
+    }
+    if has_variable(teller, count) {
+        say_products(teller, true, count);
         teller.say(" = ");
     }
-    if count == 0 || count == 1 && factors.int(0).unsigned_abs() == 1 {
+    if count == 0 || count == 1 && teller.view.elements(0).int(0).unsigned_abs() == 1 {
         return;
     }
-    let listed = say_products(teller, false, least_listed(&factors, &terms));
-    if count > listed {
-        say!(teller; " + ", count.saturating_sub(listed), " more");
-    }
+    say_products(teller, false, count);
     teller.say(" = ");
+}
+
+fn count_of_products(teller: &Teller<'_, '_>) -> usize {
+    let (factors, terms) = (teller.view.elements(0), teller.view.elements(1));
+    factors.len().min(terms.len())
 }
 
 fn has_variable(teller: &Teller<'_, '_>, count: usize) -> bool {
@@ -35,25 +40,139 @@ fn has_variable(teller: &Teller<'_, '_>, count: usize) -> bool {
     false
 }
 
-/// The first products of at least this size, and how many they are.
-fn say_products(teller: &mut Teller<'_, '_>, by_name: bool, least: u128) -> usize {
-    let (factors, terms) = (teller.view.elements(0), teller.view.elements(1));
-    let mut listed: usize = 0;
-    for place in 0..factors.len().min(terms.len()) {
-        let (factor, value) = (factors.int(place), terms.int(place));
-        if listed < MOST_LISTED && size_of(factor, value) >= least {
-            say_factor(teller, listed == 0, factor);
-            match teller.variable(1, place) {
-                Some(variable) if by_name => teller.name(variable),
-                variable => {
-                    teller.meet_at(1, place);
-                    say_term(teller, listed == 0 && factor == 1, value, variable);
-                }
-            }
-            listed += 1;
+/// The products, by name or by value.
+fn say_products(teller: &mut Teller<'_, '_>, by_name: bool, count: usize) {
+    for place in 0..count {
+        say_product(teller, by_name, place == 0, place);
+    }
+}
+
+fn say_product(teller: &mut Teller<'_, '_>, by_name: bool, is_first: bool, place: usize) {
+    let factor = teller.view.elements(0).int(place);
+    let value = teller.view.elements(1).int(place);
+    match teller.variable(1, place) {
+        Some(variable) if by_name => {
+            say_factor(teller, is_first, factor);
+            teller.name(variable);
+        }
+        variable => {
+            // The first one is no `-0`.
+            let factor = if is_first && value == 0 {
+                factor.max(1)
+            } else {
+                factor
+            };
+            say_factor(teller, is_first, factor);
+            teller.meet_at(1, place);
+            say_term(teller, is_first && factor == 1, value, variable);
         }
     }
-    listed
+}
+
+/// The values of the greatest products, the greatest first, how many others there are, and how many
+/// are 0.
+fn say_greatest(teller: &mut Teller<'_, '_>, count: usize) {
+    let (places, others) = greatest_of(teller, count);
+    let listed = others.min(MOST_LISTED);
+    for (rank, place) in places.iter().take(listed).enumerate() {
+        say_product(teller, false, rank == 0, *place);
+    }
+    if others > listed {
+        say!(teller; " + ", others.saturating_sub(listed), " more");
+    }
+    if count > others {
+        teller.say(if others == 0 { "" } else { " + " });
+        let zeros = count.saturating_sub(others);
+        say!(teller; zeros, if zeros == 1 { " zero" } else { " zeros" });
+    }
+    teller.say(" = ");
+}
+
+/// The places of the greatest products, the greatest first, and how many aren't 0.
+fn greatest_of(teller: &Teller<'_, '_>, count: usize) -> ([usize; MOST_LISTED], usize) {
+    let (factors, terms) = (teller.view.elements(0), teller.view.elements(1));
+    let (mut places, mut sizes) = ([0; MOST_LISTED], [0; MOST_LISTED]);
+    let mut others: usize = 0;
+    for place in 0..count {
+        let mut size = size_of(factors.int(place), terms.int(place));
+        let mut place = place;
+        if size > 0 {
+            others = others.saturating_add(1);
+        }
+        for rank in 0..MOST_LISTED {
+            if size > sizes[rank] {
+                std::mem::swap(&mut sizes[rank], &mut size);
+                std::mem::swap(&mut places[rank], &mut place);
+            }
+        }
+    }
+    (places, others)
+}
+
+/// Of a sum of many numbers that are 0 or 1, all with the factor 1 or all with -1: how many are 1,
+/// with their names, and how many may be or are needed. Whether it is such a sum.
+pub(crate) fn say_ones(teller: &mut Teller<'_, '_>, sides: Sides) -> bool {
+    let Some((factor, ones)) = ones_of(teller) else {
+        return false;
+    };
+    let count = count_of_products(teller);
+    say_how_many(teller, ones, count);
+    match (sides.relation, factor, sides.right) {
+        (Relation::AtMost, 1, most) => say!(teller; ", at most ", most, " may be"),
+        (Relation::AtMost, _, -1) => teller.say(", 1 is needed"),
+        (Relation::AtMost, _, least) => say!(teller; ", ", least.saturating_neg(), " are needed"),
+        (_, 1, wanted) => say!(teller; ", not ", wanted),
+        (_, _, wanted) => say!(teller; ", not ", wanted.saturating_neg()),
+    }
+    true
+}
+
+/// The factor of a sum of many numbers that are 0 or 1, where it is 1 or -1 for all, and how many
+/// are 1.
+fn ones_of(teller: &Teller<'_, '_>) -> Option<(i64, usize)> {
+    let (factors, terms) = (teller.view.elements(0), teller.view.elements(1));
+    let count = count_of_products(teller);
+    let factor = factors.int(0);
+    if teller.builtin != Builtin::IntLinLe && teller.builtin != Builtin::IntLinEq
+        || count <= MOST_LISTED
+        || factor.unsigned_abs() != 1
+    {
+        return None;
+    }
+    let mut ones: usize = 0;
+    for place in 0..count {
+        match terms.int(place) {
+            0 | 1 if factors.int(place) != factor => return None,
+            0 => {}
+            1 => ones = ones.saturating_add(1),
+            _ => return None,
+        }
+    }
+    Some((factor, ones))
+}
+
+/// How many of so many numbers are 1, with the names of the first of these.
+fn say_how_many(teller: &mut Teller<'_, '_>, ones: usize, count: usize) {
+    match ones {
+        0 => return say!(teller; "none of ", count, " is 1"),
+        1 => say!(teller; "1 of ", count, " is 1"),
+        _ => say!(teller; ones, " of ", count, " are 1"),
+    }
+    let mut named: usize = 0;
+    for place in 0..count {
+        if named < MOST_LISTED
+            && teller.view.elements(1).int(place) == 1
+            && let Some(variable) = teller.variable(1, place)
+        {
+            teller.say(if named == 0 { " (" } else { ", " });
+            teller.name(variable);
+            named += 1;
+        }
+    }
+    if named > 0 && ones > named {
+        say!(teller; " and ", ones.saturating_sub(named), " more");
+    }
+    teller.say(if named == 0 { "" } else { ")" });
 }
 
 /// The sign before a product, and its factor where it isn't 1.
@@ -87,20 +206,4 @@ pub(crate) fn say_term(
 
 fn size_of(factor: i64, value: i64) -> u128 {
     u128::from(factor.unsigned_abs()) * u128::from(value.unsigned_abs())
-}
-
-/// The size from which on products are listed: of the greatest ones that of the last.
-fn least_listed(factors: &Elements, terms: &Elements) -> u128 {
-    let mut greatest = [0; MOST_LISTED];
-    for place in 0..factors.len().min(terms.len()) {
-        let mut size = size_of(factors.int(place), terms.int(place));
-        for rank in 0..MOST_LISTED {
-            if size > greatest[rank] {
-                let less = greatest[rank];
-                greatest[rank] = size;
-                size = less;
-            }
-        }
-    }
-    greatest[MOST_LISTED - 1]
 }

@@ -7,7 +7,7 @@ use crate::element_words::say_of_elements;
 use crate::reason::{Operands, Reason, Relation, Sides, Why};
 use crate::rows::{holds, reason_of, why};
 use crate::sides::{comparison, sides_of};
-use crate::sum_words::say_sum;
+use crate::sum_words::{say_ones, say_sum};
 use crate::teller::{Teller, say};
 use crate::term_words::{RowResult, result_of, say_front, say_result};
 use crate::told::{Piece, Sayable, Told};
@@ -241,6 +241,7 @@ fn say_right(teller: &mut Teller<'_, '_>, sides: Sides) {
 /// A reason of a row.
 fn say_reason(teller: &mut Teller<'_, '_>, reason: &Reason) {
     match *reason {
+        Reason::Sides(sides) if say_ones(teller, sides) => {}
         Reason::Sides(sides) => {
             say_left(teller, sides);
             teller.say(", not ");
