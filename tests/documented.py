@@ -98,7 +98,7 @@ MODELS, STREAMS = "tests/corpus/*/model.fzn", "tests/corpus/*/*stream.txt"
 TABLE = r"\| `%s` \|.*?\| .*?"
 COUNTS = (
     Count("README.md", r"the (\d+) builtins", lambda: len(names())),
-    Count("README.md", r"the (\d+)\s+reified and half-reified forms", forms),
+    Count("README.md", r"the (\d+)\s+reified and\s+half-reified forms", forms),
     Count("docs/SOLVER_AUTHORS.md", r"of (\d+) names taken", lambda: len(names()) + forms()),
     Count("docs/ARCHITECTURE.md", r"Of the (\d+) crates", lambda: lines("crates.txt")),
     Count("docs/ARCHITECTURE.md", r"crates (\d+) have edits", lambda: files("crates/*/must-fail")),
