@@ -153,7 +153,7 @@ impl From<AllocError> for Refused {
 /// # Errors
 ///
 /// - `Help` and `Version`: the words ask for these.
-/// - `Wrong`: the words are no command, with what is wrong and, if that can be seen, what was meant.
+/// - `Wrong`: the words are wrong; it says how and, if that can be seen, what was meant.
 /// - `Memory`: memory ran out.
 #[inline(never)]
 pub fn read_words<'a>(alloc: Global, words: &'a [String]) -> Result<Request<'a>, Refused> {
