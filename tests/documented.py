@@ -13,7 +13,7 @@ import os
 import pathlib
 import re
 import sys
-from typing import Callable, Iterator, List, NamedTuple, Set, Tuple
+from typing import Callable, Iterator, List, NamedTuple, Set, Tuple, Union
 
 ROOT = pathlib.Path(os.path.abspath(__file__)).parent.parent
 PAGES = ("docs/PROOFS.md", "docs/ARCHITECTURE.md", "docs/THEOREM.md", "docs/WORKED.md",
@@ -31,18 +31,13 @@ OUTSIDE = set("""antt apt cc debootstrap git rlib sshd subst strace ttt trace ti
 fz_x of_x""".split())
 # What a reader puts a word of his own in place of, and the documents themselves.
 PLACEHOLDER = re.compile(r"[A-Z]+(_imp|_reif)?")
-
-
 SPELLED = """zero one two three four five six seven eight nine ten eleven twelve thirteen fourteen
 fifteen sixteen seventeen eighteen nineteen twenty""".split()
 WORDS = "crates/fz_command/src/words.rt"
 OPTION_PAGES = (("crates/fz_command/src/pages.rt", "--"), ("docs/fzcheck.1", "Fl -"))
-# A limit: the file of the number, and what is before it there.
-LIMITS = (
-    ("crates/fz_tree/src/limits.rt", r"bytes: "), ("crates/fz_tree/src/limits.rt", r"elements: "),
-    ("crates/fz_check/src/judge.rt", r"STEPS: usize = "), (WORDS, r"MOST_KNOWN: usize = "),
-    ("crates/fzcheck/src/teller.rt", r"MOST_POINTS: usize = "),
-)
+# A limit: the file of the number in a crate, and what is before it there.
+LIMITS = (("limits.rt", "bytes: "), ("limits.rt", "elements: "), ("judge.rt", "STEPS: usize = "),
+          ("words.rt", "MOST_KNOWN: usize = "), ("teller.rt", "MOST_POINTS: usize = "))
 
 
 class Count(NamedTuple):
@@ -52,7 +47,7 @@ class Count(NamedTuple):
     counted: Callable[[], int]
 
 
-def text(path: str) -> str:
+def text(path: Union[str, pathlib.Path]) -> str:
     return (ROOT / path).read_text(encoding="utf-8")
 
 
@@ -105,19 +100,11 @@ COUNTS = (
     Count("docs/ARCHITECTURE.md", r"(\w+) crates have some", lambda: files("crates/*/must-fail")),
     Count("docs/ARCHITECTURE.md", r"have edits, (\d+) in all", edits),
     Count("docs/LIMITATIONS.md", r"The gate tries (\d+) wrong bodies", edits),
-    Count("docs/ARCHITECTURE.md", r"`tests/broken` has ([\d,]+) texts", lambda:
-          lines("tests/broken/cases.txt") + lines("tests/broken/by_hand.txt")),
-    Count("docs/ARCHITECTURE.md", r"For\s+(\d+) of them `make.py`", lambda:
-          lines("tests/broken/cases.txt")),
     Count("docs/TESTING.md", TABLE % "tests/broken" + r"([\d,]+) texts", lambda:
           lines("tests/broken/cases.txt") + lines("tests/broken/by_hand.txt")),
-    Count("docs/TESTING.md", r"reader of the grammar, (\d+)\s+by\s+hand", lambda:
+    Count("docs/TESTING.md", r"recogniser over the\s+grammar,\s+and (\d+) by hand", lambda:
           lines("tests/broken/by_hand.txt")),
-    Count("docs/ARCHITECTURE.md", r"`tests/corpus` has (\d+) models", lambda: files(MODELS)),
-    Count("docs/ARCHITECTURE.md", r"models and (\d+) streams of a solver", lambda: files(STREAMS)),
-    Count("docs/ARCHITECTURE.md", r"(\d+) of them with one fault\s+planted", lambda:
-          files("tests/corpus/*/bad*stream.txt")),
-    Count("docs/TESTING.md", r"(\d+) have a planted fault", lambda:
+    Count("docs/TESTING.md", r"Of its\s+streams\s+(\d+)\s+have a planted fault", lambda:
           files("tests/corpus/*/bad*stream.txt")),
     Count("docs/TESTING.md", TABLE % "tests/corpus" + r"(\d+) models", lambda: files(MODELS)),
     Count("docs/TESTING.md", TABLE % "tests/corpus" + r"models, (\d+)", lambda: files(STREAMS)),
@@ -128,10 +115,8 @@ COUNTS = (
           files("examples/*/*stream.txt")),
     Count("docs/TESTING.md", TABLE % "tests/corpus/left_out.py" + r"(\d+) streams", lambda:
           lines("tests/corpus/left_out/answers.txt")),
-    Count("docs/ARCHITECTURE.md", r"MiniZinc itself on (\d+) models", plans),
     Count("docs/TESTING.md", r"plans of (\d+) models", plans),
     Count("docs/MINIZINC.md", r"`tests/plans.py`\s+on (\d+)\s+models", plans),
-    Count("docs/ARCHITECTURE.md", r"make small (\w+) faults", planted),
     Count("docs/TESTING.md", r"(\w+) faults of a solver, found", planted),
     Count("docs/TESTING.md", r"each of (\w+) faults", planted),
 )
@@ -190,8 +175,9 @@ def wanted_on_pages() -> Iterator[Tuple[str, str]]:
     for path, sign in OPTION_PAGES:
         for option in re.findall(r'\("([a-z-]+)", Kind::(?!File \{)', text(WORDS)):
             yield path, sign + option
-        for source, before in LIMITS:
-            for number in re.findall(before + r"([\d_]+)", text(source)):
+        for name, before in LIMITS:
+            sources = "".join(map(text, ROOT.glob(f"crates/*/src/{name}")))
+            for number in re.findall(before + r"([\d_]+)", sources):
                 yield path, f"{int(number.replace('_', '')):,}"
 
 
