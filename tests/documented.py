@@ -7,7 +7,7 @@ Each name in back quotes of PAGES has to stand somewhere outside the documents, 
 COUNTS describes has to be what is counted. With --mend the numbers are written into the documents.
 Each function that docs/WORKED.md names has to be in the file beside it, and each definition that it
 quotes in the file named before it. The help page and the manual page have to have each option, and
-each limit of LIMITS.
+each limit of LIMITS. Each link of a document leads to a file, and to a heading of it.
 """
 import os
 import pathlib
@@ -21,6 +21,8 @@ PAGES = ("docs/PROOFS.md", "docs/ARCHITECTURE.md", "docs/THEOREM.md", "docs/WORK
          "docs/LIMITATIONS.md", "docs/PERFORMANCE.md", "CONTRIBUTING.md")
 QUOTED = re.compile(r"`([^`\n]+)`")
 WORD = re.compile(r"[^\W\d]\w*")
+LINK = re.compile(r"\]\(([\w./-]*)(?:#([\w-]*))?\)")
+TITLED = re.compile(r"`([^`]+\.md)`,\s+\"([^\"]+)\"")
 STEP = re.compile(r"^\| .* \| `(\w+/src/[\w/]+\.rt)` \| (.*) \|$", re.M)
 DEFINITION = re.compile(r"`(crates/[\w/]+\.antt)`(?:(?!\n\n)[^$])*:\n\n((?:    .*\n)+)")
 SOURCES = ("crates", "tests", "tools", "python", "examples", "bench", "minizinc", "completions",
@@ -197,9 +199,34 @@ def wrong_steps(page: str) -> Iterator[str]:
             yield f"{page}: {path} hasn't the definition that is quoted"
 
 
+def headings(page: str) -> Set[str]:
+    return set(re.findall(r"^#+ (.*)$", text(page), re.M))
+
+
+def anchor(heading: str) -> str:
+    return re.sub(r"[^\w -]", "", heading.lower()).replace(" ", "-")
+
+
+def wrong_links() -> Iterator[str]:
+    """Links, and sections that are named by their titles."""
+    for place in sorted({*ROOT.glob("*.md"), *ROOT.glob("docs/*.md"), *ROOT.glob("examples/*.md")}):
+        page, folder = str(place.relative_to(ROOT)), place.parent.relative_to(ROOT)
+        for path, part in LINK.findall(text(page)):
+            target = os.path.normpath(folder / path) if path else page
+            if not (ROOT / target).exists():
+                yield f"{page}: there is no {target}"
+            elif part and part not in map(anchor, headings(target)):
+                yield f"{page}: {target} has no heading #{part}"
+        for path, title in TITLED.findall(text(page)):
+            found = [name for name in (path, f"docs/{path}") if (ROOT / name).exists()]
+            if not found or " ".join(title.split()) not in headings(found[0]):
+                yield f"{page}: {path} has no section {title!r}"
+
+
 def main(words: List[str]) -> int:
     known = words_of_tree()
-    faults = [*wrong_counts("--mend" in words), *wrong_steps("docs/WORKED.md"), *wrong_pages()]
+    faults = [*wrong_counts("--mend" in words), *wrong_steps("docs/WORKED.md"), *wrong_pages(),
+              *wrong_links()]
     faults += [fault for page in PAGES for fault in unknown_names(page, known)]
     for fault in faults:
         print(f"failed: {fault}")
