@@ -6,6 +6,7 @@ pub mod Between
 pub mod Truths
 pub mod Ranges
 pub mod Lists
+pub mod Lexical
 pub mod Added
 pub mod Indexed
 pub mod Chosen

@@ -10,6 +10,7 @@
 mod bins;
 mod bounded;
 mod bounds;
+mod boxes;
 mod builtins;
 mod cardinality;
 mod declarations;
@@ -18,6 +19,8 @@ mod domains;
 mod elements;
 mod enclosing;
 mod ends;
+mod knapsacks;
+mod lexical;
 mod members;
 mod opened;
 mod order;
@@ -27,6 +30,7 @@ mod range;
 mod refuting;
 mod replacing;
 mod rows;
+mod tables;
 mod tasks;
 mod tightening;
 
