@@ -7,6 +7,8 @@ pub mod Truths
 pub mod Ranges
 pub mod Lists
 pub mod Lexical
+pub mod Picked
+pub mod Tours
 pub mod Added
 pub mod Indexed
 pub mod Chosen

@@ -70,7 +70,6 @@ pub(crate) fn foretold(builtin: Builtin, at: &BoundedConstraint<'_, '_>) -> Outl
         Builtin::FznAtLeastInt => at.number(0).at_most(at.count_of(1, at.number(2))),
         Builtin::FznAtMostInt => at.count_of(1, at.number(2)).at_most(at.number(0)),
         Builtin::FznExactlyInt => at.number(0).equal(at.count_of(1, at.number(2))),
-        Builtin::FznAllDifferentInt => at.all_different(),
         Builtin::FznAlldifferentExcept0 => at.different_but_zeros(),
         Builtin::FznBinPacking => at.loads_are_within(),
         Builtin::GecodeBinPackingLoad => at.are_in_bins().and(at.loads_are()),

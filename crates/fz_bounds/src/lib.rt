@@ -33,6 +33,7 @@ mod rows;
 mod tables;
 mod tasks;
 mod tightening;
+mod tours;
 
 pub use bounds::Bounds;
 pub use ends::{KindEnds, number_as};
