@@ -9,6 +9,7 @@ pub mod Lists
 pub mod Lexical
 pub mod Picked
 pub mod Tours
+pub mod Inverses
 pub mod Added
 pub mod Indexed
 pub mod Chosen

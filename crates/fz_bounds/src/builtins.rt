@@ -106,6 +106,7 @@ pub(crate) fn foretold(builtin: Builtin, at: &BoundedConstraint<'_, '_>) -> Outl
         Builtin::FznLexLessBool => at.comes_before(true, 0, 1),
         Builtin::FznLexLesseqBool => at.comes_before(true, 1, 0).negated(),
         Builtin::FznTableInt => at.is_row_of(),
+        Builtin::InverseOffsets => at.are_inverse(),
         _ => Outlook::Open,
     }
 }

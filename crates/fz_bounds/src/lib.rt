@@ -19,6 +19,7 @@ mod domains;
 mod elements;
 mod enclosing;
 mod ends;
+mod inverses;
 mod knapsacks;
 mod lexical;
 mod members;

@@ -3,7 +3,7 @@
 
 ghost use Rattle.std.specs.Prelude.{◌≡◌, ◌<◌, ◌+◌, ℤ, pos, IfOk, IfSome, IsTrue, Some, false, length, slice_get};
 ghost use Rattle.fz_model.specs.Meaning.{Partial as Values};
-ghost use Rattle.fz_model.specs.Relations.{are_places, as_places, end_of_tour, is_circuit, is_subcircuit};
+ghost use Rattle.fz_model.specs.Relations.{are_places, as_places, end_of_tour, is_circuit, is_subcircuit, lies_between};
 ghost use Rattle.fz_model.specs.of_builtins.of_kernel.Given.{int_at, ints_at, slots_at};
 ghost use Rattle.fz_bounds.specs.Decided.{Decides, LiesIn};
 ghost use Rattle.fz_bounds.specs.Within.{NumberLies, NumbersLie, given};
@@ -15,16 +15,40 @@ use fz_globals::place_from;
 use std::alloc::{AllocError, Global};
 
 impl<'s, 'a> BoundedConstraint<'s, 'a> {
-    /// The position, counted from 1, that follows the one at a place.
-    fn successor(&self, place: usize) -> Range
-        requires in_range { place < length (slots_at (given self.now) 1) }
-        ensures { (K : Values) → NumberLies self.now 0 K → NumbersLie self.now 1 K → (n : ℤ)
-            → slice_get (as_places (int_at K (given self.now) 0) (ints_at K (given self.now) 1))
-            place ≡ Some n → LiesIn result n }
+    /// The position, counted from 1, that an array names at a place; its indices begin with an
+    /// argument.
+    pub(crate) fn successor(&self, first: usize, array: usize, place: usize) -> Range
+        requires in_range { place < length (slots_at (given self.now) array) }
+        ensures { (K : Values) → NumberLies self.now first K → NumbersLie self.now array K
+            → (n : ℤ) → slice_get (as_places (int_at K (given self.now) first)
+            (ints_at K (given self.now) array)) place ≡ Some n → LiesIn result n }
     {
-        self.number_at(1, place)
-            .minus(self.number(0))
+        self.number_at(array, place)
+            .minus(self.number(first))
             .plus(Range::of(1))
+    }
+
+    /// Whether it can be no position of another array.
+    pub(crate) fn names_none(
+        &self,
+        first: usize,
+        array: usize,
+        place: usize,
+        other: usize,
+    ) -> bool
+        requires in_range { place < length (slots_at (given self.now) array) }
+        ensures { IsTrue result → (K : Values) → NumberLies self.now first K
+            → NumbersLie self.now array K → (n : ℤ) → slice_get
+            (as_places (int_at K (given self.now) first) (ints_at K (given self.now) array)) place
+            ≡ Some n → lies_between (pos 1) (pos (length (ints_at K (given self.now) other))) n
+            ≡ false }
+    {
+        let named = self.successor(first, array, place);
+        let last = Range::size(self.count(other));
+        Range::of(1)
+            .at_most(named)
+            .and(named.at_most(last))
+            .is_never()
     }
 
     /// Whether a successor can be none of the positions.
@@ -33,31 +57,31 @@ impl<'s, 'a> BoundedConstraint<'s, 'a> {
             → are_places (length (ints_at K (given self.now) 1))
             (as_places (int_at K (given self.now) 0) (ints_at K (given self.now) 1)) ≡ false }
     {
-        let last = Range::size(self.count(1));
         for place in 0..self.count(1) {
-            let next = self.successor(place);
-            if Range::of(1)
-                .at_most(next)
-                .and(next.at_most(last))
-                .is_never()
-            {
+            if self.names_none(0, 1, place, 1) {
                 return true;
             }
         }
         false
     }
 
-    /// The place of the successor, where it can be only one.
-    fn next_place(&self, place: usize) -> Option<usize>
-        requires in_range { place < length (slots_at (given self.now) 1) }
-        ensures inside { IfSome result (λ q. q < length (slots_at (given self.now) 1)) }
-        ensures next { IfSome result (λ q. (K : Values) → NumberLies self.now 0 K
-            → NumbersLie self.now 1 K → slice_get (as_places (int_at K (given self.now) 0)
-            (ints_at K (given self.now) 1)) place ≡ Some (pos (q + 1))) }
+    /// The place that an array names at a place, where it can be only one, of so many.
+    pub(crate) fn place_at(
+        &self,
+        first: usize,
+        array: usize,
+        place: usize,
+        count: usize,
+    ) -> Option<usize>
+        requires in_range { place < length (slots_at (given self.now) array) }
+        ensures inside { IfSome result (λ q. q < count) }
+        ensures next { IfSome result (λ q. (K : Values) → NumberLies self.now first K
+            → NumbersLie self.now array K → slice_get (as_places (int_at K (given self.now) first)
+            (ints_at K (given self.now) array)) place ≡ Some (pos (q + 1))) }
     {
-        let first = self.only(0)?;
-        let number = self.only_at(1, place)?;
-        place_from(number, first, self.count(1))
+        let least = self.only(first)?;
+        let number = self.only_at(array, place)?;
+        place_from(number, least, count)
     }
 
     /// How many steps lead from a place back to it for the first time, where they are fixed.
@@ -70,7 +94,7 @@ impl<'s, 'a> BoundedConstraint<'s, 'a> {
     {
         let mut place = start;
         for step in 0..self.count(1) {
-            place = self.next_place(place)?;
+            place = self.place_at(0, 1, place, self.count(1))?;
             if place == start {
                 return Some(step + 1);
             }
@@ -94,7 +118,7 @@ impl<'s, 'a> BoundedConstraint<'s, 'a> {
                     before if before == walk => return Ok(Some(place)),
                     _ => break,
                 }
-                let Some(next) = self.next_place(place) else {
+                let Some(next) = self.place_at(0, 1, place, count) else {
                     break;
                 };
                 place = next;

@@ -518,3 +518,8 @@ returns-in-FznLexLesseqBool c = at_row c.args.at.now c.args.builtin builtin.FznL
     let bs = bools_at K (given c.args.at.now) 0 in
     let cs = bools_at K (given c.args.at.now) 1 in
     subst (λ b. Decides c.negated-in-FznLexLesseqBool.result (not b)) (sym (truths_come cs bs)) (c.negated-in-FznLexLesseqBool.ensures (comes (map as_number cs) (map as_number bs)) (c.comes_before-in-FznLexLesseqBool.ensures K (record { low = h.low.1.0; high = h.high.1.0 }) (record { low = h.low.0; high = h.high.0 }))))
+
+pub returns-in-InverseOffsets : goal.returns-in-InverseOffsets
+unfolding row_at
+returns-in-InverseOffsets c = at_row c.args.at.now c.args.builtin builtin.InverseOffsets c.are_inverse.result c.in-InverseOffsets.is (λ K h.
+    c.are_inverse.ensures K (record { low = h.low.0; high = h.high.0 }) (record { low = h.low.1.0; high = h.high.1.0 }) (record { low = h.low.1.1.0; high = h.high.1.1.0 }) (record { low = h.low.1.1.1.0; high = h.high.1.1.1.0 }))

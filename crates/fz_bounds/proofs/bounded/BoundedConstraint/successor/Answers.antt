@@ -10,8 +10,8 @@ use Rattle.fz_bounds.proofs.bounded.BoundedConstraint.successor.Goals as goal
 pub returns : goal.returns
 returns c = λ K f g n at.
     let xs = given c.args.self.now in
-    let o = int_at K xs 0 in
+    let o = int_at K xs c.args.first in
     let p = c.args.place in
-    let (x, at_x) = is_there K xs 1 p c.requires in
-    let is : as_place o x ≡ n = same_Some (as_place o x) n (sym (placed_at o (ints_at K xs 1) p x at_x) ∙ at) in
+    let (x, at_x) = is_there K xs c.args.array p c.requires in
+    let is : as_place o x ≡ n = same_Some (as_place o x) n (sym (placed_at o (ints_at K xs c.args.array) p x at_x) ∙ at) in
     subst (LiesIn c.plus.result) is (c.plus.ensures (x -ℤ o) (pos 1) (c.minus.ensures x o (c.number_at.ensures K g x at_x) (c.number.ensures K f)) c.of.ensures)
