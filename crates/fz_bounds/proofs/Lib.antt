@@ -7,9 +7,6 @@ pub mod Truths
 pub mod Ranges
 pub mod Lists
 pub mod Lexical
-pub mod Picked
-pub mod Tours
-pub mod Inverses
 pub mod Added
 pub mod Indexed
 pub mod Chosen
@@ -17,6 +14,9 @@ pub mod Failed
 pub mod Peak
 pub mod Remainders
 pub mod Distinct
+pub mod Tours
+pub mod Inverses
+pub mod Picked
 pub mod Declared
 pub mod At
 pub mod Forms

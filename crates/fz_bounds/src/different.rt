@@ -49,7 +49,7 @@ impl<'s, 'a> BoundedConstraint<'s, 'a> {
     }
 
     /// The elements of an array that can be only one number.
-    fn fixed_numbers(&self, alloc: Global, array: usize) -> Result<Vec<i64>, AllocError>
+    pub(crate) fn fixed_numbers(&self, alloc: Global, array: usize) -> Result<Vec<i64>, AllocError>
         ensures { IfOk result (λ v. (K : Values) → NumbersLie self.now array K
             → IsPicked v.items (ints_at K (given self.now) array)) }
     {

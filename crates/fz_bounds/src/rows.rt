@@ -76,6 +76,7 @@ fn base_foretold(
 {
     match builtin {
         Builtin::FznAllDifferentInt => at.all_different(alloc),
+        Builtin::FznNvalue => at.has_so_many_values(alloc),
         Builtin::GecodeCircuit => at.is_circuit(alloc),
         Builtin::FzcheckSubcircuit => at.is_subcircuit(alloc),
         _ => Ok(foretold(builtin, at)),
