@@ -6,7 +6,7 @@ pub mod Between
 pub mod Truths
 pub mod Ranges
 pub mod Lists
-pub mod Lexical
+pub mod Comparing
 pub mod Added
 pub mod Indexed
 pub mod Chosen
@@ -14,8 +14,8 @@ pub mod Failed
 pub mod Peak
 pub mod Remainders
 pub mod Distinct
-pub mod Tours
-pub mod Inverses
+pub mod Circuits
+pub mod LeadingBack
 pub mod Picked
 pub mod Declared
 pub mod At

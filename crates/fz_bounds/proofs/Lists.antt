@@ -1,5 +1,5 @@
 -- Lists between others.
-use Rattle.std.proofs.Common.{◌≡◌, ℕ, zero, suc, ◌+◌, ◌<◌, ℤ, ◌≤ℤ◌, Bool, true, false, List, [], ◌∷◌, drop, length, Some, slice_get, refl, sym, subst₂, ◌∙◌, arith, int_le}
+use Rattle.std.proofs.Common.{◌≡◌, ℕ, zero, suc, ◌+◌, ◌<◌, ℤ, ◌≤ℤ◌, Bool, true, false, List, [], ◌∷◌, drop, length, Some, slice_get, refl, sym, subst, subst₂, ◌∙◌, arith, int_le}
 use Rattle.std.proofs.lemmas.Int.{ints as numerals}
 use Rattle.std.proofs.lemmas.List.{length-map}
 use Rattle.std.proofs.lemmas.Option.{none-some, same_Some, slice_get_within}
@@ -89,6 +89,10 @@ element_there t K xs i p h =
 
 pub dropped_at : {A : Type 0} (xs : List A) (s p : ℕ) (x : A) → slice_get xs (s + p) ≡ Some x
     → slice_get (drop s xs) p ≡ Some x
-dropped_at xs zero p x at = at
+dropped_at xs zero p x at =
+    let same : 0 + p ≡ p = omega arith in
+    subst (λ k. slice_get xs k ≡ Some x) same at
 dropped_at [] (suc s) p x at = absurd (none-some x at)
-dropped_at (y ∷ xs) (suc s) p x at = dropped_at xs s p x at
+dropped_at (y ∷ xs) (suc s) p x at =
+    let next : suc s + p ≡ suc (s + p) = omega arith in
+    dropped_at xs s p x (subst (λ k. slice_get (y ∷ xs) k ≡ Some x) next at)

@@ -12,7 +12,7 @@ use Rattle.fz_model.proofs.of_builtins.of_kernel.Left.{next}
 use Rattle.fz_model.proofs.of_builtins.of_globals.Valued.{in_listed}
 use Rattle.fz_bounds.specs.Picked.{IsPicked}
 use Rattle.fz_bounds.proofs.Distinct.{no_more}
-use Rattle.fz_bounds.proofs.Tours.{each_passes}
+use Rattle.fz_bounds.proofs.Circuits.{each_passes}
 
 pub skipped : (vs xs : List ℤ) (x : ℤ) → IsPicked vs xs → IsPicked vs (x ∷ xs)
 skipped [] xs x p = tt

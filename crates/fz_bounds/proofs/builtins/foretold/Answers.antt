@@ -9,7 +9,7 @@ use Rattle.fz_bounds.specs.Decided.{Decides}
 use Rattle.fz_bounds.specs.Spans.{keep_apart}
 use Rattle.fz_bounds.specs.Within.{given}
 use Rattle.fz_bounds.proofs.At.{at_row}
-use Rattle.fz_bounds.proofs.Lexical.{comes, truths_come}
+use Rattle.fz_bounds.proofs.Comparing.{comes, truths_come}
 use Rattle.fz_bounds.proofs.builtins.foretold.Goals as goal
 
 pub returns-in-IntEq : goal.returns-in-IntEq

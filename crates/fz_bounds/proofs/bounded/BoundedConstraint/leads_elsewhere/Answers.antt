@@ -4,7 +4,7 @@ use Rattle.fz_model.specs.of_builtins.of_kernel.Given.{int_at, ints_at, slots_at
 use Rattle.fz_model.proofs.of_builtins.of_globals.Led.{as_place, placed_at, placed_counted}
 use Rattle.fz_bounds.specs.Within.{given}
 use Rattle.fz_bounds.proofs.Failed.{never_so}
-use Rattle.fz_bounds.proofs.Inverses.{no_place, not_back}
+use Rattle.fz_bounds.proofs.LeadingBack.{no_place, not_back}
 use Rattle.fz_bounds.proofs.Lists.{is_there}
 use Rattle.fz_bounds.proofs.bounded.BoundedConstraint.leads_elsewhere.Goals as goal
 

@@ -5,7 +5,7 @@ use Rattle.fz_model.specs.of_builtins.of_kernel.Given.{slots_at}
 use Rattle.fz_bounds.specs.Within.{given, numbers_at}
 use Rattle.fz_bounds.proofs.Failed.{always_so, never_so}
 use Rattle.fz_bounds.proofs.Lists.{element_there, elements_counted}
-use Rattle.fz_bounds.proofs.Lexical.{ended, here_fails, rest_comes}
+use Rattle.fz_bounds.proofs.Comparing.{ended, here_fails, rest_comes}
 use Rattle.fz_bounds.proofs.bounded.BoundedConstraint.never_before.Goals as goal
 
 pub loop-place-preserved : goal.loop-place-preserved

@@ -5,7 +5,7 @@ use Rattle.fz_model.specs.of_builtins.of_kernel.Given.{slots_at}
 use Rattle.fz_bounds.specs.Within.{given, numbers_at}
 use Rattle.fz_bounds.proofs.Failed.{always_so, never_so}
 use Rattle.fz_bounds.proofs.Lists.{element_there, elements_counted}
-use Rattle.fz_bounds.proofs.Lexical.{less_comes, rest_leads, shorter}
+use Rattle.fz_bounds.proofs.Comparing.{less_comes, rest_leads, shorter}
 use Rattle.fz_bounds.proofs.bounded.BoundedConstraint.surely_before.Goals as goal
 
 pub loop-place-preserved : goal.loop-place-preserved

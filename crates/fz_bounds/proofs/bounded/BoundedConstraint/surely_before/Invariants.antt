@@ -1,7 +1,7 @@
 use Rattle.std.proofs.Common.{◌≡◌, true, drop}
 use Rattle.fz_model.specs.Meaning.{Partial}
 use Rattle.fz_bounds.specs.Within.{ElementsLie, given, numbers_at}
-use Rattle.fz_bounds.proofs.Lexical.{comes}
+use Rattle.fz_bounds.proofs.Comparing.{comes}
 use Rattle.fz_bounds.proofs.bounded.BoundedConstraint.surely_before.Given as goal
 
 abbrev pub invariant-loop-place : goal.invariant-loop-place
