@@ -1,5 +1,5 @@
 -- Elements of a list (private functions only).
-use Rattle.std.specs.Prelude.{◌≡◌, ℤ, List, [], ◌∷◌, ◌⊎◌, ⊤, ⊥}
+use Rattle.std.specs.Prelude.{◌≡◌, ℤ, List, [], ◌∷◌, ◌⊎◌, ⊤}
 
 -- the first list has elements of the second, in their order
 abbrev pub IsPicked : List ℤ → List ℤ → Type 0
