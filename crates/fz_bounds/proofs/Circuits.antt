@@ -54,13 +54,13 @@ module _ (f : List ℤ) where
   one_step p q e = elim (element_at f p) as (λ o. option_and_then (end_of_tour f 0) o ≡ Some q → o ≡ Some q) [ None ↦ λ e. e | Some s ↦ λ e. e ] e
 
   module _ (circuit : is_circuit f ≡ true) where
-    n : ℕ
+    abbrev n : ℕ
     n = length f
 
-    whole : List ℤ
+    abbrev whole : List ℤ
     whole = tour f n (pos 1)
 
-    ends : Bool
+    abbrev ends : Bool
     ends = option_map_or (λ p. p =ℤ pos 1) (end_of_tour f n (pos 1)) false
 
     apart : all_different whole ≡ true

@@ -1,9 +1,11 @@
 -- Elements of a list, in its order, differ where all its elements do; and they have as many values as
 -- it has, or less.
-use Rattle.std.proofs.Common.{◌≡◌, ℕ, suc, ◌+◌, ◌≤◌, ℤ, Bool, true, false, not, ◌&&◌, ◌||◌, List, [], ◌∷◌, ◌++◌, if◌then◌else◌, inl, inr, drop, length, Some, slice_get, refl, sym, ap, subst, ◌∙◌, int_cmp, arith}
+use Rattle.std.proofs.Common.{◌≡◌, ℕ, suc, ◌+◌, ◌≤◌, ℤ, pos, ◌+ℤ◌, ◌-ℤ◌, int_le, Bool, true, false, not, ◌&&◌, ◌||◌, List, [], ◌∷◌, ◌++◌, if◌then◌else◌, inl, inr, drop, length, Some, slice_get, refl, sym, ap, subst, ◌∙◌, int_cmp, arith}
 use Rattle.std.proofs.lemmas.Bool.{false_from_ne_true, not_from_false, or_left, or_right, true≢false}
+use Rattle.std.proofs.lemmas.Int.{clamps, ints}
 use Rattle.std.proofs.lemmas.List.{append_assoc, append-nil}
 use Rattle.std.specs.Cmp.{int_cmp_total}
+use Rattle.std.specs.Int.{int_max, int_min}
 use Rattle.std.specs.List.{list_all}
 use Rattle.std.specs.FinSet.{from_list, len, len-insert, len-empty}
 use Rattle.fz_model.specs.Relations.{◌=ℤ◌, all_different, is_among, values_of}
@@ -29,6 +31,10 @@ picked_among a (v ∷ vs) (x ∷ xs) (inl (same, p)) h =
       | false ↦ λ _ h. or_right (x =ℤ a) _ (picked_among a vs xs p h)
     ]) refl h
 
+pub is_not : (b : Bool) → not b ≡ true → b ≡ false
+is_not true e = no e
+is_not false e = refl
+
 picked_differ : (vs xs : List ℤ) → IsPicked vs xs → all_different xs ≡ true
     → all_different vs ≡ true
 picked_differ [] xs p d = refl
@@ -38,11 +44,6 @@ picked_differ (v ∷ vs) (x ∷ xs) (inl (same, p)) d =
     let none : is_among v xs ≡ false = ap (λ y. is_among y xs) same ∙ is_not (is_among x xs) (and_first (not (is_among x xs)) _ d) in
     let none' : is_among v vs ≡ false = false_from_ne_true _ (λ h. true≢false (sym (picked_among v vs xs p h) ∙ none)) in
     and_both (not (is_among v vs)) _ (not_from_false _ none') (picked_differ vs xs p (and_second (not (is_among x xs)) _ d))
-  where
-    is_not : (b : Bool) → not b ≡ true → b ≡ false
-    is_not true e = no e
-    is_not false e = refl
-
 pub picked_clash : (vs xs : List ℤ) → IsPicked vs xs → all_different vs ≡ false
     → all_different xs ≡ false
 picked_clash vs xs p e = false_from_ne_true _ (λ d. true≢false (sym (picked_differ vs xs p d) ∙ e))
@@ -122,15 +123,10 @@ few_values : (xs : List ℤ) → length (values_of xs) ≤ length xs
 few_values [] = omega arith
 few_values (x ∷ xs) = let rest = few_values xs in let more = at_most_one x xs in omega arith
 
-values_at_most : (vs xs : List ℤ) → IsPicked vs xs
+one_picked : (v : ℤ) (vs : List ℤ) (x : ℤ) (xs : List ℤ) → v ≡ x → IsPicked vs xs
     → length (values_of xs) + length vs ≤ length (values_of vs) + length xs
-values_at_most [] xs p = let few = few_values xs in omega arith
-values_at_most (v ∷ vs) [] p = absurd p
-values_at_most (v ∷ vs) (x ∷ xs) (inr p) =
-    let rest = values_at_most (v ∷ vs) xs p in
-    let more = at_most_one x xs in
-    omega arith
-values_at_most (v ∷ vs) (x ∷ xs) (inl (same, p)) =
+    → length (values_of (x ∷ xs)) + suc (length vs) ≤ length (values_of (v ∷ vs)) + suc (length xs)
+one_picked v vs x xs same p rest =
     (elim (is_among v vs) as (λ b. is_among v vs ≡ b → length (values_of (x ∷ xs)) + suc (length vs) ≤ length (values_of (v ∷ vs)) + suc (length xs)) [
       | true ↦ λ e.
           let again : is_among x xs ≡ true = ap (λ y. is_among y xs) (sym same) ∙ picked_among v vs xs p e in
@@ -142,9 +138,16 @@ values_at_most (v ∷ vs) (x ∷ xs) (inl (same, p)) =
           let there = one_more v vs e in
           omega arith
     ]) refl
-  where
-    rest : length (values_of xs) + length vs ≤ length (values_of vs) + length xs
-    rest = values_at_most vs xs p
+
+values_at_most : (vs xs : List ℤ) → IsPicked vs xs
+    → length (values_of xs) + length vs ≤ length (values_of vs) + length xs
+values_at_most [] xs p = let few = few_values xs in omega arith
+values_at_most (v ∷ vs) [] p = absurd p
+values_at_most (v ∷ vs) (x ∷ xs) (inr p) =
+    let rest = values_at_most (v ∷ vs) xs p in
+    let more = at_most_one x xs in
+    omega arith
+values_at_most (v ∷ vs) (x ∷ xs) (inl (same, p)) = one_picked v vs x xs same p (values_at_most vs xs p)
 
 -- as many as the set of the numbers has
 as_many : (xs : List ℤ) → length (values_of xs) ≡ len (from_list {R = int_cmp} xs)
@@ -165,3 +168,12 @@ values_lie vs xs n p is =
     let least = values_at_least vs xs p in
     let most = values_at_most vs xs p in
     (omega arith, omega arith)
+
+-- so they lie between the two
+pub values_above : (n all' some v : ℕ) → n ≤ v
+    → int_le (int_min (pos n) (pos n +ℤ (pos all' -ℤ pos some))) (pos v) ≡ true
+values_above n all' some v h = grind (arith, ints, clamps)
+
+pub values_below : (n all' some v : ℕ) → v + some ≤ n + all'
+    → int_le (pos v) (int_max (pos n) (pos n +ℤ (pos all' -ℤ pos some))) ≡ true
+values_below n all' some v h = grind (arith, ints, clamps)

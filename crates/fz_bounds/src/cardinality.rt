@@ -72,7 +72,9 @@ impl<'s, 'a> BoundedConstraint<'s, 'a> {
             → LiesIn r (pos (length (values_of (ints_at K (given self.now) 1))))) }
     {
         let fixed = self.fixed_numbers(alloc, 1)?;
-        let distinct = IntSet::list(alloc, &fixed).map_err(|_| AllocError)?;
+        let Ok(distinct) = IntSet::list(alloc, &fixed) else {
+            return Err(AllocError);
+        };
         let least = Range::of(distinct.len() as i128);
         let others = Range::size(self.count(1)).minus(Range::size(fixed.len()));
         Ok(least.hull(least.plus(others)))

@@ -79,7 +79,8 @@ impl<'s, 'a> BoundedConstraint<'s, 'a> {
         if self.are_crowded() {
             return Ok(Outlook::Never);
         }
-        if self.repeats(alloc, 0)? {
+        let repeated = self.repeats(alloc, 0)?;
+        if repeated {
             return Ok(Outlook::Never);
         }
         Ok(Outlook::Open)

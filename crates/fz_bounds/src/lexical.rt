@@ -18,7 +18,9 @@ impl<'s, 'a> BoundedConstraint<'s, 'a> {
             (numbers_at truths K (given self.now) one)
             (numbers_at truths K (given self.now) other) ≡ false }
     {
-        for place in 0..self.count(one).min(self.count(other)) {
+        let size = self.count(one);
+        let other_size = self.count(other);
+        for place in 0..size.min(other_size) {
             let first = self.element(truths, one, place);
             let second = self.element(truths, other, place);
             if !first.below(second).is_never() {
@@ -28,7 +30,10 @@ impl<'s, 'a> BoundedConstraint<'s, 'a> {
                 return true;
             }
         }
-        self.count(other) <= self.count(one)
+        if other_size <= size {
+            return true;
+        }
+        false
     }
 
     /// Whether it has to come before: up to where it is less for certain, it is nowhere greater.
@@ -38,7 +43,9 @@ impl<'s, 'a> BoundedConstraint<'s, 'a> {
             (numbers_at truths K (given self.now) one)
             (numbers_at truths K (given self.now) other) ≡ true }
     {
-        for place in 0..self.count(one).min(self.count(other)) {
+        let size = self.count(one);
+        let other_size = self.count(other);
+        for place in 0..size.min(other_size) {
             let first = self.element(truths, one, place);
             let second = self.element(truths, other, place);
             if !first.at_most(second).is_always() {
@@ -48,7 +55,10 @@ impl<'s, 'a> BoundedConstraint<'s, 'a> {
                 return true;
             }
         }
-        self.count(one) < self.count(other)
+        if size < other_size {
+            return true;
+        }
+        false
     }
 
     /// Whether one array comes before another.

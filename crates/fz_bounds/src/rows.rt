@@ -46,7 +46,8 @@ pub(crate) fn row_fails(
     if !at.are_known(known) {
         return Ok(false);
     }
-    Ok(form_foretold(alloc, known, &at)?.is_never())
+    let told = form_foretold(alloc, known, &at)?;
+    Ok(told.is_never())
 }
 
 /// Whether a row, or a reified form of it, holds at no arguments inside the bounds, or at all.

@@ -11,25 +11,25 @@ ghost use Rattle.fz_bounds.specs.Within.{NumbersLie, given};
 use crate::bounded::BoundedConstraint;
 use crate::outlook::Outlook;
 
-/// How many rows of a width a table of this length has, where it has only whole rows.
-fn rows_of(width: usize, length: usize) -> Option<usize>
+/// How many rows of a width a table of this size has, where it has only whole rows.
+fn rows_of(width: usize, size: usize) -> Option<usize>
     ensures wide { IfSome result (λ rows. 0 < width) }
-    ensures whole { IfSome result (λ rows. rows * width ≡ length) }
+    ensures whole { IfSome result (λ rows. rows * width ≡ size) }
 {
     if width == 0 {
         return None;
     }
-    if length % width != 0 {
+    if size % width != 0 {
         return None;
     }
-    Some(length / width)
+    Some(size / width)
 }
 
 impl<'s, 'a> BoundedConstraint<'s, 'a> {
     /// Whether the elements may be those of the table from an index on.
-    fn may_stand_at(&self, start: usize) -> bool
-        requires { start + length (slots_at (given self.now) 0)
-            ≤ length (slots_at (given self.now) 1) }
+    fn may_stand_at(&self, start: usize, size: usize) -> bool
+        requires room { start + length (slots_at (given self.now) 0) ≤ size }
+        requires counted { size ≡ length (slots_at (given self.now) 1) }
         ensures { result ≡ false → (K : Values) → NumbersLie self.now 0 K → NumbersLie self.now 1 K
             → is_same_list ◌=ℤ◌ (ints_at K (given self.now) 0)
             (take (length (ints_at K (given self.now) 0))
@@ -45,16 +45,16 @@ impl<'s, 'a> BoundedConstraint<'s, 'a> {
     }
 
     /// Whether they may be one of so many rows.
-    fn is_row_among(&self, rows: usize) -> Outlook
-        requires wide { 0 < length (slots_at (given self.now) 0) }
-        requires whole { rows * length (slots_at (given self.now) 0)
-            ≡ length (slots_at (given self.now) 1) }
+    fn is_row_among(&self, rows: usize, width: usize, size: usize) -> Outlook
+        requires wide { 0 < width }
+        requires whole { rows * width ≡ size }
+        requires columns { width ≡ length (slots_at (given self.now) 0) }
+        requires counted { size ≡ length (slots_at (given self.now) 1) }
         ensures { (K : Values) → NumbersLie self.now 0 K → NumbersLie self.now 1 K → Decides result
             (is_row_of ◌=ℤ◌ (ints_at K (given self.now) 0) (ints_at K (given self.now) 1)) }
     {
-        let width = self.count(0);
         for row in 0..rows {
-            if self.may_stand_at(row * width) {
+            if self.may_stand_at(row * width, size) {
                 return Outlook::Open;
             }
         }
@@ -66,8 +66,9 @@ impl<'s, 'a> BoundedConstraint<'s, 'a> {
         ensures { (K : Values) → NumbersLie self.now 0 K → NumbersLie self.now 1 K → Decides result
             (is_row_of ◌=ℤ◌ (ints_at K (given self.now) 0) (ints_at K (given self.now) 1)) }
     {
-        match rows_of(self.count(0), self.count(1)) {
-            Some(rows) => self.is_row_among(rows),
+        let (width, size) = (self.count(0), self.count(1));
+        match rows_of(width, size) {
+            Some(rows) => self.is_row_among(rows, width, size),
             None => Outlook::Open,
         }
     }

@@ -81,7 +81,8 @@ impl<'s, 'a> BoundedConstraint<'s, 'a> {
     {
         let least = self.only(first)?;
         let number = self.only_at(array, place)?;
-        place_from(number, least, count)
+        let named = place_from(number, least, count)?;
+        Some(named)
     }
 
     /// How many steps lead from a place back to it for the first time, where they are fixed.
@@ -140,10 +141,13 @@ impl<'s, 'a> BoundedConstraint<'s, 'a> {
         if start >= count {
             return Ok(false);
         }
-        match self.ring_from(start) {
-            Some(steps) => Ok(steps < count),
-            None => Ok(false),
+        let Some(steps) = self.ring_from(start) else {
+            return Ok(false);
+        };
+        if steps < count {
+            return Ok(true);
         }
+        Ok(false)
     }
 
     /// Whether the successors lead from the first position to all, to each once, and back.
@@ -155,10 +159,12 @@ impl<'s, 'a> BoundedConstraint<'s, 'a> {
         if self.leaves_places() {
             return Ok(Outlook::Never);
         }
-        if self.repeats(alloc, 1)? {
+        let repeated = self.repeats(alloc, 1)?;
+        if repeated {
             return Ok(Outlook::Never);
         }
-        if self.closes_early(alloc)? {
+        let closed = self.closes_early(alloc)?;
+        if closed {
             return Ok(Outlook::Never);
         }
         Ok(Outlook::Open)
@@ -173,7 +179,8 @@ impl<'s, 'a> BoundedConstraint<'s, 'a> {
         if self.leaves_places() {
             return Ok(Outlook::Never);
         }
-        if self.repeats(alloc, 1)? {
+        let repeated = self.repeats(alloc, 1)?;
+        if repeated {
             return Ok(Outlook::Never);
         }
         Ok(Outlook::Open)

@@ -1,5 +1,5 @@
-use Rattle.std.proofs.Common.{◌≡◌, Some, ap, option_map, same_Some, slice_get, subst, sym, ◌∙◌}
-use Rattle.std.proofs.lemmas.Option.{slice_get-map}
+use Rattle.std.proofs.Common.{◌≡◌, Some, ap, option_map, slice_get, subst, sym, true, false, ◌∙◌}
+use Rattle.std.proofs.lemmas.Option.{same_Some, slice_get-map}
 use Rattle.fz_model.specs.Relations.{as_number}
 use Rattle.fz_model.specs.of_builtins.of_kernel.Given.{bools_at}
 use Rattle.fz_bounds.specs.Decided.{LiesIn}
@@ -15,7 +15,7 @@ returns-then-truths c = λ K f n at.
     let p = c.args.place in
     let lie = subst (λ t. ElementsLie t s i K) c.if-truths.true f in
     let here : slice_get (numbers_at true K xs i) p ≡ Some n = subst (λ t. slice_get (numbers_at t K xs i) p ≡ Some n) c.if-truths.true at in
-    let (b, at_b) = truth_there K xs i p c.requires in
+    let (b, at_b) = truth_there K xs i p c.requires.in_range in
     let is : as_number b ≡ n = same_Some (as_number b) n (sym (slice_get-map as_number (bools_at K xs i) p ∙ ap (option_map as_number) at_b) ∙ here) in
     subst (LiesIn c.number.result) is (c.number.ensures b (c.truth_at.ensures K lie b at_b))
 

@@ -28,7 +28,7 @@ returns-then-is_never c = λ _ K f g h k.
     let ms = ints_at K xs c.args.other in
     let p = c.loop-place.place in
     let q = c.in-Some.there in
-    let within : q < length (slots_at xs c.args.other) = omega arith in
+    let within : q < length (slots_at xs c.args.other) = omega (arith, c.in-Some.ensures.inside) in
     let (y, at_y) = is_there K xs c.args.other q within in
     let at = placed_at o ms q y at_y in
     let fails : (as_place o y =ℤ pos (p + 1)) ≡ false = never_so c.equal.result (as_place o y =ℤ pos (p + 1)) (search rules) (c.equal.ensures (as_place o y) (pos (p + 1)) (c.successor-back.ensures K k h (as_place o y) at) c.index.ensures) in

@@ -39,13 +39,13 @@ returns-then-is_never c = λ _ K f g.
     let same : (n =ℤ m) ≡ false = never_so c.equal.result (n =ℤ m) (search rules) (c.equal.ensures n m lies_n lies_m) in
     false_from_ne_true _ (λ e. true≢false (sym (c.loop-place.invariant K f g e) ∙ here_fails ns ms i n m at_n at_m less same))
 
-pub returns : goal.returns
-returns c = λ shorter K f g.
+pub returns-then-other_size-size : goal.returns-then-other_size-size
+returns-then-other_size-size c = λ _ K f g.
     let xs = given c.args.self.now in
     let t = c.args.truths in
     let i = c.loop-place.place in
     let ns = numbers_at t K xs c.args.one in
     let ms = numbers_at t K xs c.args.other in
-    let counted = elements_counted t K xs c.args.other c.count-2.result c.count-2.ensures in
+    let counted = elements_counted t K xs c.args.other c.count-other_size.result c.count-other_size.ensures in
     let past : length ms ≤ i = omega arith in
     false_from_ne_true _ (λ e. true≢false (sym (c.loop-place.invariant K f g e) ∙ ended ns ms i past))

@@ -1,5 +1,5 @@
-use Rattle.std.proofs.Common.{◌≡◌, ◌-ℤ◌, pos, option_map, same_Some, slice_get, subst, sym, Some, ap, ◌∙◌}
-use Rattle.std.proofs.lemmas.Option.{slice_get-map}
+use Rattle.std.proofs.Common.{◌≡◌, ◌-ℤ◌, pos, subst, sym, Some, ap, ◌∙◌}
+use Rattle.std.proofs.lemmas.Option.{same_Some}
 use Rattle.fz_model.specs.of_builtins.of_kernel.Given.{int_at, ints_at}
 use Rattle.fz_model.proofs.of_builtins.of_globals.Led.{as_place, placed_at}
 use Rattle.fz_bounds.specs.Decided.{LiesIn}
@@ -12,6 +12,6 @@ returns c = λ K f g n at.
     let xs = given c.args.self.now in
     let o = int_at K xs c.args.first in
     let p = c.args.place in
-    let (x, at_x) = is_there K xs c.args.array p c.requires in
+    let (x, at_x) = is_there K xs c.args.array p c.requires.in_range in
     let is : as_place o x ≡ n = same_Some (as_place o x) n (sym (placed_at o (ints_at K xs c.args.array) p x at_x) ∙ at) in
     subst (LiesIn c.plus.result) is (c.plus.ensures (x -ℤ o) (pos 1) (c.minus.ensures x o (c.number_at.ensures K g x at_x) (c.number.ensures K f)) c.of.ensures)

@@ -36,14 +36,14 @@ returns-then-is_always c = λ _ K f g.
     let less : int_lt n m ≡ true = always_so c.below.result (int_lt n m) (search rules) (c.below.ensures n m (c.element-first.ensures K f n at_n) (c.element-second.ensures K g m at_m)) in
     c.loop-place.invariant K f g (less_comes ns ms i n m at_n at_m less)
 
-pub returns : goal.returns
-returns c = λ longer K f g.
+pub returns-then-size-other_size : goal.returns-then-size-other_size
+returns-then-size-other_size c = λ _ K f g.
     let xs = given c.args.self.now in
     let t = c.args.truths in
     let i = c.loop-place.place in
     let ns = numbers_at t K xs c.args.one in
     let ms = numbers_at t K xs c.args.other in
-    let counted = elements_counted t K xs c.args.one c.count.result c.count.ensures in
+    let counted = elements_counted t K xs c.args.one c.count-size.result c.count-size.ensures in
     let past : length ns ≤ i = omega arith in
     let more : i < length (slots_at xs c.args.other) = omega arith in
     let (m, at_m) = element_there t K xs c.args.other i more in
