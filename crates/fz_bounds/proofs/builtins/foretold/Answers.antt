@@ -1,4 +1,4 @@
-use Rattle.std.proofs.Common.{int_le, length, map, not, pos, subst, sym, unsigned_abs, ◌&&◌, ◌+ℤ◌, ◌-ℤ◌, ◌*ℤ◌, ◌||◌}
+use Rattle.std.proofs.Common.{false, int_le, length, map, not, pos, subst, sym, true, unsigned_abs, ◌&&◌, ◌+ℤ◌, ◌-ℤ◌, ◌*ℤ◌, ◌||◌}
 use Rattle.std.specs.Int.{int_max, int_min}
 use Rattle.std.specs.List.{list_all, list_any, zip}
 use Rattle.fz_store.specs.declared.Builtin.TheVariants as builtin

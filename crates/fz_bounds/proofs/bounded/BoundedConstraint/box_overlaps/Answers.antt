@@ -36,7 +36,7 @@ returns-then-is_never c = λ _ K f g h k.
     let other : Box = ((a', d'), (b', e')) in
     let empty = has_no_area one || has_no_area other in
     let decided = c.or.ensures (spare && empty) (lie_apart one other)
-    (c.and.ensures spare empty c.of.ensures (c.or-empty.ensures (has_no_area one) (has_no_area other) (c.has_no_area.ensures K h k d e at_d at_e) (c.has_no_area-2.ensures K h k d' e' at_d' at_e')))
+    (c.and.ensures spare empty c.of.ensures (c.or-empty.ensures (has_no_area one) (has_no_area other) (c.has_no_area.ensures K h k d e at_d at_e) (c.has_no_area-in-loop-before.ensures K h k d' e' at_d' at_e')))
     (c.or-apart.ensures (are_apart (a, d) (a', d')) (are_apart (b, e) (b', e')) (c.are_apart-beside.ensures K f h a d a' d' at_a at_d at_a' at_d') (c.are_apart.ensures K g k b e b' e' at_b at_e at_b' at_e')) in
     let fails : boxes_apart spare one other ≡ false = never_so c.or.result (boxes_apart spare one other) (search rules) decided in
     pair_fails (boxes_apart spare) (boxes x y width height) p q one other before
