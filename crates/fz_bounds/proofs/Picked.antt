@@ -44,6 +44,7 @@ picked_differ (v ∷ vs) (x ∷ xs) (inl (same, p)) d =
     let none : is_among v xs ≡ false = ap (λ y. is_among y xs) same ∙ is_not (is_among x xs) (and_first (not (is_among x xs)) _ d) in
     let none' : is_among v vs ≡ false = false_from_ne_true _ (λ h. true≢false (sym (picked_among v vs xs p h) ∙ none)) in
     and_both (not (is_among v vs)) _ (not_from_false _ none') (picked_differ vs xs p (and_second (not (is_among x xs)) _ d))
+
 pub picked_clash : (vs xs : List ℤ) → IsPicked vs xs → all_different vs ≡ false
     → all_different xs ≡ false
 picked_clash vs xs p e = false_from_ne_true _ (λ d. true≢false (sym (picked_differ vs xs p d) ∙ e))

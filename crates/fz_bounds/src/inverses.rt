@@ -14,13 +14,7 @@ use crate::range::Range;
 impl<'s, 'a> BoundedConstraint<'s, 'a> {
     /// Whether an array names what is no place of another one, or a place at which that must name
     /// another place. The index that its numbers begin with is the argument behind each.
-    fn leads_elsewhere(
-        &self,
-        array: usize,
-        first: usize,
-        other: usize,
-        other_first: usize,
-    ) -> bool
+    fn leads_elsewhere(&self, array: usize, first: usize, other: usize, other_first: usize) -> bool
         ensures { IsTrue result → (K : Values) → NumbersLie self.now array K
             → NumberLies self.now first K → NumbersLie self.now other K
             → NumberLies self.now other_first K → leads_back (pos 1)

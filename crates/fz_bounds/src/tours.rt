@@ -29,13 +29,7 @@ impl<'s, 'a> BoundedConstraint<'s, 'a> {
     }
 
     /// Whether it can be no position of another array.
-    pub(crate) fn names_none(
-        &self,
-        first: usize,
-        array: usize,
-        place: usize,
-        other: usize,
-    ) -> bool
+    pub(crate) fn names_none(&self, first: usize, array: usize, place: usize, other: usize) -> bool
         requires in_range { place < length (slots_at (given self.now) array) }
         ensures { IsTrue result → (K : Values) → NumberLies self.now first K
             → NumbersLie self.now array K → (n : ℤ) → slice_get
