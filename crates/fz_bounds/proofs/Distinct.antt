@@ -87,15 +87,15 @@ no_more (y ∷ ys) xs d h =
 
 -- ---- numbers that lie from one on
 
-abbrev numbers_from : ℤ → ℕ → List ℤ
+abbrev pub numbers_from : ℤ → ℕ → List ℤ
 numbers_from l zero = []
 numbers_from l (suc n) = l ∷ numbers_from (l +ℤ pos 1) n
 
-so_many : (l : ℤ) (n : ℕ) → length (numbers_from l n) ≡ n
+pub so_many : (l : ℤ) (n : ℕ) → length (numbers_from l n) ≡ n
 so_many l zero = refl
 so_many l (suc n) = ap suc (so_many (l +ℤ pos 1) n)
 
-is_one : (l x : ℤ) (n : ℕ) → int_le l x ≡ true → int_lt x (l +ℤ pos n) ≡ true
+pub is_one : (l x : ℤ) (n : ℕ) → int_le l x ≡ true → int_lt x (l +ℤ pos n) ≡ true
     → is_among x (numbers_from l n) ≡ true
 is_one l x zero from to = absurd (grind (arith, ints))
 is_one l x (suc n) from to =

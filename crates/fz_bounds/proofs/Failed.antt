@@ -6,11 +6,15 @@ use Rattle.fz_model.proofs.Values.{and_first, no'}
 use Rattle.fz_model.proofs.of_builtins.Failing.{both_fail, neighbours_fail}
 use Rattle.fz_bounds.specs.Decided.{Decides}
 use Rattle.fz_bounds.specs.declared.outlook.Outlook.{Outlook}
-use Rattle.fz_bounds.specs.declared.outlook.Outlook.TheVariants.{Never}
+use Rattle.fz_bounds.specs.declared.outlook.Outlook.TheVariants.{Always, Never}
 
 -- a test that never holds fails
 pub never_so : (o : Outlook) (b : Bool) → o ≡ Never → Decides o b → b ≡ false
 never_so o b e h = subst (λ p. Decides p b) e h
+
+-- one that always holds passes
+pub always_so : (o : Outlook) (b : Bool) → o ≡ Always → Decides o b → b ≡ true
+always_so o b e h = subst (λ p. Decides p b) e h
 
 pub count_fails : (xs cover least most : List ℤ) (i : ℕ) (v m n : ℤ) → slice_get cover i ≡ Some v
     → slice_get least i ≡ Some m → slice_get most i ≡ Some n

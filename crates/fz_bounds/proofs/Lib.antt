@@ -6,6 +6,7 @@ pub mod Between
 pub mod Truths
 pub mod Ranges
 pub mod Lists
+pub mod Comparing
 pub mod Added
 pub mod Indexed
 pub mod Chosen
@@ -13,6 +14,9 @@ pub mod Failed
 pub mod Peak
 pub mod Remainders
 pub mod Distinct
+pub mod Circuits
+pub mod LeadingBack
+pub mod Picked
 pub mod Declared
 pub mod At
 pub mod Forms

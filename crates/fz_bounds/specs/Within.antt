@@ -1,9 +1,10 @@
 -- Arguments of a constraint that lie within bounds (private functions only).
-use Rattle.std.specs.Prelude.{◌≡◌, ℕ, List, true}
+use Rattle.std.specs.Prelude.{◌≡◌, ℕ, ℤ, Bool, List, false, map, true}
 use Rattle.fz_model.specs.declared.Kind.TheVariants.{Int as IntKind, Bool as BoolKind, Set as SetKind}
 use Rattle.fz_model.specs.Builtins.{Row, Shape}
 use Rattle.fz_model.specs.Meaning.{Argument, Partial}
 use Rattle.fz_model.specs.Parts.{constraint_view}
+use Rattle.fz_model.specs.Relations.{as_number}
 use Rattle.fz_model.specs.of_builtins.of_kernel.Given.{are_read, bool_at, bools_at, int_at, ints_at, set_at}
 use Rattle.fz_model.specs.of_builtins.Outcomes.{test_from}
 use Rattle.fz_bounds.specs.Between.{AreAtMost, AreBetween, at_most}
@@ -37,6 +38,16 @@ pub record NumbersLie (s : BoundedConstraint) (i : ℕ) (K : Partial) : Type 0 w
 pub record TruthsLie (s : BoundedConstraint) (i : ℕ) (K : Partial) : Type 0 where
   pub low : AreAtMost BoolKind (bools_at s.lowest.now (given s) i) (bools_at K (given s) i)
   pub high : AreAtMost BoolKind (bools_at K (given s) i) (bools_at s.highest.now (given s) i)
+
+-- each element does, of an array of Booleans or of integers
+abbrev pub ElementsLie : Bool → BoundedConstraint → ℕ → Partial → Type 0
+ElementsLie true s i K = TruthsLie s i K
+ElementsLie false s i K = NumbersLie s i K
+
+-- the elements as numbers: of Booleans, 0 is false and 1 is true
+abbrev pub numbers_at : Bool → Partial → List Argument → ℕ → List ℤ
+numbers_at true K xs i = map as_number (bools_at K xs i)
+numbers_at false K xs i = ints_at K xs i
 
 -- all arguments, read as these kinds ask
 abbrev pub IsBetween : BoundedConstraint → Partial → List Shape → Type 0

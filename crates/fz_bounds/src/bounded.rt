@@ -1,6 +1,6 @@
 //! The arguments of a constraint within bounds.
 
-ghost use Rattle.std.specs.Prelude.{◌≡◌, ◌*ℤ◌, not};
+ghost use Rattle.std.specs.Prelude.{◌≡◌, ◌*ℤ◌, IfSome, not};
 ghost use Rattle.std.specs.List.{list_all, list_any};
 ghost use Rattle.fz_model.specs.Meaning.{Partial as Values};
 ghost use Rattle.fz_model.specs.of_builtins.of_kernel.Given.{bool_at, bools_at, int_at};
@@ -45,6 +45,16 @@ impl<'s, 'a> BoundedConstraint<'s, 'a> {
             → LiesIn result (int_at K (given self.now) index) }
     {
         Range::between(self.low().int(index), self.high().int(index))
+    }
+
+    /// The integer, where it can be only one.
+    pub(crate) fn only(&self, index: usize) -> Option<i64>
+        ensures { IfSome result (λ c. (K : Values) → NumberLies self.now index K
+            → int_at K (given self.now) index ≡ c) }
+    {
+        let low = self.low().int(index);
+        let high = self.high().int(index);
+        if high <= low { Some(low) } else { None }
     }
 
     /// The product of two arguments.

@@ -1,14 +1,17 @@
 //! Counts of several values within bounds.
 
-ghost use Rattle.std.specs.Prelude.{ℤ};
+ghost use Rattle.std.specs.Prelude.{ℤ, IfOk, length, pos};
 ghost use Rattle.fz_model.specs.Meaning.{Partial as Values};
-ghost use Rattle.fz_model.specs.Relations.{counts_are, counts_lie, is_closed};
-ghost use Rattle.fz_model.specs.of_builtins.of_kernel.Given.{ints_at};
-ghost use Rattle.fz_bounds.specs.Decided.{Decides};
-ghost use Rattle.fz_bounds.specs.Within.{NumbersLie, given};
+ghost use Rattle.fz_model.specs.Relations.{◌=ℤ◌, counts_are, counts_lie, is_closed, values_of};
+ghost use Rattle.fz_model.specs.of_builtins.of_kernel.Given.{int_at, ints_at};
+ghost use Rattle.fz_bounds.specs.Decided.{Decides, LiesIn};
+ghost use Rattle.fz_bounds.specs.Within.{NumberLies, NumbersLie, given};
 
 use crate::bounded::BoundedConstraint;
 use crate::outlook::Outlook;
+use crate::range::Range;
+use fz_store::IntSet;
+use std::alloc::{AllocError, Global};
 
 impl<'s, 'a> BoundedConstraint<'s, 'a> {
     /// Whether each value of a cover comes as often in an array as the number beside it says.
@@ -60,5 +63,29 @@ impl<'s, 'a> BoundedConstraint<'s, 'a> {
             }
         }
         Outlook::Open
+    }
+
+    /// How many different numbers the elements of the second argument are: as many as those are that
+    /// can be only one, and at most one more for each other element.
+    fn number_of_values(&self, alloc: Global) -> Result<Range, AllocError>
+        ensures { IfOk result (λ r. (K : Values) → NumbersLie self.now 1 K
+            → LiesIn r (pos (length (values_of (ints_at K (given self.now) 1))))) }
+    {
+        let fixed = self.fixed_numbers(alloc, 1)?;
+        let Ok(distinct) = IntSet::list(alloc, &fixed) else {
+            return Err(AllocError);
+        };
+        let least = Range::of(distinct.len() as i128);
+        let others = Range::size(self.count(1)).minus(Range::size(fixed.len()));
+        Ok(least.hull(least.plus(others)))
+    }
+
+    /// Whether the first argument is how many different numbers they are.
+    pub(crate) fn has_so_many_values(&self, alloc: Global) -> Result<Outlook, AllocError>
+        ensures { IfOk result (λ o. (K : Values) → NumberLies self.now 0 K
+            → NumbersLie self.now 1 K → Decides o (int_at K (given self.now) 0
+            =ℤ pos (length (values_of (ints_at K (given self.now) 1))))) }
+    {
+        Ok(self.number(0).equal(self.number_of_values(alloc)?))
     }
 }

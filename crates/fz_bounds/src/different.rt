@@ -1,27 +1,18 @@
 //! Different elements within bounds.
 
-ghost use Rattle.std.specs.Prelude.{◌≡◌, ◌<◌, ℕ, IsTrue, Some, false, length, slice_get};
+ghost use Rattle.std.specs.Prelude.{◌≡◌, ◌<◌, ℕ, IfOk, IsTrue, Some, false, length, slice_get};
 ghost use Rattle.std.specs.List.{filter};
 ghost use Rattle.fz_model.specs.Meaning.{Partial as Values};
 ghost use Rattle.fz_model.specs.Relations.{all_different, is_nonzero};
 ghost use Rattle.fz_model.specs.of_builtins.of_kernel.Given.{ints_at, slots_at};
 ghost use Rattle.fz_bounds.specs.Decided.{Decides};
+ghost use Rattle.fz_bounds.specs.Picked.{IsPicked};
 ghost use Rattle.fz_bounds.specs.Within.{NumbersLie, given};
 
 use crate::bounded::BoundedConstraint;
 use crate::outlook::Outlook;
-
-/// Numbers that differ by less are told apart by what was seen.
-const APART: usize = 1024;
-
-/// Notes that a number is seen, and tells whether it may have been seen before.
-fn was_seen(seen: &mut [bool; APART], number: i64) -> bool {
-    let place = usize::try_from(number.rem_euclid(APART as i64)).unwrap_or(0);
-    match seen.get_mut(place) {
-        Some(mark) => std::mem::replace(mark, true),
-        None => true,
-    }
-}
+use fz_kernel::distinct::all_different;
+use std::alloc::{AllocError, Global};
 
 impl<'s, 'a> BoundedConstraint<'s, 'a> {
     /// Whether an element before a place can only be this number.
@@ -57,23 +48,42 @@ impl<'s, 'a> BoundedConstraint<'s, 'a> {
         hull.has_fewer_than(count)
     }
 
-    /// Whether no two elements of the first argument are equal.
-    pub(crate) fn all_different(&self) -> Outlook
-        ensures { (K : Values) → NumbersLie self.now 0 K
-            → Decides result (all_different (ints_at K (given self.now) 0)) }
+    /// The elements of an array that can be only one number.
+    pub(crate) fn fixed_numbers(&self, alloc: Global, array: usize) -> Result<Vec<i64>, AllocError>
+        ensures { IfOk result (λ v. (K : Values) → NumbersLie self.now array K
+            → IsPicked v.items (ints_at K (given self.now) array)) }
     {
-        if self.are_crowded() {
-            return Outlook::Never;
-        }
-        let mut seen = [false; APART];
-        for place in 0..self.count(0) {
-            if let Some(number) = self.only_at(0, place) {
-                if was_seen(&mut seen, number) && self.stands_before(place, number) {
-                    return Outlook::Never;
-                }
+        let mut numbers = Vec::with_capacity(alloc, self.count(array))?;
+        for place in 0..self.count(array) {
+            if let Some(number) = self.only_at(array, place) {
+                numbers.push(number)?;
             }
         }
-        Outlook::Open
+        Ok(numbers)
+    }
+
+    /// Whether two elements of an array can only be the same number.
+    pub(crate) fn repeats(&self, alloc: Global, array: usize) -> Result<bool, AllocError>
+        ensures { IfOk result (λ b. IsTrue b → (K : Values) → NumbersLie self.now array K
+            → all_different (ints_at K (given self.now) array) ≡ false) }
+    {
+        let mut numbers = self.fixed_numbers(alloc, array)?;
+        Ok(!all_different(&mut numbers))
+    }
+
+    /// Whether no two elements of the first argument are equal.
+    pub(crate) fn all_different(&self, alloc: Global) -> Result<Outlook, AllocError>
+        ensures { IfOk result (λ o. (K : Values) → NumbersLie self.now 0 K
+            → Decides o (all_different (ints_at K (given self.now) 0))) }
+    {
+        if self.are_crowded() {
+            return Ok(Outlook::Never);
+        }
+        let repeated = self.repeats(alloc, 0)?;
+        if repeated {
+            return Ok(Outlook::Never);
+        }
+        Ok(Outlook::Open)
     }
 
     /// Whether no two elements of the first argument are equal, unless they are 0.

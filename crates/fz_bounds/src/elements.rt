@@ -5,7 +5,7 @@ ghost use Rattle.fz_model.specs.Meaning.{Partial as Values};
 ghost use Rattle.fz_model.specs.Relations.{◌=ℤ◌, ◌=ᴮ◌, count_of, is_among, is_element, products, total, where_true};
 ghost use Rattle.fz_model.specs.of_builtins.of_kernel.Given.{bool_at, bools_at, int_at, ints_at, slots_at};
 ghost use Rattle.fz_bounds.specs.Decided.{Decides, LiesIn};
-ghost use Rattle.fz_bounds.specs.Within.{NumberLies, NumbersLie, TruthLies, TruthsLie, given};
+ghost use Rattle.fz_bounds.specs.Within.{ElementsLie, NumberLies, NumbersLie, TruthLies, TruthsLie, given, numbers_at};
 
 use crate::bounded::BoundedConstraint;
 use crate::outlook::Outlook;
@@ -73,6 +73,20 @@ impl<'s, 'a> BoundedConstraint<'s, 'a> {
         Outlook::between(self.must_be(index, place), self.may_be(index, place))
     }
 
+    /// The element as a number, of an array of Booleans or of integers.
+    pub(crate) fn element(&self, truths: bool, index: usize, place: usize) -> Range
+        requires in_range { place < length (slots_at (given self.now) index) }
+        ensures { (K : Values) → ElementsLie truths self.now index K → (n : ℤ)
+            → slice_get (numbers_at truths K (given self.now) index) place ≡ Some n
+            → LiesIn result n }
+    {
+        if truths {
+            self.truth_at(index, place).number()
+        } else {
+            self.number_at(index, place)
+        }
+    }
+
     /// The number that the element is, where it can be only one; a coefficient mostly is.
     pub(crate) fn only_at(&self, index: usize, place: usize) -> Option<i64>
         requires in_range { place < length (slots_at (given self.now) index) }
@@ -84,17 +98,18 @@ impl<'s, 'a> BoundedConstraint<'s, 'a> {
         if high <= low { Some(low) } else { None }
     }
 
-    /// The sum of the products of the elements of the first two arguments.
-    pub(crate) fn sum_of_products(&self) -> Range
-        ensures { (K : Values) → NumbersLie self.now 0 K → NumbersLie self.now 1 K → LiesIn result
-            (total (products (ints_at K (given self.now) 0) (ints_at K (given self.now) 1))) }
+    /// The sum of the products of the elements of two arrays.
+    pub(crate) fn sum_of_products(&self, factors: usize, array: usize) -> Range
+        ensures { (K : Values) → NumbersLie self.now factors K → NumbersLie self.now array K
+            → LiesIn result (total (products (ints_at K (given self.now) factors)
+            (ints_at K (given self.now) array))) }
     {
         let mut sum = Range::of(0);
-        for place in 0..self.count(0).min(self.count(1)) {
-            let Some(coefficient) = self.only_at(0, place) else {
+        for place in 0..self.count(factors).min(self.count(array)) {
+            let Some(coefficient) = self.only_at(factors, place) else {
                 return Range::unknown();
             };
-            sum = sum.plus(self.number_at(1, place).times(coefficient));
+            sum = sum.plus(self.number_at(array, place).times(coefficient));
         }
         sum
     }

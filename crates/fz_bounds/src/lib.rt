@@ -10,6 +10,7 @@
 mod bins;
 mod bounded;
 mod bounds;
+mod boxes;
 mod builtins;
 mod cardinality;
 mod declarations;
@@ -18,6 +19,9 @@ mod domains;
 mod elements;
 mod enclosing;
 mod ends;
+mod inverses;
+mod knapsacks;
+mod lexical;
 mod members;
 mod opened;
 mod order;
@@ -27,8 +31,10 @@ mod range;
 mod refuting;
 mod replacing;
 mod rows;
+mod tables;
 mod tasks;
 mod tightening;
+mod tours;
 
 pub use bounds::Bounds;
 pub use ends::{KindEnds, number_as};

@@ -125,7 +125,7 @@ impl<'s, 'a> OpenConstraint<'s, 'a> {
         if !self.has_factors() {
             return Range::unknown();
         }
-        let (rest, sum) = (self.at.sum_of_products(), self.at.number(2));
+        let (rest, sum) = (self.at.sum_of_products(0, 1), self.at.number(2));
         let Some(share) = self.share() else {
             return Range::unknown();
         };
@@ -149,7 +149,7 @@ impl<'s, 'a> OpenConstraint<'s, 'a> {
         if !self.has_factors() {
             return Range::unknown();
         }
-        let (rest, sum) = (self.at.sum_of_products(), self.at.number(2));
+        let (rest, sum) = (self.at.sum_of_products(0, 1), self.at.number(2));
         let Some(share) = self.share() else {
             return Range::unknown();
         };

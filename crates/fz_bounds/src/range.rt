@@ -2,7 +2,7 @@
 
 ghost use Rattle.std.specs.Prelude.{◌≡◌, ℤ, Bool, cond, pos, ◌+◌, ◌+ℤ◌, ◌-ℤ◌, ◌*ℤ◌, int_le, int_lt, IfSome, IsSomeAnd, IsTrue, true, unsigned_abs};
 ghost use Rattle.std.specs.Int.{int_max, int_min};
-ghost use Rattle.fz_model.specs.Relations.{◌=ℤ◌};
+ghost use Rattle.fz_model.specs.Relations.{◌=ℤ◌, is_natural};
 ghost use Rattle.fz_bounds.specs.Decided.{Decides, LiesIn};
 
 use crate::outlook::Outlook;
@@ -142,6 +142,13 @@ impl Range {
         } else {
             Outlook::Open
         }
+    }
+
+    /// Of the numbers being 0 or more.
+    pub(crate) fn is_natural(self) -> Outlook
+        ensures { (a : ℤ) → LiesIn self a → Decides result (is_natural a) }
+    {
+        Range::of(0).at_most(self)
     }
 
     /// Of the numbers of one range being below those of another.

@@ -32,20 +32,26 @@ pub fn cannot_hold(
     let found = state(alloc, model, point, bounds.fixed())?;
     match found {
         State::Fails => Ok(true),
-        _ => Ok(parts_fail(&model.point_parts(point), bounds)),
+        _ => parts_fail(alloc, &model.point_parts(point), bounds),
     }
 }
 
 /// The same of a point with its parts, by its bounds alone.
-fn parts_fail(parts: &PointParts<'_, '_>, bounds: &Bounds) -> bool
+fn parts_fail(
+    alloc: Global,
+    parts: &PointParts<'_, '_>,
+    bounds: &Bounds,
+) -> Result<bool, AllocError>
     requires known { IfConstraint parts.now
         (λ c. option_map known_row c.posted.now.known ≡ row_of (constraint_view c)) }
-    ensures { IsTrue result → NeverHolds bounds.now (point_view parts.now) }
+    ensures { IfOk result (λ b. IsTrue b → NeverHolds bounds.now (point_view parts.now)) }
 {
     match parts {
-        PointParts::Domain(variable, number) => lies_outside(&variable.domain, *number, bounds),
-        PointParts::Definition(_, number, term) => definition_fails(*number, term, bounds),
-        PointParts::Elements(_, domain, elements) => elements_fail(domain, elements, bounds),
-        PointParts::Constraint(constraint) => row_fails(constraint, bounds),
+        PointParts::Domain(variable, number) => {
+            Ok(lies_outside(&variable.domain, *number, bounds))
+        }
+        PointParts::Definition(_, number, term) => Ok(definition_fails(*number, term, bounds)),
+        PointParts::Elements(_, domain, elements) => Ok(elements_fail(domain, elements, bounds)),
+        PointParts::Constraint(constraint) => row_fails(alloc, constraint, bounds),
     }
 }

@@ -1,12 +1,15 @@
-use Rattle.std.proofs.Common.{int_le, length, not, pos, unsigned_abs, ◌&&◌, ◌+ℤ◌, ◌-ℤ◌, ◌*ℤ◌, ◌||◌}
+use Rattle.std.proofs.Common.{false, int_le, length, map, not, pos, subst, sym, true, unsigned_abs, ◌&&◌, ◌+ℤ◌, ◌-ℤ◌, ◌*ℤ◌, ◌||◌}
 use Rattle.std.specs.Int.{int_max, int_min}
-use Rattle.std.specs.List.{list_all, list_any}
+use Rattle.std.specs.List.{list_all, list_any, zip}
 use Rattle.fz_store.specs.declared.Builtin.TheVariants as builtin
 use Rattle.fz_model.specs.Builtins.{row_at}
-use Rattle.fz_model.specs.Relations.{as_number, count_in, count_of, counts_are, counts_lie, is_among, is_closed, lies_between, loads_are, products, total, where_true, ◌=ᴮ◌, ◌=ℤ◌}
+use Rattle.fz_model.specs.Relations.{all_pairs, as_number, count_in, count_of, counts_are, counts_lie, is_among, is_closed, last_naturally, lies_between, loads_are, products, total, where_true, ◌=ᴮ◌, ◌=ℤ◌}
 use Rattle.fz_model.specs.of_builtins.of_kernel.Given.{bool_at, bools_at, int_at, ints_at, set_at}
+use Rattle.fz_bounds.specs.Decided.{Decides}
+use Rattle.fz_bounds.specs.Spans.{keep_apart}
 use Rattle.fz_bounds.specs.Within.{given}
 use Rattle.fz_bounds.proofs.At.{at_row}
+use Rattle.fz_bounds.proofs.Comparing.{comes, truths_come}
 use Rattle.fz_bounds.proofs.builtins.foretold.Goals as goal
 
 pub returns-in-IntEq : goal.returns-in-IntEq
@@ -265,11 +268,6 @@ returns-in-ArrayIntMinimum c = at_row c.args.at.now c.args.builtin builtin.Array
     let xs = given c.args.at.now in
     c.and-in-ArrayIntMinimum.ensures (is_among (int_at K xs 0) (ints_at K xs 1)) (list_all (λ x. int_le (int_at K xs 0) x) (ints_at K xs 1)) (c.is_among-in-ArrayIntMinimum.ensures K (record { low = h.low.1.0; high = h.high.1.0 }) (int_at K xs 0) (c.number-in-ArrayIntMinimum.ensures K (record { low = h.low.0; high = h.high.0 }))) (c.all_are-in-ArrayIntMinimum.ensures K (record { low = h.low.0; high = h.high.0 }) (record { low = h.low.1.0; high = h.high.1.0 })))
 
-pub returns-in-FznAllDifferentInt : goal.returns-in-FznAllDifferentInt
-unfolding row_at
-returns-in-FznAllDifferentInt c = at_row c.args.at.now c.args.builtin builtin.FznAllDifferentInt c.all_different.result c.in-FznAllDifferentInt.is (λ K h.
-    c.all_different.ensures K (record { low = h.low.0; high = h.high.0 }))
-
 pub returns-in-FznCountEq : goal.returns-in-FznCountEq
 unfolding row_at
 returns-in-FznCountEq c = at_row c.args.at.now c.args.builtin builtin.FznCountEq c.equal-in-FznCountEq.result c.in-FznCountEq.is (λ K h.
@@ -380,13 +378,15 @@ returns-in-FznCumulative c = at_row c.args.at.now c.args.builtin builtin.FznCumu
 
 pub returns-in-FznDisjunctive : goal.returns-in-FznDisjunctive
 unfolding row_at
-returns-in-FznDisjunctive c = at_row c.args.at.now c.args.builtin builtin.FznDisjunctive c.is_disjunctive.result c.in-FznDisjunctive.is (λ K h.
-    c.is_disjunctive.ensures K (record { low = h.low.0; high = h.high.0 }) (record { low = h.low.1.0; high = h.high.1.0 }))
+returns-in-FznDisjunctive c = at_row c.args.at.now c.args.builtin builtin.FznDisjunctive c.and-in-FznDisjunctive.result c.in-FznDisjunctive.is (λ K h.
+    let spans = zip (ints_at K (given c.args.at.now) 0) (ints_at K (given c.args.at.now) 1) in
+    c.and-in-FznDisjunctive.ensures (last_naturally spans) (all_pairs (keep_apart true) spans) (c.last_naturally.ensures K (record { low = h.low.0; high = h.high.0 }) (record { low = h.low.1.0; high = h.high.1.0 })) (c.keep_all_apart.ensures K (record { low = h.low.0; high = h.high.0 }) (record { low = h.low.1.0; high = h.high.1.0 })))
 
 pub returns-in-FznDisjunctiveStrict : goal.returns-in-FznDisjunctiveStrict
 unfolding row_at
-returns-in-FznDisjunctiveStrict c = at_row c.args.at.now c.args.builtin builtin.FznDisjunctiveStrict c.is_disjunctive-in-FznDisjunctiveStrict.result c.in-FznDisjunctiveStrict.is (λ K h.
-    c.is_disjunctive-in-FznDisjunctiveStrict.ensures K (record { low = h.low.0; high = h.high.0 }) (record { low = h.low.1.0; high = h.high.1.0 }))
+returns-in-FznDisjunctiveStrict c = at_row c.args.at.now c.args.builtin builtin.FznDisjunctiveStrict c.and-in-FznDisjunctiveStrict.result c.in-FznDisjunctiveStrict.is (λ K h.
+    let spans = zip (ints_at K (given c.args.at.now) 0) (ints_at K (given c.args.at.now) 1) in
+    c.and-in-FznDisjunctiveStrict.ensures (last_naturally spans) (all_pairs (keep_apart false) spans) (c.last_naturally-in-FznDisjunctiveStrict.ensures K (record { low = h.low.0; high = h.high.0 }) (record { low = h.low.1.0; high = h.high.1.0 })) (c.keep_all_apart-in-FznDisjunctiveStrict.ensures K (record { low = h.low.0; high = h.high.0 }) (record { low = h.low.1.0; high = h.high.1.0 })))
 
 pub returns-in-FznMemberInt : goal.returns-in-FznMemberInt
 unfolding row_at
@@ -466,3 +466,60 @@ unfolding row_at
 returns-in-FznAmong c = at_row c.args.at.now c.args.builtin builtin.FznAmong c.equal-in-FznAmong.result c.in-FznAmong.is (λ K h.
     let xs = given c.args.at.now in
     c.equal-in-FznAmong.ensures (int_at K xs 0) (count_in (ints_at K xs 1) (set_at K xs 2)) (c.number-in-FznAmong.ensures K (record { low = h.low.0; high = h.high.0 })) (c.count_in.ensures K (record { low = h.low.1.0; high = h.high.1.0 }) (record { low = h.low.1.1.0; high = h.high.1.1.0 })))
+
+pub returns-in-FznKnapsack : goal.returns-in-FznKnapsack
+unfolding row_at
+returns-in-FznKnapsack c = at_row c.args.at.now c.args.builtin builtin.FznKnapsack c.fills_knapsack.result c.in-FznKnapsack.is (λ K h.
+    c.fills_knapsack.ensures K (record { low = h.low.0; high = h.high.0 }) (record { low = h.low.1.0; high = h.high.1.0 }) (record { low = h.low.1.1.0; high = h.high.1.1.0 }) (record { low = h.low.1.1.1.0; high = h.high.1.1.1.0 }) (record { low = h.low.1.1.1.1.0; high = h.high.1.1.1.1.0 }))
+
+pub returns-in-GecodeScheduleUnary : goal.returns-in-GecodeScheduleUnary
+unfolding row_at
+returns-in-GecodeScheduleUnary c = at_row c.args.at.now c.args.builtin builtin.GecodeScheduleUnary c.keep_all_apart-in-GecodeScheduleUnary.result c.in-GecodeScheduleUnary.is (λ K h.
+    c.keep_all_apart-in-GecodeScheduleUnary.ensures K (record { low = h.low.0; high = h.high.0 }) (record { low = h.low.1.0; high = h.high.1.0 }))
+
+pub returns-in-FznDiffn : goal.returns-in-FznDiffn
+unfolding row_at
+returns-in-FznDiffn c = at_row c.args.at.now c.args.builtin builtin.FznDiffn c.boxes_keep_apart.result c.in-FznDiffn.is (λ K h.
+    c.boxes_keep_apart.ensures K (record { low = h.low.0; high = h.high.0 }) (record { low = h.low.1.0; high = h.high.1.0 }) (record { low = h.low.1.1.0; high = h.high.1.1.0 }) (record { low = h.low.1.1.1.0; high = h.high.1.1.1.0 }))
+
+pub returns-in-FznDiffnNonstrict : goal.returns-in-FznDiffnNonstrict
+unfolding row_at
+returns-in-FznDiffnNonstrict c = at_row c.args.at.now c.args.builtin builtin.FznDiffnNonstrict c.boxes_keep_apart-in-FznDiffnNonstrict.result c.in-FznDiffnNonstrict.is (λ K h.
+    c.boxes_keep_apart-in-FznDiffnNonstrict.ensures K (record { low = h.low.0; high = h.high.0 }) (record { low = h.low.1.0; high = h.high.1.0 }) (record { low = h.low.1.1.0; high = h.high.1.1.0 }) (record { low = h.low.1.1.1.0; high = h.high.1.1.1.0 }))
+
+pub returns-in-GecodeNooverlap : goal.returns-in-GecodeNooverlap
+unfolding row_at
+returns-in-GecodeNooverlap c = at_row c.args.at.now c.args.builtin builtin.GecodeNooverlap c.boxes_keep_apart-in-GecodeNooverlap.result c.in-GecodeNooverlap.is (λ K h.
+    c.boxes_keep_apart-in-GecodeNooverlap.ensures K (record { low = h.low.0; high = h.high.0 }) (record { low = h.low.1.1.0; high = h.high.1.1.0 }) (record { low = h.low.1.0; high = h.high.1.0 }) (record { low = h.low.1.1.1.0; high = h.high.1.1.1.0 }))
+
+pub returns-in-FznTableInt : goal.returns-in-FznTableInt
+unfolding row_at
+returns-in-FznTableInt c = at_row c.args.at.now c.args.builtin builtin.FznTableInt c.is_row_of.result c.in-FznTableInt.is (λ K h.
+    c.is_row_of.ensures K (record { low = h.low.0; high = h.high.0 }) (record { low = h.low.1.0; high = h.high.1.0 }))
+
+pub returns-in-FznLexLessInt : goal.returns-in-FznLexLessInt
+unfolding row_at
+returns-in-FznLexLessInt c = at_row c.args.at.now c.args.builtin builtin.FznLexLessInt c.comes_before.result c.in-FznLexLessInt.is (λ K h.
+    c.comes_before.ensures K (record { low = h.low.0; high = h.high.0 }) (record { low = h.low.1.0; high = h.high.1.0 }))
+
+pub returns-in-FznLexLesseqInt : goal.returns-in-FznLexLesseqInt
+unfolding row_at
+returns-in-FznLexLesseqInt c = at_row c.args.at.now c.args.builtin builtin.FznLexLesseqInt c.negated-in-FznLexLesseqInt.result c.in-FznLexLesseqInt.is (λ K h.
+    c.negated-in-FznLexLesseqInt.ensures (comes (ints_at K (given c.args.at.now) 1) (ints_at K (given c.args.at.now) 0)) (c.comes_before-in-FznLexLesseqInt.ensures K (record { low = h.low.1.0; high = h.high.1.0 }) (record { low = h.low.0; high = h.high.0 })))
+
+pub returns-in-FznLexLessBool : goal.returns-in-FznLexLessBool
+unfolding row_at
+returns-in-FznLexLessBool c = at_row c.args.at.now c.args.builtin builtin.FznLexLessBool c.comes_before-in-FznLexLessBool.result c.in-FznLexLessBool.is (λ K h.
+    subst (Decides c.comes_before-in-FznLexLessBool.result) (sym (truths_come (bools_at K (given c.args.at.now) 0) (bools_at K (given c.args.at.now) 1))) (c.comes_before-in-FznLexLessBool.ensures K (record { low = h.low.0; high = h.high.0 }) (record { low = h.low.1.0; high = h.high.1.0 })))
+
+pub returns-in-FznLexLesseqBool : goal.returns-in-FznLexLesseqBool
+unfolding row_at
+returns-in-FznLexLesseqBool c = at_row c.args.at.now c.args.builtin builtin.FznLexLesseqBool c.negated-in-FznLexLesseqBool.result c.in-FznLexLesseqBool.is (λ K h.
+    let bs = bools_at K (given c.args.at.now) 0 in
+    let cs = bools_at K (given c.args.at.now) 1 in
+    subst (λ b. Decides c.negated-in-FznLexLesseqBool.result (not b)) (sym (truths_come cs bs)) (c.negated-in-FznLexLesseqBool.ensures (comes (map as_number cs) (map as_number bs)) (c.comes_before-in-FznLexLesseqBool.ensures K (record { low = h.low.1.0; high = h.high.1.0 }) (record { low = h.low.0; high = h.high.0 }))))
+
+pub returns-in-InverseOffsets : goal.returns-in-InverseOffsets
+unfolding row_at
+returns-in-InverseOffsets c = at_row c.args.at.now c.args.builtin builtin.InverseOffsets c.are_inverse.result c.in-InverseOffsets.is (λ K h.
+    c.are_inverse.ensures K (record { low = h.low.0; high = h.high.0 }) (record { low = h.low.1.0; high = h.high.1.0 }) (record { low = h.low.1.1.0; high = h.high.1.1.0 }) (record { low = h.low.1.1.1.0; high = h.high.1.1.1.0 }))

@@ -1,20 +1,7 @@
-use Rattle.std.proofs.Common.{◌∙◌, ◌<◌, FitsSigned, Some, ap, length, w64, arith, rules}
-use Rattle.std.proofs.lemmas.Int.{to_z-of_z}
-use Rattle.fz_model.specs.of_builtins.of_kernel.Given.{ints_at, slots_at}
-use Rattle.fz_bounds.specs.Within.{given}
-use Rattle.fz_model.proofs.of_builtins.Failing.{clash}
-use Rattle.fz_bounds.proofs.Lists.{is_there}
 use Rattle.fz_bounds.proofs.bounded.BoundedConstraint.all_different.Goals as goal
 
 pub returns-then-are_crowded : goal.returns-then-are_crowded
-returns-then-are_crowded c = λ K h. c.are_crowded.ensures (search rules) K h
+returns-then-are_crowded c = λ K f. c.are_crowded.ensures c.if-are_crowded.true K f
 
-pub returns-then-stands_before : goal.returns-then-stands_before
-returns-then-stands_before c = λ K h.
-    let xs = given c.args.self.now in
-    let place = c.loop-place.place in
-    let within : place < length (slots_at xs 0) = omega arith in
-    let (n, at) = is_there K xs 0 place within in
-    let (p, before, also) = c.stands_before.ensures (search rules) K h in
-    let fits : FitsSigned w64 c.in-Some.number = search rules in
-    clash (ints_at K xs 0) p place c.in-Some.number before (also ∙ ap Some (to_z-of_z w64 c.in-Some.number fits)) (at ∙ ap Some (c.in-Some.ensures K h n at))
+pub returns-then-repeated : goal.returns-then-repeated
+returns-then-repeated c = λ K f. c.in_ok-repeated.ensures c.if-repeated.true K f

@@ -1,5 +1,5 @@
 use Rattle.std.proofs.Common.{◌&&◌, ◌||◌}
-use Rattle.fz_model.specs.Relations.{are_apart, ends_before, is_empty_span}
+use Rattle.fz_model.specs.Relations.{are_apart, is_empty_span}
 use Rattle.fz_bounds.proofs.bounded.BoundedConstraint.keep_apart.Goals as goal
 
 pub returns : goal.returns
@@ -8,4 +8,4 @@ returns c = λ K f g s d t e at_s at_d at_t at_e.
     let empty = is_empty_span (s, d) || is_empty_span (t, e) in
     c.or.ensures (spare && empty) (are_apart (s, d) (t, e))
     (c.and.ensures spare empty c.of.ensures (c.or-empty.ensures (is_empty_span (s, d)) (is_empty_span (t, e)) (c.is_empty.ensures K g d at_d) (c.is_empty-2.ensures K g e at_e)))
-    (c.or-apart.ensures (ends_before (s, d) (t, e)) (ends_before (t, e) (s, d)) (c.ends_before.ensures K f g s d t at_s at_d at_t) (c.ends_before-2.ensures K f g t e s at_t at_e at_s))
+    (c.are_apart.ensures K f g s d t e at_s at_d at_t at_e)

@@ -7,6 +7,6 @@ use Rattle.fz_bounds.proofs.Added.{IsSoFar}
 use Rattle.fz_bounds.proofs.bounded.BoundedConstraint.sum_of_products.Given as goal
 
 abbrev pub invariant-loop-place : goal.invariant-loop-place
-invariant-loop-place l = (K : Partial) → NumbersLie l.self 0 K → NumbersLie l.self 1 K
-    → IsSoFar (total (products (ints_at K (given l.self) 0) (ints_at K (given l.self) 1)))
-    (total (products (drop l.place (ints_at K (given l.self) 0)) (drop l.place (ints_at K (given l.self) 1)))) l.sum
+invariant-loop-place l = (K : Partial) → NumbersLie l.self l.factors K → NumbersLie l.self l.array K
+    → IsSoFar (total (products (ints_at K (given l.self) l.factors) (ints_at K (given l.self) l.array)))
+    (total (products (drop l.place (ints_at K (given l.self) l.factors)) (drop l.place (ints_at K (given l.self) l.array)))) l.sum
