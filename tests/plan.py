@@ -173,11 +173,12 @@ def checked(place, what, plan, status, report, told, *words):
 def endings(place):
     plan = kept("plan.dzn")
     cut = plan.index("start"), plan.index("tool")
-    checked(place, "cut", plan[: cut[1]], 3, [f"cut: {cut[0]}..{cut[1]}", "no blocks"],
-            ("put one at its end",))
+    checked(place, "cut", plan[: cut[1]], 3, [f'cut: {cut[0]}..{cut[1]}, from "{plan[cut[0] : plan.index(chr(10), cut[0])][:60]}"',
+             "no blocks"], ("put one at its end",))
     stream = kept("plan.jsonl")
+    begins = stream.index("\n") + 1
     checked(place, "a cut message", stream[:500], 3,
-            [f"cut: {stream.index(chr(10)) + 1}..500", "no blocks"], ())
+            [f'cut: {begins}..500, from "{stream[begins : begins + 60]}"', "no blocks"], ())
     checked(place, "unsatisfiable", '{"type": "status", "status": "UNSATISFIABLE"}\n', 3,
             ["claim: =====UNSATISFIABLE===== not judged", "no blocks"], ())
     checked(place, "an error", '{"type": "error", "message": "too bad"}\n', 3, ["no blocks"],
