@@ -25,7 +25,8 @@ fzcheck check [--large] [--complete] [--complete-steps N] [--cut] [--claims[=pro
                 place of 4,000,000, of which a claim may take ten times as many, and 100 more for
                 each point of the model and each scalar in it
     --cut       where the stream ends inside a block, as that of a solver does that was killed,
-                judges what comes before that block, and tells the byte range of what it left out
+                judges what comes before that block, and tells the byte range and the first bytes
+                of what it left out; only the block's end may be missing
     --claims    judges claims on the whole search as far as a satisfied block refutes them: that
                 there is no solution, or none better than the last one
     --claims=prove

@@ -71,8 +71,6 @@ class Told:
     def report_line(self, found: Object) -> str:
         if "verdict" in found:
             return self.verdict(found)
-        if "cut" in found:
-            return 'cut: {}..{}, from "{}"'.format(*found["cut"], found["from"])
         if "answer" in found and "why" in found:
             return f"{found['answer']}: {found['why']}"
         if "not_checked" in found:
