@@ -61,8 +61,8 @@ def second(model: bytes, stream: bytes) -> Optional[Answer]:
 
 
 def second_cut(model: bytes, stream: bytes) -> Optional[Answer]:
-    """The same with --cut: where only the end of the last block is missing, what is said of the bytes
-    before it."""
+    """The same with --cut: where only the end of the last block is missing, what is said of the
+    bytes before it."""
     want = second(model, stream)
     unfinished = rb"refused: stream: Unfinished at (\d+)\.\.(\d+)\n"
     opened = re.fullmatch(unfinished, want[2]) if want else None
