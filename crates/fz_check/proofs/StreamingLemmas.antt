@@ -4,7 +4,6 @@ use Rattle.std.specs.Prelude.{IfOk, IfErr, OnOk, OnErr, Result, Ok, Err}
 use Rattle.std.proofs.lemmas.Result.{IfErr-weaker, IfOk-weaker}
 use Rattle.std.proofs.KnownBytes.{Appends-nil, Consumes-nil, Consumes-trans}
 use Rattle.std.specs.Io.KnownBytes.{Appends, Consumes, IsAtEnd}
-use Rattle.fz_filling.specs.of_syntax.Limits.{Limits}
 use Rattle.fz_search.specs.of_model.Meaning.{Model}
 use Rattle.fz_search.specs.of_model.Texts.{IsLoadedFromWithin}
 use Rattle.fz_filling.specs.of_stream.declared.splitter.Stage.TheVariants.{Running, Finished}
@@ -418,20 +417,22 @@ module _ (o : Options) (text : Event → List ℕ → Type 0) (m : Model) (reads
 
 -- ---- of the text that a model was loaded from
 
-pub accepted_of : (limits : Limits) (source : List ℕ) (m : Model) → IsLoadedFromWithin limits source m
-    → (r : Result the_answer.Answer CheckError)
-    → (P : ℕ → List ℕ → Model → Type 0)
-    → IfOk r (λ a. (count : ℕ) → a ≡ answers.Accepted count → (from : List ℕ)
-    → IsLoadedFromWithin limits from m → P count from m)
-    → IfOk r (λ a. (count : ℕ) → a ≡ answers.Accepted count
-    → HoldsOfModelWithin limits source (P count source))
-accepted_of limits source m loaded r P h =
-    IfOk-weaker r _ _ (λ a f count is. record { m = m; loaded = loaded; holds = f count is source loaded }) h
+module _ (o : Options) (source : List ℕ) (m : Model) (loaded : IsLoadedFromWithin o.limits source m) (left left' : Option (List ℕ)) (r : Result the_answer.Answer CheckError) where
+  pub accepted_of : IfOk r (λ a. (count : ℕ) → a ≡ answers.Accepted count
+      → (from : List ℕ) → IsLoadedFromWithin o.limits from m → HoldsOfStream left left'
+      (λ given. HoldsOfJudged o.limits o.ending m given (λ front _. HasSolutionsWithin o.limits from front count)))
+      → IfOk r (λ a. (count : ℕ) → a ≡ answers.Accepted count
+      → HoldsOfModelWithin o.limits source (λ n. HoldsOfStream left left'
+      (λ given. HoldsOfJudged o.limits o.ending n given (λ front _. HasSolutionsWithin o.limits source front count))))
+  accepted_of h =
+      IfOk-weaker r _ _ (λ a f count is. record { m = m; loaded = loaded; holds = f count is source loaded }) h
 
-pub reported_of : (limits : Limits) (source : List ℕ) (m : Model) → IsLoadedFromWithin limits source m
-    → (r : Result the_answer.Answer CheckError)
-    → (P : the_answer.Answer → List ℕ → Model → Type 0)
-    → IfOk r (λ a. (from : List ℕ) → IsLoadedFromWithin limits from m → P a from m)
-    → IfOk r (λ a. HoldsOfModelWithin limits source (P a source))
-reported_of limits source m loaded r P h =
-    IfOk-weaker r _ _ (λ a f. record { m = m; loaded = loaded; holds = f source loaded }) h
+  pub reported_of : (text : Event → List ℕ → Type 0) (w w' : Option (List ℕ))
+      → IfOk r (λ a. (from : List ℕ) → IsLoadedFromWithin o.limits from m
+      → HoldsOfStream left left' (λ given. HoldsOfJudged o.limits o.ending m given
+      (λ front cut. IsReportedWith o cut text from front w w' (answer_view a))))
+      → IfOk r (λ a. HoldsOfModelWithin o.limits source
+      (λ n. HoldsOfStream left left' (λ given. HoldsOfJudged o.limits o.ending n given
+      (λ front cut. IsReportedWith o cut text source front w w' (answer_view a)))))
+  reported_of text w w' h =
+      IfOk-weaker r _ _ (λ a f. record { m = m; loaded = loaded; holds = f source loaded }) h

@@ -1,7 +1,7 @@
 //! The lines of a report, one at a time.
 
-ghost use Rattle.std.specs.Prelude.{◌≡◌, ◌++◌, ◌∷◌, [], IfOk, OnOk, codes, decimal};
-ghost use Rattle.fz_check.specs.Report.{claim_text, event_line, is_shown, nodes_text, place_text, refuter_text, shown_front, verdict_text};
+ghost use Rattle.std.specs.Prelude.{◌≡◌, ◌++◌, ◌∷◌, [], IfOk, OnOk, codes, decimal, take};
+ghost use Rattle.fz_check.specs.Report.{claim_text, event_line, is_shown, most_shown, nodes_text, place_text, refuter_text, shown_front, verdict_text};
 ghost use Rattle.std.specs.List.{prefix_len};
 ghost use Rattle.fz_check.specs.Report.Event.{Answered, Claimed, CutOff, Judged, Proved, Refuted};
 ghost use Rattle.fz_filling.specs.View.{verdict_view};
@@ -199,12 +199,22 @@ fn shown_len(text: &[u8]) -> usize
     text.len()
 }
 
+/// The first 60 bytes of a text.
+fn first_bytes(text: &[u8]) -> &[u8]
+    ensures { result.now ≡ take most_shown text.now }
+{
+    if text.len() < MOST_SHOWN {
+        text
+    } else {
+        &text[..MOST_SHOWN]
+    }
+}
+
 /// What is shown of a text that is cut off: its first 60 bytes, up to the end of the line.
 pub fn shown_front(text: &[u8]) -> &[u8]
     ensures { result.now ≡ shown_front text.now }
 {
-    let most = if text.len() < MOST_SHOWN { text.len() } else { MOST_SHOWN };
-    let front = &text[..most];
+    let front = first_bytes(text);
     &front[..shown_len(front)]
 }
 

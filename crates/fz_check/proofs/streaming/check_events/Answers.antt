@@ -4,11 +4,11 @@ use Rattle.fz_check.proofs.streaming.check_events.Goals as goal
 
 pub returns-clause-accepted : goal.returns-clause-accepted
 returns-clause-accepted g c =
-    accepted_of c.args.options.limits c.args.model.now c.in-Ok.loaded c.in-Ok.ensures.loaded c.check_loaded.result _ c.check_loaded.ensures.accepted
+    accepted_of c.args.options c.args.model.now c.in-Ok.loaded c.in-Ok.ensures.loaded _ _ c.check_loaded.result c.check_loaded.ensures.accepted
 
 pub returns-clause-report : goal.returns-clause-report
 returns-clause-report g c =
-    reported_of c.args.options.limits c.args.model.now c.in-Ok.loaded c.in-Ok.ensures.loaded c.check_loaded.result _ c.check_loaded.ensures.report
+    reported_of c.args.options c.args.model.now c.in-Ok.loaded c.in-Ok.ensures.loaded _ _ c.check_loaded.result g.T.Taker.text _ _ c.check_loaded.ensures.report
 
 pub returns-clause-refused : goal.returns-clause-refused
 returns-clause-refused g c =

@@ -114,20 +114,20 @@ returns-in-Err-cut_off-clause-refused g c =
     living_unread c.loop-parts.invariant c.in-Err-cut_off.error
     (opened_uncut c.args.options c.args.model.now _ _ _ _ c.left_open.ensures (c.advance.ensures.left_open c.in-Ok-Open.span is _) c.in-Err-cut_off.error c.in-Err-cut_off.ensures.refused)
 
-pub returns-in-Ok-cut_off-clause-stands : goal.returns-in-Ok-cut_off-clause-stands
-returns-in-Ok-cut_off-clause-stands g c =
+pub returns-in-Ok-Open-clause-stands : goal.returns-in-Ok-Open-clause-stands
+returns-in-Ok-Open-clause-stands g c =
     let is : c.advance.result ≡ Ok (steps.Open c.in-Ok-Open.span) = search rules in
     living_ended c.loop-parts.invariant (Some c.in-Ok-cut_off.cut)
-    (opened_cut c.args.options c.args.model.now _ _ _ _ c.left_open.ensures (c.advance.ensures.left_open c.in-Ok-Open.span is _) c.in-Ok-cut_off.cut c.in-Ok-cut_off.ensures.cut) _ c.answer.ensures _ c.tell_end.result
-    c.tell_end.ensures.told c.tell_end.ensures.unchanged
+    (opened_cut c.args.options c.args.model.now _ _ _ _ c.left_open.ensures (c.advance.ensures.left_open c.in-Ok-Open.span is _) c.in-Ok-cut_off.cut c.in-Ok-cut_off.ensures.cut) _ c.answer-in-Ok-Open.ensures _ c.tell_end-in-Ok-Open.result
+    c.tell_end-in-Ok-Open.ensures.told c.tell_end-in-Ok-Open.ensures.unchanged
 
-pub returns-in-Ok-cut_off-clause-answered : goal.returns-in-Ok-cut_off-clause-answered
-returns-in-Ok-cut_off-clause-answered g c =
+pub returns-in-Ok-Open-clause-answered : goal.returns-in-Ok-Open-clause-answered
+returns-in-Ok-Open-clause-answered g c =
     let is : c.advance.result ≡ Ok (steps.Open c.in-Ok-Open.span) = search rules in
     living_answered c.loop-parts.invariant (Some c.in-Ok-cut_off.cut)
-    (opened_cut c.args.options c.args.model.now _ _ _ _ c.left_open.ensures (c.advance.ensures.left_open c.in-Ok-Open.span is _) c.in-Ok-cut_off.cut c.in-Ok-cut_off.ensures.cut) _ c.answer.ensures _ c.tell_end.result
-    c.tell_end.ensures.told c.tell_end.ensures.answer (c.advance.ensures.found_open c.in-Ok-Open.span is)
+    (opened_cut c.args.options c.args.model.now _ _ _ _ c.left_open.ensures (c.advance.ensures.left_open c.in-Ok-Open.span is _) c.in-Ok-cut_off.cut c.in-Ok-cut_off.ensures.cut) _ c.answer-in-Ok-Open.ensures _ c.tell_end-in-Ok-Open.result
+    c.tell_end-in-Ok-Open.ensures.told c.tell_end-in-Ok-Open.ensures.answer (c.advance.ensures.found_open c.in-Ok-Open.span is)
 
-pub returns-in-Ok-cut_off-clause-refused : goal.returns-in-Ok-cut_off-clause-refused
-returns-in-Ok-cut_off-clause-refused g c =
-    IfErr-weaker c.tell_end.result _ _ (λ e is. inl (subst IsUnwritten (sym is) tt)) c.tell_end.ensures.kinds
+pub returns-in-Ok-Open-clause-refused : goal.returns-in-Ok-Open-clause-refused
+returns-in-Ok-Open-clause-refused g c =
+    IfErr-weaker c.tell_end-in-Ok-Open.result _ _ (λ e is. inl (subst IsUnwritten (sym is) tt)) c.tell_end-in-Ok-Open.ensures.kinds
