@@ -139,7 +139,7 @@ module _ {limits : Limits} (old : ReaderState) (s : SplitterState) (same : old.s
       let lines : holds.lines ≡ before ++ holds.body = holds.covers.whole ∙ sym (append_assoc holds.covers.covered holds.gap holds.body) in (
         joined before,
         holds.whole ∙ ap (λ l. joined l ++ holds.current) lines ∙ ap (λ l. l ++ holds.current) (joined-append before holds.body)
-        ∙ append_assoc (joined before) (joined holds.body) holds.current ∙ ap (λ l. joined before ++ l) (sym holds.held_are),
+            ∙ append_assoc (joined before) (joined holds.body) holds.current ∙ ap (λ l. joined before ++ l) (sym holds.held_are),
       )
 
   pub ended_open : (e : StreamError) → IsBrokenAtEndAfter limits given parts e → BeginsWithHeld s e

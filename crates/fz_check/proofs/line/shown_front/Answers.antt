@@ -1,5 +1,5 @@
 use Rattle.std.proofs.Common.{◌∙◌, ap, take}
-use Rattle.std.specs.List.{prefix_len, take_while}
+use Rattle.std.specs.List.{take_while}
 use Rattle.fz_check.specs.Report.{is_shown}
 use Rattle.fz_check.proofs.line.shown_front.Goals as goal
 
