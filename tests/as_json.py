@@ -105,7 +105,7 @@ class Report:
                 if not self.out[-1].startswith("claim after"):
                     self.expect(it["after"], len(self.places), "after")
             elif "cut" in it:
-                self.out.append("cut: {}..{}".format(*it["cut"]))
+                self.out.append(f"cut: {lines.cut_words(it)}")
             elif "answer" in it:
                 self.out.append(lines.answer_line(it))
                 self.expect([it["blocks"], *map(it.get, VERDICTS)], self.counts(), "counts")

@@ -144,7 +144,7 @@ def stream_of(text, model):
 
 def random_texts(rand, model):
     """Each text has a stream of items and lines, or is refused; what is cut off never is."""
-    line = re.compile(r"-{10}|={5,10}\w*=*|\w+ = [^;\n]*;")
+    lines = re.compile(r"(?:(?:-{10}|={5,10}\w*=*|\w+ = [^;\n]*;)\n)*-?")
     for number in range(TEXTS):
         text = kept(rand.choice((*FORMS, "stream")))
         if number % 4 == 0:
@@ -158,8 +158,7 @@ def random_texts(rand, model):
         if stream is None:
             expect(f"text {number}: {found}", True, number % 4 != 0)
         else:
-            expect(f"text {number}: {stream}", [],
-                   [one for one in stream.splitlines() if not line.fullmatch(one)])
+            expect(f"text {number}: {stream}", True, bool(lines.fullmatch(stream)))
 
 
 def checked(place, what, plan, status, report, told, *words):
@@ -173,11 +172,13 @@ def checked(place, what, plan, status, report, told, *words):
 def endings(place):
     plan = kept("plan.dzn")
     cut = plan.index("start"), plan.index("tool")
-    checked(place, "cut", plan[: cut[1]], 3, [f"cut: {cut[0]}..{cut[1]}", "no blocks"],
-            ("put one at its end",))
+    shown = plan[cut[0] : cut[0] + 60].splitlines()[0]
+    told = f'cut: {cut[0]}..{cut[1]}, from "{shown}"'
+    checked(place, "cut", plan[: cut[1]], 3, [told, "no blocks"], ("put one at its end",))
     stream = kept("plan.jsonl")
+    begins = stream.index("\n") + 1
     checked(place, "a cut message", stream[:500], 3,
-            [f"cut: {stream.index(chr(10)) + 1}..500", "no blocks"], ())
+            [f'cut: {begins}..500, from "{stream[begins : begins + 60]}"', "no blocks"], ())
     checked(place, "unsatisfiable", '{"type": "status", "status": "UNSATISFIABLE"}\n', 3,
             ["claim: =====UNSATISFIABLE===== not judged", "no blocks"], ())
     checked(place, "an error", '{"type": "error", "message": "too bad"}\n', 3, ["no blocks"],

@@ -392,6 +392,24 @@ def try_packed(place: Place) -> None:
         expect(solver, ("refused", words), (found[solver][0], found[solver][1][: len(words)]))
 
 
+def try_rubbish(place: Place) -> None:
+    """What isn't the front of a stream is refused with --cut too, and the front of one isn't."""
+    place.model("least", LEAST)
+    uploads = {
+        "noise": bytes(range(128, 256)) * 1000, "stranger": b"queens = 5;\nqueens = ",
+        "trace": b"at java.base/java.util.ArrayList.get(ArrayList.java:427)\n" * 1000,
+        "crash": block(4).encode() + b"Segmentation fault (core dumped)\n",
+    }
+    for solver, upload in {**uploads, "cut": block(4).encode() + b"x = ", "empty": b""}.items():
+        place.stream(solver, "least", "")
+        (place.folder / "streams" / solver / "least.out").write_bytes(upload)
+    place.run(*place.words("results", "--cut"))
+    found = {solver: it[0] for (_, solver), it in place.outcomes("results").items()}
+    expect("rubbish with --cut", {**dict.fromkeys(uploads, "refused"), "cut": "accepted",
+                                  "empty": "no blocks"}, found)
+    expect("what was cut", '18..22, from "x = "', place.table("results")["least", "cut"]["cut"])
+
+
 def try_words(place: Place) -> None:
     """Help and the version are no fault, and a wrong word is told the nearest right one."""
     for words, told in ((("--help",), "run|report|merge"),
@@ -428,7 +446,7 @@ def main() -> int:
         failing.chmod(0o755)
         (pathlib.Path(folder) / "season").mkdir()
         try_states(Place(f"{folder}/season", str(failing)))
-    for trial in (try_scores, try_size, try_packed, try_words):
+    for trial in (try_scores, try_size, try_packed, try_rubbish, try_words):
         with tempfile.TemporaryDirectory() as folder:
             trial(Place(folder, program))
     with tempfile.TemporaryDirectory() as folder:

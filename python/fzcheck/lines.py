@@ -26,7 +26,7 @@ def report_lines(objects: Iterable[Object], tells_file: bool = False) -> List[st
         elif "claim" in it:
             found.append(claim_line(it, tells_file))
         elif "cut" in it:
-            found.append("cut: {}..{}".format(*it["cut"]))
+            found.append(f"cut: {cut_words(it)}")
         elif "answer" in it:
             found.append(answer_line(it))
     return found
@@ -54,6 +54,11 @@ def claim_line(it: Object, tells_file: bool = False) -> str:
     if refuted["block"] > it["after"]:
         line = f"claim after block {it['after']}: {it['claim']}"
     return f"{line} refuted by block {refuted['block']}"
+
+
+def cut_words(it: Object) -> str:
+    """The byte range that was cut off, and the front of its text."""
+    return '{}..{}, from "{}"'.format(*it["cut"], it["from"])
 
 
 def answer_line(it: Object) -> str:

@@ -8,6 +8,7 @@ from running import ROOT, Answer
 
 sys.path.insert(0, os.path.join(ROOT, "tests", "corpus"))
 import slow
+from short import is_short
 
 __all__ = ["slow"]
 
@@ -60,17 +61,27 @@ def second(model: bytes, stream: bytes) -> Optional[Answer]:
 
 
 def second_cut(model: bytes, stream: bytes) -> Optional[Answer]:
-    """The same with --cut: where the end is inside a block, what is said of the bytes before it."""
+    """The same with --cut: where only the end of the last block is missing, what is said of the
+    bytes before it."""
     want = second(model, stream)
     unfinished = rb"refused: stream: Unfinished at (\d+)\.\.(\d+)\n"
     opened = re.fullmatch(unfinished, want[2]) if want else None
     if not opened or b"\n" in stream[int(opened[2]) :]:
         return want  # behind the block is a claim's line, with its LF
-    front = second(model, stream[: int(opened[1])])
+    before, text = stream[: int(opened[1])], stream[int(opened[1]) :]
+    if not is_short(slow.Model(model).names, text.decode("latin-1")):
+        return want
+    front = second(model, before)
     assert front
     status, out, err = front
     *lines, answer = out.splitlines(True)
-    return status, b"".join([*lines, b"cut: %b..%b\n" % opened.groups(), answer]), err
+    told = b'cut: %b..%b, from "%b"\n' % (*opened.groups(), shown(text))
+    return status, b"".join([*lines, told, answer]), err
+
+
+def shown(text: bytes) -> bytes:
+    """What is shown of a text that is cut off."""
+    return text[: len(text) - len(re.sub(rb"^[ -~]{0,60}", b"", text))]
 
 
 def text_of(lines: List[str]) -> bytes:

@@ -14,6 +14,7 @@ from beside import (
     examples,
     second,
     second_cut,
+    shown,
 )
 from running import FOLDER, Answer, Jobs, Tally, run
 
@@ -42,7 +43,8 @@ def of_improving(n: int, cuts: bool) -> Answer:
         return 4, written, b"refused: stream: Unfinished at %d..%d\n" % (opened, n)
     if opened is not None:
         accepted = lines  # no claim is among them
-        written += b"cut: %d..%d\n" % (opened, n)
+        told = opened, n, shown(IMPROVING_STREAM[opened:n])
+        written += b'cut: %d..%d, from "%b"\n' % told
     if not accepted:
         return 3, written + b"no blocks\n", b""
     return 0, written + b"accepted: blocks %d\n" % accepted, b""

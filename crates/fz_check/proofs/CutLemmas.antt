@@ -1,6 +1,8 @@
 -- Where a stream is cut that ends inside a block, and what is judged of it.
-use Rattle.std.proofs.Common.{◌≡◌, ◌≢◌, ℕ, ◌+◌, Bool, true, false, cond, List, [], ◌∷◌, ◌++◌, length, Option, Some, None, inl, inr, ◌⊎◌, refl, sym, ap, ◌∙◌, subst, append_assoc, append-nil}
+use Rattle.std.proofs.Common.{◌≡◌, ◌≢◌, ℕ, ◌+◌, Bool, true, false, cond, List, [], ◌∷◌, ◌++◌, length, map, take, drop, Option, Some, None, inl, inr, ◌⊎◌, refl, sym, ap, ◌∙◌, subst, subst₂, append_assoc, append-nil, length-append, arith}
 use Rattle.std.proofs.lemmas.Bool.{ne_eqb, eq-eqb, cases_eq, false≢true}
+use Rattle.std.proofs.lemmas.List.{drop_at, take_at}
+use Rattle.std.specs.Io.KnownBytes.{IsAtEnd}
 use Rattle.std.specs.List.{AllByRecursion, onto_first}
 use Rattle.fz_filling.specs.of_syntax.Span.{Span}
 use Rattle.fz_filling.specs.of_stream.declared.error.StreamError.{StreamError}
@@ -8,19 +10,22 @@ use Rattle.fz_filling.specs.of_stream.declared.error.StreamError.TheVariants as 
 use Rattle.fz_filling.specs.of_stream.declared.line.LineKind.{LineKind}
 use Rattle.fz_filling.specs.of_stream.declared.line.LineKind.TheVariants.{Blank, Comment, Marker, Claim, Item}
 use Rattle.fz_filling.specs.of_stream.Broken.{BreaksAfter, CannotEnd}
-use Rattle.fz_filling.specs.of_stream.Parts.{Line, lines_of, joined, kind_of, IsFiller, IsFillerKind, IsInner, IsInnerKind, Frame, BlockFrame, ClaimFrame, StreamPart, AreBlockLines, Closes, AreLinesOfFrame, AreLinesOf, Covers, IsFramed, IsStreamTextWithin}
+use Rattle.fz_filling.specs.of_stream.Parts.{Line, lines_of, joined, kind_of, IsFiller, IsFillerKind, IsInner, IsInnerKind, Frame, BlockFrame, ClaimFrame, StreamPart, AreBlockLines, Closes, AreLinesOfFrame, AreLinesOf, Covers, IsFramed, IsStreamTextWithin, frame_of}
 use Rattle.fz_filling.specs.of_stream.Splitting.{EndsLast, EndsWithFeed}
 use Rattle.fz_filling.specs.of_stream.Telling.{IsNoneOrClaim, first_kind}
 use Rattle.fz_filling.specs.of_syntax.Limits.{Limits}
-use Rattle.fz_filling.proofs.of_stream.PartLemmas.{into_frames}
-use Rattle.fz_filling.proofs.of_stream.SplitLemmas.{lines_up_to}
+use Rattle.fz_filling.proofs.of_stream.PartLemmas.{into_frames, joined-append}
+use Rattle.fz_filling.proofs.of_stream.SplitLemmas.{joined-lines_of, lines_up_to}
+use Rattle.fz_search.specs.of_model.Meaning.{Model}
+use Rattle.fz_check.specs.declared.event.Cut as the_cut
 use Rattle.fz_check.specs.declared.options.Ending.{Ending}
 use Rattle.fz_check.specs.declared.options.Ending.TheVariants.{Whole, Cut}
 use Rattle.fz_check.specs.Cutting.{HoldsOfJudged, IsCutOff}
 use Rattle.fz_check.specs.Reading.{IsRefusedAfter, IsRefusedBy, IsRefusedInside}
 use Rattle.fz_check.specs.Report.{Event}
 use Rattle.fz_check.specs.Report.Event.{CutOff}
-use Rattle.fz_check.specs.Telling.{IsEndOf, cut_events}
+use Rattle.fz_cutting.specs.Short.{IsShort}
+use Rattle.fz_check.specs.Telling.{IsEndOf, IsLeftOpen, cut_events}
 
 -- ---- the front of a stream that is cut
 
@@ -70,6 +75,13 @@ front_ended : (bytes : List ℕ) (xs body last : List Line) → body ≢ []
 front_ended bytes xs [] last some e = absurd (some refl)
 front_ended bytes xs (y ∷ body) last some e = ended_before bytes xs y (body ++ last) e
 
+-- what a text is cut into at a place
+same_front : (a b c d : List ℕ) → a ++ b ≡ c ++ d → length a ≡ length c → a ≡ c
+same_front a b c d e n = sym (take_at a b (length c) n) ∙ ap (take (length c)) e ∙ take_at c d (length c) refl
+
+same_rest : (a b c d : List ℕ) → a ++ b ≡ c ++ d → length a ≡ length c → b ≡ d
+same_rest a b c d e n = sym (drop_at a b (length c) n) ∙ ap (drop (length c)) e ∙ drop_at c d (length c) refl
+
 module _ {limits : Limits} (given : List ℕ) (frames : List Frame) (span : Span)
     (b : BreaksAfter limits CannotEnd given frames (stream.Unfinished span)) where
   abbrev before : List Line
@@ -98,8 +110,19 @@ module _ {limits : Limits} (given : List ℕ) (frames : List Frame) (span : Span
     },
   )
 
-  pub is_cut : IsCutOff limits given front_of span
-  is_cut = record { frames = frames; breaks = b; front_is = refl }
+  -- the front has as many bytes as come before the block
+  pub front_size : length front_of ≡ span.start
+  front_size = omega (arith, b.tells.1, ap length (joined-append b.covers.covered b.gap), length-append (joined b.covers.covered) (joined b.gap))
+
+  behind_front : given ≡ front_of ++ joined (b.body ++ b.rest)
+  behind_front = sym (joined-lines_of given) ∙ ap joined lines_are ∙ joined-append before (b.body ++ b.rest)
+
+  -- it is cut off where the text is short
+  pub is_cut : (m : Model) (front text : List ℕ) → given ≡ front ++ text → length front ≡ span.start
+      → IsShort limits m text → IsCutOff limits m given front_of span text
+  is_cut m front text given_is size short =
+      let same : front_of ≡ front = same_front front_of _ front text (sym behind_front ∙ given_is) (front_size ∙ sym size) in
+      record { frames = frames; breaks = b; front_is = refl; given_is = given_is ∙ ap (λ f. f ++ text) (sym same); short = short }
 
 -- ---- a text ends outside of blocks
 
@@ -202,37 +225,70 @@ last_not_open given frames frame span ends broken =
 
 -- ---- what is judged
 
-pub holds_at_end : {limits : Limits} → (ending : Ending) (given : List ℕ) (parts : List StreamPart) (cut : Option Span)
-    (Holds : List ℕ → List Event → Type 0) → IsEndOf limits ending given parts cut
+pub holds_at_end : {limits : Limits} → (ending : Ending) (m : Model) (given : List ℕ) (parts : List StreamPart) (cut : Option the_cut.Cut)
+    (Holds : List ℕ → List Event → Type 0) → IsEndOf limits ending m given parts cut
     → ((front : List ℕ) → IsStreamTextWithin limits front parts → Holds front (cut_events cut))
-    → HoldsOfJudged limits ending given Holds
-holds_at_end Whole given parts None Holds end holds = holds given end
-holds_at_end Whole given parts (Some span) Holds end holds =
+    → HoldsOfJudged limits ending m given Holds
+holds_at_end Whole m given parts None Holds end holds = holds given end
+holds_at_end Whole m given parts (Some cut) Holds end holds =
     absurd (let no : Whole ≡ Cut = end.0 in cc)
-holds_at_end Cut given parts None Holds end holds = inl (holds given end)
-holds_at_end Cut given parts (Some span) Holds end holds =
-    inr (end.1.0, span, end.1.1, holds end.1.0 end.1.2)
+holds_at_end Cut m given parts None Holds end holds = inl (holds given end)
+holds_at_end Cut m given parts (Some cut) Holds end holds =
+    inr (end.1.0, cut.span, cut.text.now, end.1.1, holds end.1.0 end.1.2)
 
-pub if_judged : (limits : Limits) (ending : Ending) (given : List ℕ) (P Q : List ℕ → List Event → Type 0)
+pub if_judged : (limits : Limits) (ending : Ending) (m : Model) (given : List ℕ) (P Q : List ℕ → List Event → Type 0)
     → ((front : List ℕ) (cut : List Event) → P front cut → Q front cut)
-    → HoldsOfJudged limits ending given P → HoldsOfJudged limits ending given Q
-if_judged limits Whole given P Q f p = f given [] p
-if_judged limits Cut given P Q f (inl p) = inl (f given [] p)
-if_judged limits Cut given P Q f (inr p) = inr (p.0, p.1, p.2, f p.0 (CutOff p.1 ∷ []) p.3)
+    → HoldsOfJudged limits ending m given P → HoldsOfJudged limits ending m given Q
+if_judged limits Whole m given P Q f p = f given [] p
+if_judged limits Cut m given P Q f (inl p) = inl (f given [] p)
+if_judged limits Cut m given P Q f (inr p) =
+    inr (p.0, p.1, p.2, p.3, f p.0 (CutOff p.1 p.2 ∷ []) p.4)
+
+-- ---- what an end leaves open
+
+module _ {limits : Limits} (m : Model) (given : List ℕ) (parts : List StreamPart) (span : Span) (text : List ℕ) (h : IsLeftOpen limits given parts span text) where
+  -- it is cut off
+  pub cut_here : (ending : Ending) (cut : the_cut.Cut) → cut.span ≡ span → cut.text.now ≡ text
+      → ending ≡ Cut → IsShort limits m text → IsEndOf limits ending m given parts (Some cut)
+  cut_here ending cut spans texts cuts short =
+      let frames = map frame_of parts in
+      let front = front_of given frames span h.broken.1 in
+      let is : IsCutOff limits m given front span text = is_cut given frames span h.broken.1 m h.front text h.given_is h.begins short in (
+        cuts,
+        (
+          front,
+          subst₂ (λ s t. IsCutOff limits m given front s t) (sym spans) (sym texts) is,
+          record { framed = front_framed given frames span h.broken.1; items = h.broken.0 },
+        ),
+      )
+
+  -- or it isn't, however it is read
+  not_cut : (IsShort limits m text → ⊥) → (front other : List ℕ)
+      → IsCutOff limits m given front span other → ⊥
+  not_cut long front other cut =
+      let size : length front ≡ length h.front = ap length cut.front_is ∙ front_size given cut.frames span cut.breaks ∙ sym h.begins in
+      let same : other ≡ text = same_rest front other h.front text (sym cut.given_is ∙ h.given_is) size in
+      long (subst (IsShort limits m) same cut.short)
+
+  pub open_refused : (ending : Ending) (left : Option (List ℕ)) → IsAtEnd left
+      → (ending ≡ Cut → IsShort limits m text → ⊥)
+      → IsRefusedBy limits ending m left given parts (stream.Unfinished span)
+  open_refused Whole left end long = inr (end, h.broken)
+  open_refused Cut left end long = inr (end, h.broken, not_cut (long refl))
 
 -- ---- why a stream is refused
 
-pub inside_by : {limits : Limits} → (ending : Ending) (left : Option (List ℕ)) (given : List ℕ)
+pub inside_by : {limits : Limits} → (ending : Ending) (m : Model) (left : Option (List ℕ)) (given : List ℕ)
     (parts : List StreamPart) (e : StreamError) → IsRefusedInside limits given parts e
-    → IsRefusedBy limits ending left given parts e
-inside_by Whole left given parts e h = inl h
-inside_by Cut left given parts (stream.Unfinished span) h = h
-inside_by Cut left given parts _ h = inl h
+    → IsRefusedBy limits ending m left given parts e
+inside_by Whole m left given parts e h = inl h
+inside_by Cut m left given parts (stream.Unfinished span) h = inl h
+inside_by Cut m left given parts _ h = inl h
 
-pub after_by : {limits : Limits} → (ending : Ending) (left : Option (List ℕ)) (given : List ℕ)
+pub after_by : {limits : Limits} → (ending : Ending) (m : Model) (left : Option (List ℕ)) (given : List ℕ)
     (parts : List StreamPart) (e : StreamError)
     → ((span : Span) → e ≡ stream.Unfinished span → ⊥) → IsRefusedAfter limits left given parts e
-    → IsRefusedBy limits ending left given parts e
-after_by Whole left given parts e other h = h
-after_by Cut left given parts (stream.Unfinished span) other h = absurd (other span refl)
-after_by Cut left given parts _ other h = h
+    → IsRefusedBy limits ending m left given parts e
+after_by Whole m left given parts e other h = h
+after_by Cut m left given parts (stream.Unfinished span) other h = absurd (other span refl)
+after_by Cut m left given parts _ other h = h

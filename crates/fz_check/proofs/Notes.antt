@@ -1,5 +1,5 @@
 -- The plain annotation of one that was read or made.
-use Rattle.std.proofs.Common.{◌≡◌, ℕ, Bool, true, cond, List, [], ◌∷◌, ◌++◌, map, codes, sym, ap, ◌∙◌}
+use Rattle.std.proofs.Common.{◌≡◌, true, cond, [], ◌∷◌, ◌++◌, map, codes, sym, ap, ◌∙◌}
 use Rattle.std.specs.Global.{Vec}
 use Rattle.std.proofs.lemmas.List.{map-append}
 use Rattle.fz_filling.specs.of_syntax.Tree as tree

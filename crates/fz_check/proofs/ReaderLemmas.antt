@@ -9,18 +9,22 @@ use Rattle.fz_filling.specs.of_stream.declared.error.StreamError.TheVariants as 
 use Rattle.fz_filling.specs.of_stream.declared.splitter.Stage.TheVariants.{Running, Finished, Failed}
 use Rattle.fz_filling.specs.of_stream.Broken.{BreaksAfter, CannotGoOn, CannotEnd, IsBrokenAtEndAfter}
 use Rattle.fz_filling.specs.of_stream.Faults.{IsStreamFault, IsCuttingFault}
-use Rattle.fz_filling.specs.of_stream.Parts.{StreamPart, BlockPart, ClaimPart, Frame, frame_of, HasItems, Covers, IsStreamTextWithin}
-use Rattle.fz_filling.specs.of_stream.Splitting.{SplitterState, Holds, Fits, PassesLimit, EndsLast, EndsWith, IsPartOfItems, frames_in, most_taken}
+use Rattle.fz_filling.specs.of_stream.Parts.{StreamPart, BlockPart, ClaimPart, Frame, frame_of, joined, HasItems, Covers, IsStreamTextWithin}
+use Rattle.fz_filling.specs.of_stream.Splitting.{BeginsWithHeld, SplitterState, Holds, Fits, PassesLimit, EndsLast, EndsWith, IsPartOfItems, frames_in, most_taken}
 use Rattle.fz_filling.specs.of_syntax.Limits.{Limits}
-use Rattle.fz_filling.proofs.of_stream.PartLemmas.{every_append, into_frames}
+use Rattle.fz_filling.proofs.of_stream.PartLemmas.{every_append, into_frames, joined-append}
 use Rattle.fz_filling.specs.of_syntax.Span.{Span}
+use Rattle.fz_search.specs.of_model.Meaning.{Model}
 use Rattle.fz_check.specs.declared.options.Ending.{Ending}
-use Rattle.fz_check.specs.declared.options.Ending.TheVariants.{Whole, Cut}
-use Rattle.fz_check.specs.declared.reader.Step.TheVariants.{End}
+use Rattle.fz_check.specs.declared.options.Ending.TheVariants.{Cut}
+use Rattle.fz_check.specs.declared.error.CheckError.{CheckError}
+use Rattle.fz_check.specs.declared.error.CheckError.TheVariants as errors
+use Rattle.fz_check.specs.declared.reader.Step.TheVariants.{Open}
 use Rattle.fz_check.specs.Reading.{PiecesState, ReaderState, HasRead, HasEnded, WaitsInside, HasNext, StandsAt, HasNoMore, IsRefusedInside, IsRefusedBy}
 use Rattle.fz_check.specs.Streaming.{EndInside}
-use Rattle.fz_check.specs.Telling.{IsEndOf, IsUnread, broken_end, stream_refusal}
-use Rattle.fz_check.proofs.CutLemmas.{after_by, front_framed, front_of, inside_by, is_cut, last_not_open}
+use Rattle.fz_cutting.specs.Short.{IsShort}
+use Rattle.fz_check.specs.Telling.{IsLeftOpen, IsUnread, broken_end, stream_refusal}
+use Rattle.fz_check.proofs.CutLemmas.{after_by, inside_by, last_not_open, open_refused}
 
 -- what is left of a slice of the buffer
 pub pending_left : (buffer : List ℕ) (next end n : ℕ) → n ≤ length
@@ -128,6 +132,31 @@ module _ {limits : Limits} (old : ReaderState) (s : SplitterState) (same : old.s
       → IsBrokenAtEndAfter limits given parts e
   ended_broken e broken = (h.items, subst (λ (m : Limits). BreaksAfter m CannotEnd given (map frame_of parts) e) (sym (ap (λ t. t.limits) same) ∙ h.under) (broken given (map frame_of parts) all_fits))
 
+  front_and_held : (front : List ℕ) × (given ≡ front ++ s.held)
+  front_and_held =
+      let holds = all_fits.holds in
+      let before = holds.covers.covered ++ holds.gap in
+      let lines : holds.lines ≡ before ++ holds.body = holds.covers.whole ∙ sym (append_assoc holds.covers.covered holds.gap holds.body) in (
+        joined before,
+        holds.whole ∙ ap (λ l. joined l ++ holds.current) lines ∙ ap (λ l. l ++ holds.current) (joined-append before holds.body)
+            ∙ append_assoc (joined before) (joined holds.body) holds.current ∙ ap (λ l. joined before ++ l) (sym holds.held_are),
+      )
+
+  pub ended_open : (e : StreamError) → IsBrokenAtEndAfter limits given parts e → BeginsWithHeld s e
+      → (span : Span) → broken_end e ≡ Ok (Open span) → (held : List ℕ) → held ≡ s.held
+      → IsLeftOpen limits given parts span held
+  ended_open (stream.Unfinished own) broken begins span is held same =
+      let spans : own ≡ span = cc in
+      let cut = front_and_held in
+      record {
+        broken = subst (λ x. IsBrokenAtEndAfter limits given parts (stream.Unfinished x)) spans broken;
+        front = cut.0;
+        given_is = cut.1 ∙ ap (λ l. cut.0 ++ l) (sym same);
+        begins = omega (arith, begins, all_fits.taken, ap length cut.1, length-append cut.0 s.held, ap (λ (x : Span). x.start) spans);
+      }
+  ended_open e broken begins span is held same =
+      absurd (let no : Err (stream_refusal e) ≡ Ok (Open span) = is in cc)
+
 pub cutting_fault : (e : StreamError) → IsCuttingFault e → IsStreamFault e
 cutting_fault (stream.Item f) h = absurd h
 cutting_fault (stream.DuplicateName s) h = absurd h
@@ -135,12 +164,12 @@ cutting_fault stream.Failed h = absurd h
 cutting_fault _ h = tt
 
 -- why the stream is refused, as it is told
-pub unread : (limits : Limits) (ending : Ending) (left : Option (List ℕ)) (given : List ℕ)
+pub unread : (limits : Limits) (ending : Ending) (m : Model) (left : Option (List ℕ)) (given : List ℕ)
     (parts : List StreamPart) (e : StreamError) → (e ≢ stream.Memory → IsStreamFault e)
-    → (e ≢ stream.Memory → IsRefusedBy limits ending left given parts e)
-    → IsUnread limits ending left given parts (stream_refusal e)
-unread limits ending left given parts stream.Memory fault why = tt
-unread limits ending left given parts e fault why =
+    → (e ≢ stream.Memory → IsRefusedBy limits ending m left given parts e)
+    → IsUnread limits ending m left given parts (stream_refusal e)
+unread limits ending m left given parts stream.Memory fault why = tt
+unread limits ending m left given parts e fault why =
     (fault (λ m. cc), (λ m. cc), why (λ m. cc))
 
 -- what holds of each error that a result may be
@@ -149,33 +178,26 @@ pub if_err_is : {T E : Type 0} (r : Result T E) (P : E → Type 0)
 if_err_is (Ok x) P f = tt
 if_err_is (Err e) P f = f e refl
 
--- a stream that can't end as it is, is refused at its end
-pub ended_refused : {limits : Limits} → (ending : Ending) (left : Option (List ℕ)) (given : List ℕ)
+-- a stream that can't end as it is, is refused at its end, or leaves a block open
+pub ended_refused : (limits : Limits) (ending : Ending) (m : Model) (left : Option (List ℕ)) (given : List ℕ)
     (parts : List StreamPart) (e : StreamError) → IsCuttingFault e × (e ≢ stream.TooLong)
-    → IsAtEnd left → IsBrokenAtEndAfter limits given parts e
-    → IfErr (broken_end ending e) (IsUnread limits ending left given parts)
-ended_refused {limits} Whole left given parts e fault end broken =
-    unread limits Whole left given parts e (λ _. cutting_fault e fault.0) (λ _. inr (end, broken))
-ended_refused Cut left given parts (stream.Unfinished s) fault end broken = tt
-ended_refused Cut left given parts stream.Memory fault end broken = tt
-ended_refused Cut left given parts stream.TooLong fault end broken = absurd (fault.1 refl)
-ended_refused Cut left given parts _ fault end broken = absurd fault.0
+    → IfErr (broken_end e) (IsUnread limits ending m left given parts)
+ended_refused limits ending m left given parts (stream.Unfinished s) fault = tt
+ended_refused limits ending m left given parts stream.Memory fault = tt
+ended_refused limits ending m left given parts stream.TooLong fault = absurd (fault.1 refl)
+ended_refused limits ending m left given parts _ fault = absurd fault.0
 
--- or cut
-pub ended_cut : {limits : Limits} → (ending : Ending) (given : List ℕ) (parts : List StreamPart)
-    (e : StreamError) → IsBrokenAtEndAfter limits given parts e → (cut : Option Span)
-    → broken_end ending e ≡ Ok (End cut)
-    → IsEndOf limits ending given parts cut
-ended_cut Whole given parts e broken cut is =
-    absurd (let no : Err (stream_refusal e) ≡ Ok (End cut) = is in cc)
-ended_cut {limits} Cut given parts (stream.Unfinished s) broken cut is =
-    let same : Some s ≡ cut = cc in
-    let frames = map frame_of parts in
-    let text : IsStreamTextWithin limits (front_of given frames s broken.1) parts =
-    record { framed = front_framed given frames s broken.1; items = broken.0 } in
-    subst (IsEndOf limits Cut given parts) same (refl, (_, is_cut given frames s broken.1, text))
-ended_cut Cut given parts e broken cut is =
-    absurd (let no : Err (stream_refusal e) ≡ Ok (End cut) = is in cc)
+-- a block that was left open, and can't be cut off, refuses the stream
+pub unread_open : {limits : Limits} → (ending : Ending) (m : Model) (left : Option (List ℕ)) (given : List ℕ)
+    (parts : List StreamPart) (span : Span) (text : List ℕ) → IsAtEnd left
+    → IsLeftOpen limits given parts span text → (e : CheckError)
+    → (e ≢ errors.Memory → (e ≡ errors.Stream (stream.Unfinished span)) × (ending ≡ Cut → IsShort limits m text → ⊥))
+    → IsUnread limits ending m left given parts e
+unread_open ending m left given parts span text end h errors.Memory why = tt
+unread_open {limits} ending m left given parts span text end h e why =
+    let is = why (λ q. cc) in
+    subst (IsUnread limits ending m left given parts) (sym is.0)
+    (tt, (λ q. cc), open_refused m given parts span text h ending left end is.1)
 
 -- ---- where a reader stands
 
@@ -253,9 +275,9 @@ module _ {limits : Limits} (s : ReaderState) (left : Option (List ℕ)) (given :
       → (e ≢ stream.Failed → IsStreamFault e) → (e ≡ stream.Failed → t.stage ≡ Failed)
       → (e ≢ stream.Memory → e ≢ stream.Failed → (bytes more : List ℕ) (frames : List Frame) (frame : Frame) → Fits t bytes (frames ++ frame ∷ []) → BreaksAfter t.limits CannotGoOn (bytes ++ more) frames e)
       → (e ≢ stream.Memory → e ≢ stream.Failed → (bytes : List ℕ) (frames : List Frame) → EndsWith t.waits bytes frames → BreaksAfter t.limits CannotEnd bytes frames e)
-      → (ending : Ending) → IsUnread limits ending left given parts (stream_refusal e)
-  refused_next t same e fault failed broken broken_at_end ending =
-      unread limits ending left given parts e (λ _. fault not_failed) why
+      → (ending : Ending) (m : Model) → IsUnread limits ending m left given parts (stream_refusal e)
+  refused_next t same e fault failed broken broken_at_end ending m =
+      unread limits ending m left given parts e (λ _. fault not_failed) why
     where
       under : t.limits ≡ limits
       under = sym (ap (λ u. u.limits) same) ∙ n.under
@@ -264,11 +286,11 @@ module _ {limits : Limits} (s : ReaderState) (left : Option (List ℕ)) (given :
       not_failed q =
           ⊎_elim (λ w. let no : Running ≡ Failed = sym w.0.fits.running ∙ ap (λ u. u.stage) same ∙ failed q in cc) (λ w. let no : Finished ≡ Failed = sym w.1 ∙ ap (λ u. u.stage) same ∙ failed q in cc) n.ends
 
-      why : e ≢ stream.Memory → IsRefusedBy limits ending left given parts e
+      why : e ≢ stream.Memory → IsRefusedBy limits ending m left given parts e
       why memory =
           ⊎_elim
           (λ (w : WaitsInside s given parts frame × (s.pieces.at_end ≡ true → IsAtEnd left)).
-          inside_by ending left given parts e (inr (n.items, subst₂ (λ (m : Limits) l. BreaksAfter m CannotGoOn l (map frame_of parts) e) under (sym w.0.whole) (broken memory not_failed w.0.taken s.pieces.pending (map frame_of parts) frame (subst (λ u. Fits u w.0.taken (map frame_of parts ++ frame ∷ [])) same w.0.fits)))))
+          inside_by ending m left given parts e (inr (n.items, subst₂ (λ (m : Limits) l. BreaksAfter m CannotGoOn l (map frame_of parts) e) under (sym w.0.whole) (broken memory not_failed w.0.taken s.pieces.pending (map frame_of parts) frame (subst (λ u. Fits u w.0.taken (map frame_of parts ++ frame ∷ [])) same w.0.fits)))))
           (λ (w : IsAtEnd left × (s.splitter.stage ≡ Finished) × EndsLast given (map frame_of parts) frame).
           let frames = map frame_of parts in
           let waits = sym n.waits ∙ ap (λ u. u.waits) same in
@@ -277,5 +299,5 @@ module _ {limits : Limits} (s : ReaderState) (left : Option (List ℕ)) (given :
           let closed : (span : Span) → e ≡ stream.Unfinished span → ⊥ = λ span is.
           (let left_open = subst (BreaksAfter limits CannotEnd given frames) is broken_here in
           last_not_open given frames frame span w.2 left_open) in
-          after_by ending left given parts e closed (inr (w.0, (n.items, broken_here))))
+          after_by ending m left given parts e closed (inr (w.0, (n.items, broken_here))))
           n.ends

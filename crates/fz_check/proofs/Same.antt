@@ -1,10 +1,9 @@
 -- A tree has the model that it has where it asks for every scalar variable: each name stands for
 -- the same.
-use Rattle.std.proofs.Common.{◌≡◌, ℕ, Bool, true, false, cond, List, [], ◌∷◌, map, Option, Some, None, option_map, refl, ap, ◌∙◌, find, not, ◌+◌}
-use Rattle.std.specs.List.{filter, position_or_len}
+use Rattle.std.proofs.Common.{◌≡◌, ℕ, true, false, cond, List, [], ◌∷◌, map, Option, Some, None, option_map, refl, ap, ◌∙◌, not, ◌+◌}
+use Rattle.std.specs.List.{position_or_len}
 use Rattle.fz_search.specs.of_model.declared.Term.TheVariants.{Var, Fixed}
-use Rattle.fz_search.specs.of_model.Located.{Basic, Decl, LocatedTree}
-use Rattle.fz_search.specs.of_model.Meaning.{Place}
+use Rattle.fz_search.specs.of_model.Located.{Decl, LocatedTree}
 use Rattle.fz_search.specs.of_model.Meaning.Place.{Scalar, Array}
 use Rattle.fz_search.specs.of_model.Meaning.Declared.{Parameter, ScalarVariable, ArrayOfVariables}
 use Rattle.fz_search.specs.of_model.Names.{named_as, declaration, is_scalar, is_scalar_variable, number_of, literal_of, scalar_place, scalars, places, term_of, place_of_declared, kind_of_base, domain_of, parts, variable_declared, definition_of, declared_of, posted_of, aim_of, model_of}

@@ -1,5 +1,5 @@
 -- What a check over a reader and a writer knows between two steps, and where it ends.
-use Rattle.std.proofs.Common.{◌≡◌, ◌≢◌, ℕ, Bool, ◌+◌, ◌*◌, ◌<◌, ◌≤◌, true, false, cond, List, [], ◌∷◌, ◌++◌, length, Option, inl, inr, ◌⊎◌, ⊎_elim, refl, sym, ap, ◌∙◌, subst, append-nil, length-append, arith}
+use Rattle.std.proofs.Common.{◌≡◌, ◌≢◌, ℕ, Bool, ◌+◌, ◌*◌, ◌<◌, ◌≤◌, true, false, cond, List, [], ◌∷◌, ◌++◌, length, Option, Some, inl, inr, ◌⊎◌, ⊎_elim, refl, sym, ap, ◌∙◌, subst, append-nil, length-append, arith}
 use Rattle.std.specs.Prelude.{IfOk, IfErr, OnOk, OnErr, Result, Ok, Err}
 use Rattle.std.proofs.lemmas.Result.{IfErr-weaker, IfOk-weaker}
 use Rattle.std.proofs.KnownBytes.{Appends-nil, Consumes-nil, Consumes-trans}
@@ -9,6 +9,10 @@ use Rattle.fz_search.specs.of_model.Texts.{IsLoadedFromWithin}
 use Rattle.fz_filling.specs.of_stream.declared.splitter.Stage.TheVariants.{Running, Finished}
 use Rattle.fz_filling.specs.of_stream.Parts.{StreamPart, Frame, IsStreamTextWithin}
 use Rattle.fz_filling.specs.of_syntax.Span.{Span}
+use Rattle.fz_filling.specs.of_stream.declared.error.StreamError.TheVariants as stream
+use Rattle.fz_cutting.specs.Short.{IsShort}
+use Rattle.fz_check.specs.declared.event.Cut.{Cut}
+use Rattle.fz_check.specs.declared.options.Ending.TheVariants.{Cut as CutEnding}
 use Rattle.fz_check.specs.declared.options.Options.{Options}
 use Rattle.fz_check.specs.declared.error.CheckError.{CheckError}
 use Rattle.fz_check.specs.declared.error.CheckError.TheVariants as errors
@@ -18,19 +22,20 @@ use Rattle.fz_check.specs.declared.account.Answer as the_answer
 use Rattle.fz_check.specs.declared.account.Answer.TheVariants as answers
 use Rattle.fz_check.specs.Cutting.{HoldsOfJudged}
 use Rattle.fz_check.specs.Headline.{HasSolutionsWithin, HoldsOfStream}
+use Rattle.fz_check.specs.Reported.{HoldsOfModelWithin}
 use Rattle.fz_check.specs.Reading.{PiecesState, ReaderState, HasRead, HasNext, StandsAt, SpendsReads, is_going, piece_size, reads_without, steps_left}
 use Rattle.fz_check.specs.Claims.{Outcome, answer_told, no_account, told_of}
 use Rattle.fz_check.specs.Report.{AreOf, Event}
 use Rattle.fz_check.specs.Report.Event.{Answered}
 use Rattle.fz_check.specs.Streaming.{AreLast, EndInside, EndsFor, IsEndedWith, IsReportedWith, IsUnwritten, WritesFrontOf, WritesFrontOfEvents}
-use Rattle.fz_check.specs.Telling.{AnswersOnceWritten, HasTold, IsEndOf, IsToldWith, IsUnread, IsUntold, LeavesNext, Stands, StopsOnceWritten, TellsNext, TellsOneMore, cut_events}
+use Rattle.fz_check.specs.Telling.{AnswersOnceWritten, HasTold, IsEndOf, IsLeftOpen, IsToldWith, IsUnread, IsUntold, LeavesNext, Stands, StopsOnceWritten, TellsNext, TellsOneMore, cut_events}
 use Rattle.fz_check.specs.View.{answer_view}
 use Rattle.fz_check.specs.Writing.{Adds, WritesFront, Wrote}
 use Rattle.fz_check.proofs.ClaimLemmas.{answer_of_account}
-use Rattle.fz_check.proofs.CutLemmas.{holds_at_end, if_judged}
+use Rattle.fz_check.proofs.CutLemmas.{cut_here, holds_at_end, if_judged}
 use Rattle.fz_check.proofs.EventLemmas.{more_of}
 use Rattle.fz_check.proofs.JuryLemmas.{answer_is, have_outcomes}
-use Rattle.fz_check.proofs.ReaderLemmas.{all_taken, read_inside, read_more, stands_inside, stands_reading}
+use Rattle.fz_check.proofs.ReaderLemmas.{all_taken, read_inside, read_more, stands_inside, stands_reading, unread_open}
 use Rattle.fz_check.proofs.ReportLemmas.{accepted_solutions, reported}
 use Rattle.fz_check.proofs.WritingLemmas.{all_is_front, front_and_none, wrote_all, wrote_longer, wrote_on, wrote_part, wrote_whole}
 
@@ -91,7 +96,7 @@ stands_front h f =
 module _ (o : Options) (text : Event → List ℕ → Type 0) (m : Model) (reads : ℕ) (j : Jury) (left left' w w' : Option (List ℕ)) (lines given : List ℕ) (consumes : Consumes left left' given)
     (few : length given ≤ reads * piece_size) (parts : List StreamPart) (outcomes : List Outcome) (told : HasTold o m j parts outcomes) where
   -- all of the parts were told, and of the lines that waited these are left
-  module _ (w'' : Option (List ℕ)) (rest : List ℕ) (onward : (next : Option (List ℕ)) → WritesFront w'' next rest → WritesFront w' next lines) (last : List Event) (inside : EndInside o.limits left' given parts) (are_last : AreLast o left' given parts (answer_told m o.claims outcomes) last) (gathered : HasWritten text (told_of m o.claims outcomes ++ last) w w' lines) where
+  module _ (w'' : Option (List ℕ)) (rest : List ℕ) (onward : (next : Option (List ℕ)) → WritesFront w'' next rest → WritesFront w' next lines) (last : List Event) (inside : EndInside o.limits left' given parts) (are_last : AreLast o m left' given parts (answer_told m o.claims outcomes) last) (gathered : HasWritten text (told_of m o.claims outcomes ++ last) w w' lines) where
     pub stand : Stands o text m reads left left' w w'' rest
     stand = record { given = given; consumes = consumes; few = few; parts = parts; end_inside = inside; outcomes = outcomes; have_outcomes = have_outcomes o m j parts outcomes told; last = last; are_last = are_last; front = λ next f. front_of text (told_of m o.claims outcomes ++ last) w w' next lines gathered (onward next f) }
 
@@ -112,7 +117,7 @@ module _ (o : Options) (text : Event → List ℕ → Type 0) (m : Model) (reads
 
 -- the stream is refused
 unread_ends : (o : Options) (m : Model) (left : Option (List ℕ)) (given : List ℕ) (parts : List StreamPart)
-    (e : CheckError) → IsUnread o.limits o.ending left given parts e → IsUnwritten e ⊎ EndsFor o m left given parts e
+    (e : CheckError) → IsUnread o.limits o.ending m left given parts e → IsUnwritten e ⊎ EndsFor o m left given parts e
 unread_ends o m left given parts (errors.Stream e) u = inr u
 unread_ends o m left given parts errors.Memory u = inl tt
 unread_ends o m left given parts _ u = absurd u
@@ -136,7 +141,7 @@ module _ {o : Options} {text : Event → List ℕ → Type 0} {m : Model} {reads
   living_stands = stand_so_far o text m reads j left left' w w' lines l.given l.consumes so_few l.parts l.outcomes l.told inside l.gathered
 
   pub living_unread : (e : CheckError)
-      → ((left : Option (List ℕ)) (given : List ℕ) (parts : List StreamPart) → StandsAt o.limits s left given parts → IsUnread o.limits o.ending left given parts e)
+      → ((left : Option (List ℕ)) (given : List ℕ) (parts : List StreamPart) → StandsAt o.limits s left given parts → IsUnread o.limits o.ending m left given parts e)
       → StopsOnceWritten o text m left left' w w' lines e
   living_unread e unread =
       stops_for o text m reads j left left' w w' lines l.given l.consumes so_few l.parts l.outcomes l.told inside l.gathered e (unread_ends o m left' l.given l.parts e (unread left' l.given l.parts l.stands))
@@ -255,10 +260,10 @@ module _ {o : Options} {text : Event → List ℕ → Type 0} {m : Model} {reads
 
   -- ---- the stream has ended
 
-  module _ (cut : Option Span)
+  module _ (cut : Option Cut)
       (ended : (left : Option (List ℕ)) (given : List ℕ) (parts : List StreamPart)
-      → StandsAt o.limits s left given parts → IsAtEnd left × IsEndOf o.limits o.ending given parts cut) where
-    at_end : IsAtEnd left' × IsEndOf o.limits o.ending l.given l.parts cut
+      → StandsAt o.limits s left given parts → IsAtEnd left × IsEndOf o.limits o.ending m given parts cut) where
+    at_end : IsAtEnd left' × IsEndOf o.limits o.ending m l.given l.parts cut
     at_end = ended left' l.given l.parts l.stands
 
     module _ (answer : the_answer.Answer)
@@ -278,10 +283,10 @@ module _ {o : Options} {text : Event → List ℕ → Type 0} {m : Model} {reads
           wrote_longer w w' l.gathered.0 lines _ lines' added.0 l.gathered.2 refl added.1,
         )
 
-        are_last : AreLast o left' l.given l.parts (answer_told m o.claims l.outcomes) last
+        are_last : AreLast o m left' l.given l.parts (answer_told m o.claims l.outcomes) last
         are_last = inr (
           at_end.0,
-          holds_at_end o.ending l.given l.parts cut (λ front before. IsStreamTextWithin o.limits front l.parts
+          holds_at_end o.ending m l.given l.parts cut (λ front before. IsStreamTextWithin o.limits front l.parts
               × (last ≡ before ++ Answered (answer_told m o.claims l.outcomes) ∷ [])) at_end.1
               (λ front t. (t, ap (λ a. cut_events cut ++ Answered a ∷ []) answered)),
         )
@@ -312,7 +317,7 @@ module _ {o : Options} {text : Event → List ℕ → Type 0} {m : Model} {reads
           consumes = l.consumes;
           end = at_end.0;
           few = omega (arith, l.few, ap {B = ℕ} (λ b. cond b 1 0) found);
-          report = holds_at_end o.ending l.given l.parts cut
+          report = holds_at_end o.ending m l.given l.parts cut
               (λ front before. IsToldWith o before text m front w w' lines' (answer_view answer))
               at_end.1 told_here;
         }
@@ -332,55 +337,102 @@ module _ {o : Options} {text : Event → List ℕ → Type 0} {m : Model} {reads
       living_answered (Ok a) told same found = subst (λ b. AnswersOnceWritten o text m reads left left' w w' lines' (answer_view b)) (sym same) (answers_then told found)
       living_answered (Err e) told same found = tt
 
--- ---- once there is an answer
+-- ---- where the end leaves a block open
 
-pub end_read_then : (o : Options) (text : Event → List ℕ → Type 0) (m : Model) (reads : ℕ) (left left' w w' : Option (List ℕ)) (lines : List ℕ)
-    → (r : Result the_answer.Answer CheckError)
-    → IfOk r (λ a. AnswersOnceWritten o text m reads left left' w w' lines (answer_view a))
-    → IfOk r (λ _. SpendsReads reads 1 left left')
-end_read_then o text m reads left left' w w' lines r answered =
-    IfOk-weaker r _ _ (λ a h. record { given = h.given; consumes = h.consumes; few = omega (arith, h.few) }) answered
+module _ (o : Options) (m : Model) (s : ReaderState) (span : Span) (held text : List ℕ) (same : text ≡ held)
+    (opened : (left : Option (List ℕ)) (given : List ℕ) (parts : List StreamPart) → StandsAt o.limits s left given parts → IsAtEnd left × IsLeftOpen o.limits given parts span held) where
+  open_here : (left : Option (List ℕ)) (given : List ℕ) (parts : List StreamPart)
+      → StandsAt o.limits s left given parts → IsAtEnd left × IsLeftOpen o.limits given parts span text
+  open_here left given parts st =
+      let e = opened left given parts st in
+      (e.0, subst (IsLeftOpen o.limits given parts span) (sym same) e.1)
 
--- ---- once the lines that are left are written, of the model of a text
+  pub opened_cut : (cut : Cut) → (cut.span ≡ span) × (cut.text.now ≡ text) × (o.ending ≡ CutEnding) × IsShort o.limits m text
+      → (left : Option (List ℕ)) (given : List ℕ) (parts : List StreamPart) → StandsAt o.limits s left given parts
+      → IsAtEnd left × IsEndOf o.limits o.ending m given parts (Some cut)
+  opened_cut cut is left given parts st =
+      let e = open_here left given parts st in
+      (e.0, cut_here m given parts span text e.1 o.ending cut is.0 is.1 is.2 is.3)
 
-module _ (o : Options) (text : Event → List ℕ → Type 0) (model : List ℕ) (m : Model) (reads : ℕ) (left left' w w' w'' : Option (List ℕ)) (lines : List ℕ) (loaded : IsLoadedFromWithin o.limits model m) where
+  pub opened_uncut : (e : CheckError)
+      → (e ≢ errors.Memory → (e ≡ errors.Stream (stream.Unfinished span)) × (o.ending ≡ CutEnding → IsShort o.limits m text → ⊥))
+      → (left : Option (List ℕ)) (given : List ℕ) (parts : List StreamPart) → StandsAt o.limits s left given parts
+      → IsUnread o.limits o.ending m left given parts e
+  opened_uncut e why left given parts st =
+      let h = open_here left given parts st in
+      unread_open o.ending m left given parts span text h.0 h.1 e why
+
+-- ---- once the lines that are left are written, of each text of the model
+
+module _ (o : Options) (text : Event → List ℕ → Type 0) (m : Model) (reads : ℕ) (left left' w w' w'' : Option (List ℕ)) (lines : List ℕ) where
   -- but for some that can't be
   pub unwritten_then : Stands o text m reads left left' w w' lines → WritesFront w' w'' lines
-      → (e : CheckError) → IsUnwritten e → IsEndedWith o text model left left' w w'' e
-  unwritten_then stands f e u =
+      → (e : CheckError) → IsUnwritten e → (source : List ℕ) → IsLoadedFromWithin o.limits source m
+      → IsEndedWith o text source left left' w w'' e
+  unwritten_then stands f e u source loaded =
       inr (record { m = m; loaded = loaded; holds = inl (u, stands_front stands f) })
 
   module _ (r : Result the_answer.Answer CheckError) where
     module _ (answered : IfOk r (λ a. AnswersOnceWritten o text m reads left left' w w' lines (answer_view a))) where
       pub accepted_then : IfOk r (λ a. (count : ℕ) → a ≡ answers.Accepted count
-          → HoldsOfStream left left'
-          (λ given. HoldsOfJudged o.limits o.ending given (λ front _. HasSolutionsWithin o.limits model front count)))
-      accepted_then = IfOk-weaker r _ _ (λ a h count is. record {
+          → (source : List ℕ) → IsLoadedFromWithin o.limits source m → HoldsOfStream left left'
+          (λ given. HoldsOfJudged o.limits o.ending m given (λ front _. HasSolutionsWithin o.limits source front count)))
+      accepted_then = IfOk-weaker r _ _ (λ a h count is source loaded. record {
         given = h.given;
         reads = h.consumes;
         end = h.end;
-        holds = if_judged o.limits o.ending h.given (λ front cut. IsToldWith o cut text m front w w' lines (answer_view a)) (λ front _. HasSolutionsWithin o.limits model front count)
-            (λ front cut t. accepted_solutions o model m front t.events (answer_view a) loaded t.report count (ap answer_view is)) h.report;
+        holds = if_judged o.limits o.ending m h.given (λ front cut. IsToldWith o cut text m front w w' lines (answer_view a)) (λ front _. HasSolutionsWithin o.limits source front count)
+            (λ front cut t. accepted_solutions o source m front t.events (answer_view a) loaded t.report count (ap answer_view is)) h.report;
       }) answered
+
+      pub end_read_then : IfOk r (λ _. SpendsReads reads 1 left left')
+      end_read_then = IfOk-weaker r _ _ (λ a h. record { given = h.given; consumes = h.consumes; few = omega (arith, h.few) }) answered
 
       -- the lines that were left are written
       pub reported_then : Appends w' w'' lines
-          → IfOk r (λ a. HoldsOfStream left left' (λ given. HoldsOfJudged o.limits o.ending given
-          (λ front cut. IsReportedWith o cut text model front w w'' (answer_view a))))
-      reported_then appends = IfOk-weaker r _ _ (λ a h. record {
+          → IfOk r (λ a. (source : List ℕ) → IsLoadedFromWithin o.limits source m
+          → HoldsOfStream left left' (λ given. HoldsOfJudged o.limits o.ending m given
+          (λ front cut. IsReportedWith o cut text source front w w'' (answer_view a))))
+      reported_then appends = IfOk-weaker r _ _ (λ a h source loaded. record {
         given = h.given;
         reads = h.consumes;
         end = h.end;
-        holds = if_judged o.limits o.ending h.given (λ front cut. IsToldWith o cut text m front w w' lines (answer_view a)) (λ front cut. IsReportedWith o cut text model front w w'' (answer_view a))
-            (λ front cut t. record { events = t.events; has_report = reported o model m front t.events (answer_view a) loaded t.report; writes = t.writes w'' appends }) h.report;
+        holds = if_judged o.limits o.ending m h.given (λ front cut. IsToldWith o cut text m front w w' lines (answer_view a)) (λ front cut. IsReportedWith o cut text source front w w'' (answer_view a))
+            (λ front cut t. record { events = t.events; has_report = reported o source m front t.events (answer_view a) loaded t.report; writes = t.writes w'' appends }) h.report;
       }) answered
 
     pub refused_then : Stands o text m reads left left' w w' lines → Appends w' w'' lines
         → IfErr r (StopsOnceWritten o text m left left' w w' lines)
-        → IfErr r (IsEndedWith o text model left left' w w'')
+        → IfErr r (λ e. (source : List ℕ) → IsLoadedFromWithin o.limits source m
+        → IsEndedWith o text source left left' w w'' e)
     refused_then stands appends h = IfErr-weaker r _ _ ended h
       where
         ended : (e : CheckError) → StopsOnceWritten o text m left left' w w' lines e
-            → IsEndedWith o text model left left' w w'' e
-        ended e (inl u) = unwritten_then stands (all_is_front w' w'' lines appends) e u
-        ended e (inr stops) = inr (record { m = m; loaded = loaded; holds = inr (stops w'' appends) })
+            → (source : List ℕ) → IsLoadedFromWithin o.limits source m
+            → IsEndedWith o text source left left' w w'' e
+        ended e (inl u) source loaded =
+            unwritten_then stands (all_is_front w' w'' lines appends) e u source loaded
+        ended e (inr stops) source loaded =
+            inr (record { m = m; loaded = loaded; holds = inr (stops w'' appends) })
+
+-- ---- of the text that a model was loaded from
+
+module _ (o : Options) (source : List ℕ) (m : Model) (loaded : IsLoadedFromWithin o.limits source m) (left left' : Option (List ℕ)) (r : Result the_answer.Answer CheckError) where
+  pub accepted_of : IfOk r (λ a. (count : ℕ) → a ≡ answers.Accepted count
+      → (from : List ℕ) → IsLoadedFromWithin o.limits from m → HoldsOfStream left left'
+      (λ given. HoldsOfJudged o.limits o.ending m given (λ front _. HasSolutionsWithin o.limits from front count)))
+      → IfOk r (λ a. (count : ℕ) → a ≡ answers.Accepted count
+      → HoldsOfModelWithin o.limits source (λ n. HoldsOfStream left left'
+      (λ given. HoldsOfJudged o.limits o.ending n given (λ front _. HasSolutionsWithin o.limits source front count))))
+  accepted_of h =
+      IfOk-weaker r _ _ (λ a f count is. record { m = m; loaded = loaded; holds = f count is source loaded }) h
+
+  pub reported_of : (text : Event → List ℕ → Type 0) (w w' : Option (List ℕ))
+      → IfOk r (λ a. (from : List ℕ) → IsLoadedFromWithin o.limits from m
+      → HoldsOfStream left left' (λ given. HoldsOfJudged o.limits o.ending m given
+      (λ front cut. IsReportedWith o cut text from front w w' (answer_view a))))
+      → IfOk r (λ a. HoldsOfModelWithin o.limits source
+      (λ n. HoldsOfStream left left' (λ given. HoldsOfJudged o.limits o.ending n given
+      (λ front cut. IsReportedWith o cut text source front w w' (answer_view a)))))
+  reported_of text w w' h =
+      IfOk-weaker r _ _ (λ a f. record { m = m; loaded = loaded; holds = f source loaded }) h

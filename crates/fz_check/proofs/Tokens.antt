@@ -1,6 +1,6 @@
 -- The tokens of a tree that asks for every scalar variable: those of the tree, and those of the
 -- annotation.
-use Rattle.std.proofs.Common.{◌≡◌, ℕ, List, [], ◌∷◌, ◌++◌, map, cond, true, false, flat_map, codes, rules}
+use Rattle.std.proofs.Common.{List, [], ◌∷◌, ◌++◌, map, cond, true, false, flat_map, codes, rules}
 use Rattle.std.specs.List.{AllByRecursion}
 use Rattle.fz_filling.specs.of_syntax.Token.{TokenValue, Word, Marked, IsTokenText}
 use Rattle.fz_filling.specs.of_syntax.Lexing.{IsTokenWithinLimit}

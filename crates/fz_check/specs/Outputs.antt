@@ -1,6 +1,6 @@
 -- The tree that asks for every scalar variable to be printed (MiniZinc Handbook, FlatZinc,
 -- "Annotations": a solver prints the variables that have the annotation output_var).
-use Rattle.std.specs.Prelude.{List, [], ◌∷◌, ◌++◌, map, Bool, false, not, ◌&&◌, cond, bytes_eq, codes}
+use Rattle.std.specs.Prelude.{[], ◌∷◌, ◌++◌, map, Bool, false, not, ◌&&◌, cond, bytes_eq, codes}
 use Rattle.std.specs.List.{list_any}
 use Rattle.fz_filling.specs.of_syntax.Tree as tree
 use Rattle.fz_filling.specs.of_syntax.Tree.Note.{Called}

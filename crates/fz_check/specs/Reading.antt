@@ -12,6 +12,8 @@ use Rattle.fz_filling.specs.of_stream.declared.splitter.Stage.TheVariants.{Runni
 use Rattle.fz_filling.specs.of_stream.Broken.{IsBrokenAfter, IsBrokenAtEndAfter}
 use Rattle.fz_filling.specs.of_stream.Parts.{StreamPart, Frame, frame_of, HasItems, IsStreamTextWithin}
 use Rattle.fz_filling.specs.of_stream.Splitting.{SplitterState, Holds, Fits, EndsLast, PassesLimit, most_taken}
+use Rattle.fz_search.specs.of_model.Meaning.{Model}
+use Rattle.fz_check.specs.Cutting.{IsCutOff}
 use Rattle.fz_check.specs.declared.options.Ending.{Ending}
 use Rattle.fz_check.specs.declared.options.Ending.TheVariants.{Whole, Cut}
 
@@ -97,13 +99,15 @@ abbrev pub IsRefusedAfter : Limits → Option (List ℕ) → List ℕ → List S
 IsRefusedAfter limits left given parts e =
     IsRefusedInside limits given parts e ⊎ (IsAtEnd left × IsBrokenAtEndAfter limits given parts e)
 
--- Where cutting is on, a block that the end leaves open is no reason.
-abbrev pub IsRefusedBy : Limits → Ending → Option (List ℕ) → List ℕ → List StreamPart → StreamError
-    → Type 0
-IsRefusedBy limits Whole left given parts e = IsRefusedAfter limits left given parts e
-IsRefusedBy limits Cut left given parts (Unfinished span) =
+-- Where cutting is on, a block that the end leaves open is a reason only where it can't be cut off.
+abbrev pub IsRefusedBy : Limits → Ending → Model → Option (List ℕ) → List ℕ → List StreamPart
+    → StreamError → Type 0
+IsRefusedBy limits Whole m left given parts e = IsRefusedAfter limits left given parts e
+IsRefusedBy limits Cut m left given parts (Unfinished span) =
     IsRefusedInside limits given parts (Unfinished span)
-IsRefusedBy limits Cut left given parts e = IsRefusedAfter limits left given parts e
+    ⊎ (IsAtEnd left × IsBrokenAtEndAfter limits given parts (Unfinished span)
+    × ((front text : List ℕ) → IsCutOff limits m given front span text → ⊥))
+IsRefusedBy limits Cut m left given parts e = IsRefusedAfter limits left given parts e
 
 -- the most bytes of one read
 abbrev pub piece_size : ℕ

@@ -1,6 +1,7 @@
 -- What a check tells of a stream: the events of a report, and the line of each (this project's
 -- profile).
-use Rattle.std.specs.Prelude.{◌≡◌, ℕ, ◌+◌, List, [], ◌∷◌, ◌++◌, cond, map, nat_eq, nat_le, codes, decimal, flat_map}
+use Rattle.std.specs.Prelude.{◌≡◌, ℕ, ◌+◌, Bool, ◌&&◌, List, [], ◌∷◌, ◌++◌, cond, take, map, nat_eq, nat_le, codes, decimal, flat_map}
+use Rattle.std.specs.List.{take_while}
 use Rattle.std.specs.Fmt.{signed_decimal}
 use Rattle.fz_filling.specs.of_syntax.Span.{Span}
 use Rattle.fz_filling.specs.of_stream.declared.line.ClaimKind.{ClaimKind}
@@ -18,14 +19,14 @@ use Rattle.fz_check.specs.declared.claims.Source.{Source}
 use Rattle.fz_check.specs.declared.claims.Statement.{Statement}
 
 -- the verdict on the block of this number, from 1; a claim that is neither proved nor refuted; one
--- that so many nodes of a search show; one that is refuted, with what refutes it; what was cut off;
--- the answer
+-- that so many nodes of a search show; one that is refuted, with what refutes it; the byte range of a
+-- block that was cut off, and all that was; the answer
 pub data Event : Type 0 where
   Judged : ℕ → Verdict → Event
   Claimed : ClaimKind → Event
   Proved : Statement → ℕ → Event
   Refuted : Refutation → Event
-  CutOff : Span → Event
+  CutOff : Span → List ℕ → Event
   Answered : Answer → Event
 
 abbrev pub claimed : Claim → Event
@@ -104,6 +105,17 @@ place_text after _ = codes "claim: "
 abbrev pub nodes_text : ℕ → List ℕ
 nodes_text nodes = decimal nodes ++ cond (nat_eq nodes 1) (codes " node") (codes " nodes")
 
+-- what is shown of a text: its first 60 bytes, up to one that is a control character, such as the end
+-- of the line, or isn't of ASCII
+abbrev pub most_shown : ℕ
+most_shown = 60
+
+abbrev pub is_shown : ℕ → Bool
+is_shown b = nat_le 32 b && nat_le b 126
+
+abbrev pub shown_front : List ℕ → List ℕ
+shown_front text = take_while is_shown (take most_shown text)
+
 abbrev pub event_text : Event → List ℕ
 event_text (Judged n v) = codes "block " ++ decimal n ++ codes ": " ++ verdict_text v
 event_text (Claimed k) = codes "claim: " ++ claim_text k ++ codes " not judged"
@@ -111,7 +123,8 @@ event_text (Proved s nodes) =
     codes "claim: " ++ claim_text s.kind ++ codes " proved, " ++ nodes_text nodes
 event_text (Refuted r) = place_text r.claim.after r.by ++ claim_text r.claim.kind
     ++ codes " refuted by " ++ refuter_text r.by
-event_text (CutOff span) = codes "cut: " ++ decimal span.start ++ codes ".." ++ decimal span.end
+event_text (CutOff span text) = codes "cut: " ++ decimal span.start ++ codes ".." ++ decimal span.end
+    ++ codes ", from \"" ++ shown_front text ++ codes "\""
 event_text (Answered a) = answer_text a
 
 -- the line of an event, with its LF

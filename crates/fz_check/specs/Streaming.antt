@@ -76,7 +76,7 @@ pub record PartIsRefused (m : Model) (parts : List StreamPart) (part : StreamPar
 abbrev pub EndsFor : Options → Model → Option (List ℕ) → List ℕ → List StreamPart → CheckError
     → Type 0
 EndsFor o m left given parts (errors.Stream e) =
-    IsStreamFault e × (e ≢ StreamMemory) × IsRefusedBy o.limits o.ending left given parts e
+    IsStreamFault e × (e ≢ StreamMemory) × IsRefusedBy o.limits o.ending m left given parts e
 EndsFor o m left given parts (errors.Block n e) = (part : StreamPart)
     × EndInside o.limits left given (parts ++ part ∷ []) × PartIsRefused m parts part n e
 EndsFor o m left given parts errors.Read = HasNoMore o.limits given parts
@@ -95,10 +95,10 @@ pub record StopsAfterEvents (o : Options) (text : Event → List ℕ → Type 0)
   pub why : EndsFor o m left' given parts e
 
 -- no event, or that of the answer where the bytes have ended, behind what was cut off
-abbrev pub AreLast : Options → Option (List ℕ) → List ℕ → List StreamPart → Answer → List Event
-    → Type 0
-AreLast o left given parts answer events =
-    (events ≡ []) ⊎ (IsAtEnd left × HoldsOfJudged o.limits o.ending given (λ front cut.
+abbrev pub AreLast : Options → Model → Option (List ℕ) → List ℕ → List StreamPart → Answer
+    → List Event → Type 0
+AreLast o m left given parts answer events =
+    (events ≡ []) ⊎ (IsAtEnd left × HoldsOfJudged o.limits o.ending m given (λ front cut.
     IsStreamTextWithin o.limits front parts × (events ≡ cut ++ Answered answer ∷ [])))
 
 -- The reader gave these bytes, and the writer got a front of bytes of their events, and nothing
@@ -112,7 +112,7 @@ pub record WritesFrontOfEvents (o : Options) (text : Event → List ℕ → Type
   pub outcomes : List Outcome
   pub have_outcomes : HaveOutcomes o m parts outcomes
   pub last : List Event
-  pub are_last : AreLast o left' given parts (answer_told m o.claims outcomes) last
+  pub are_last : AreLast o m left' given parts (answer_told m o.claims outcomes) last
   pub writes : WritesFrontOf text (told_of m o.claims outcomes ++ last) written written'
 
 -- a failed write, or out of memory

@@ -9,6 +9,7 @@ use Rattle.fz_filling.specs.of_stream.declared.line.ClaimKind.{ClaimKind}
 use Rattle.fz_filling.specs.of_stream.declared.error.StreamError.{StreamError}
 use Rattle.fz_filling.specs.of_stream.declared.error.StreamError.TheVariants as stream
 use Rattle.fz_filling.specs.of_stream.declared.error.StreamError.TheVariants.{Memory as StreamMemory}
+use Rattle.fz_filling.specs.of_stream.Broken.{IsBrokenAtEndAfter}
 use Rattle.fz_filling.specs.of_stream.Faults.{IsStreamFault}
 use Rattle.fz_filling.specs.of_stream.Found.{EndsWithin, HasPlaces}
 use Rattle.fz_filling.specs.of_stream.Parts.{SolutionBlock, StreamPart, Frame, IsStreamTextWithin}
@@ -17,13 +18,14 @@ use Rattle.fz_filling.specs.declared.error.BlockError.TheVariants.{Memory}
 use Rattle.fz_filling.specs.Judged.{IsBlockRefusal, JudgeState}
 use Rattle.fz_filling.specs.of_syntax.Span.{Span}
 use Rattle.fz_check.specs.declared.options.Ending.{Ending}
-use Rattle.fz_check.specs.declared.options.Ending.TheVariants.{Whole, Cut}
+use Rattle.fz_check.specs.declared.options.Ending.TheVariants.{Cut as CutEnding}
+use Rattle.fz_check.specs.declared.event.Cut.{Cut}
 use Rattle.fz_check.specs.declared.options.Options.{Options}
 use Rattle.fz_check.specs.declared.error.CheckError.{CheckError}
 use Rattle.fz_check.specs.declared.error.CheckError.TheVariants as errors
 use Rattle.fz_check.specs.declared.jury.Jury.{Jury}
 use Rattle.fz_check.specs.declared.reader.Step.{Step}
-use Rattle.fz_check.specs.declared.reader.Step.TheVariants.{End}
+use Rattle.fz_check.specs.declared.reader.Step.TheVariants.{Open}
 use Rattle.fz_check.specs.Cutting.{HoldsOfJudged, IsCutOff}
 use Rattle.fz_check.specs.Claims.{AreOutcomes, BlockOutcome, HaveOutcomes, IsOutcome, IsReportWith, IsShown, Outcome, account, answer_told, behind_block, behind_claim, claim_told, no_account, saying, told_of}
 use Rattle.fz_check.specs.Report.{AreOf, Event}
@@ -39,21 +41,29 @@ stream_refusal stream.Memory = errors.Memory
 stream_refusal e = errors.Stream e
 
 -- how a stream ends that can't end as it is
-abbrev pub broken_end : Ending → StreamError → Result Step CheckError
-broken_end Whole e = Err (stream_refusal e)
-broken_end Cut (stream.Unfinished span) = Ok (End (Some span))
-broken_end Cut e = Err (stream_refusal e)
+abbrev pub broken_end : StreamError → Result Step CheckError
+broken_end (stream.Unfinished span) = Ok (Open span)
+broken_end e = Err (stream_refusal e)
+
+-- Behind these parts the end of the bytes leaves a block open, with this text.
+pub record IsLeftOpen (limits : Limits) (given : List ℕ) (parts : List StreamPart) (span : Span)
+    (text : List ℕ) : Type 0 where
+  pub broken : IsBrokenAtEndAfter limits given parts (stream.Unfinished span)
+  pub front : List ℕ
+  pub given_is : given ≡ front ++ text
+  pub begins : length front ≡ span.start
 
 -- the parts are those of the bytes that are judged, where this is cut off
-abbrev pub IsEndOf : Limits → Ending → List ℕ → List StreamPart → Option Span → Type 0
-IsEndOf limits ending given parts None = IsStreamTextWithin limits given parts
-IsEndOf limits ending given parts (Some span) = (ending ≡ Cut)
-    × ((front : List ℕ) × IsCutOff limits given front span × IsStreamTextWithin limits front parts)
+abbrev pub IsEndOf : Limits → Ending → Model → List ℕ → List StreamPart → Option Cut → Type 0
+IsEndOf limits ending m given parts None = IsStreamTextWithin limits given parts
+IsEndOf limits ending m given parts (Some cut) = (ending ≡ CutEnding)
+    × ((front : List ℕ) × IsCutOff limits m given front cut.span cut.text.now
+    × IsStreamTextWithin limits front parts)
 
 -- what is told of it
-abbrev pub cut_events : Option Span → List Event
+abbrev pub cut_events : Option Cut → List Event
 cut_events None = []
-cut_events (Some span) = CutOff span ∷ []
+cut_events (Some cut) = CutOff cut.span cut.text.now ∷ []
 
 -- The outcomes of parts that come behind these, which leave such objectives, go on from them.
 abbrev pub OutcomesGoOn : Options → Model → List StreamPart → List Outcome → Option ℤ → Option ℤ
@@ -124,12 +134,12 @@ IsUntold m parts part errors.Memory = ⊤
 IsUntold m parts part _ = ⊥
 
 -- the stream is refused behind these parts of the bytes that were given, or memory ran out
-abbrev pub IsUnread : Limits → Ending → Option (List ℕ) → List ℕ → List StreamPart → CheckError
-    → Type 0
-IsUnread limits ending left given parts (errors.Stream e) =
-    IsStreamFault e × (e ≢ StreamMemory) × IsRefusedBy limits ending left given parts e
-IsUnread limits ending left given parts errors.Memory = ⊤
-IsUnread limits ending left given parts _ = ⊥
+abbrev pub IsUnread : Limits → Ending → Model → Option (List ℕ) → List ℕ → List StreamPart
+    → CheckError → Type 0
+IsUnread limits ending m left given parts (errors.Stream e) =
+    IsStreamFault e × (e ≢ StreamMemory) × IsRefusedBy limits ending m left given parts e
+IsUnread limits ending m left given parts errors.Memory = ⊤
+IsUnread limits ending m left given parts _ = ⊥
 
 -- Where a frame waits behind parts that were told, it is read as a part, which is told too.
 abbrev pub TellsNext : (Event → List ℕ → Type 0) → ReaderState → Jury → Jury → List ℕ → Type 0
@@ -146,7 +156,7 @@ LeavesNext s j e =
     (o : Options) (m : Model) (left : Option (List ℕ)) (given : List ℕ) (parts : List StreamPart)
     (frame : Frame) (outcomes : List Outcome)
     → HasNext o.limits s left given parts frame
-    → HasTold o m j parts outcomes → IsUnread o.limits o.ending left given parts e
+    → HasTold o m j parts outcomes → IsUnread o.limits o.ending m left given parts e
     ⊎ ((part : StreamPart) × StandsAt o.limits s left given (parts ++ part ∷ [])
     × IsUntold m parts part e)
 
@@ -163,7 +173,7 @@ pub record Stands (o : Options) (text : Event → List ℕ → Type 0) (m : Mode
   pub outcomes : List Outcome
   pub have_outcomes : HaveOutcomes o m parts outcomes
   pub last : List Event
-  pub are_last : AreLast o left' given parts (answer_told m o.claims outcomes) last
+  pub are_last : AreLast o m left' given parts (answer_told m o.claims outcomes) last
   pub front : (next : Option (List ℕ)) → WritesFront written' next lines
       → WritesFrontOf text (told_of m o.claims outcomes ++ last) written next
 
@@ -191,7 +201,7 @@ pub record AnswersOnceWritten (o : Options) (text : Event → List ℕ → Type 
   pub consumes : Consumes left left' given
   pub end : IsAtEnd left'
   pub few : length given + piece_size ≤ reads * piece_size
-  pub report : HoldsOfJudged o.limits o.ending given
+  pub report : HoldsOfJudged o.limits o.ending m given
       (λ front cut. IsToldWith o cut text m front written written' lines answer)
 
 -- the refusals of a stream that is read whole, and of its blocks

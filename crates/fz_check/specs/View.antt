@@ -22,7 +22,7 @@ event_view (events.Block j) = Judged j.number (verdict_view j.verdict)
 event_view (events.Claim k) = Claimed k
 event_view (events.Proved s nodes) = Proved s nodes
 event_view (events.Refuted r) = Refuted r
-event_view (events.Cut span) = CutOff span
+event_view (events.Cut cut) = CutOff cut.span cut.text.now
 event_view (events.Answer a) = Answered (answer_view a)
 
 -- the verdicts and claims of a report, in the stream's order

@@ -32,6 +32,15 @@ pub struct Judged<'e, 'a> {
     pub model: &'e Model<'a>,
 }
 
+/// What was cut off, where the stream ends inside a block.
+#[derive(Clone, Copy)]
+pub struct Cut<'e> {
+    /// the byte range of the block
+    pub span: Span,
+    /// all of the text, from the block's first byte to the end of the stream
+    pub text: &'e [u8],
+}
+
 /// What a check tells of a stream, one after another in the stream's order, and the answer last.
 #[derive(Clone, Copy)]
 pub enum Event<'e, 'a> {
@@ -42,8 +51,7 @@ pub enum Event<'e, 'a> {
     Proved(Statement, usize),
     /// A claim that is refuted: at its place, or behind the block that refutes it.
     Refuted(Refutation<'e>),
-    /// What was cut off, where the stream ends inside a block.
-    Cut(Span),
+    Cut(Cut<'e>),
     Answer(Answer),
 }
 
@@ -74,7 +82,7 @@ impl Taker for TextTaker {
             Event::Claim(kind) => push_claim(line, *kind),
             Event::Proved(claim, nodes) => push_proof(line, claim, *nodes),
             Event::Refuted(refutation) => push_refutation(line, refutation),
-            Event::Cut(span) => push_cut(line, *span),
+            Event::Cut(cut) => push_cut(line, cut),
             Event::Answer(answer) => push_answer(line, *answer),
         }
     }

@@ -9,12 +9,12 @@ ghost use Rattle.fz_check.specs.Reading.{HasNext, StandsAt};
 use crate::claims::{Known, Source};
 use crate::error::CheckError;
 use crate::judge::Judge;
-use crate::options::{Ending, Options};
+use crate::options::Options;
 use crate::pieces::ReadFailed;
 use crate::reader::{PartReader, Step};
 use fz_filling::{BlockError, Verdict};
 use fz_store::Model;
-use fz_stream::{Block, Part};
+use fz_stream::{Block, Part, StreamError};
 use std::alloc::Global;
 use std::io::Read;
 
@@ -107,7 +107,7 @@ pub fn learn<'k, R: Read, L: Listener>(
     let mut parts = PartReader::new(alloc, reads, options.limits);
     let mut judge = Judge::completing(model, options.completion, options.steps);
     loop {
-        match parts.advance(Ending::Whole) {
+        match parts.advance() {
             Ok(Step::Part) => {
                 match learn_next(alloc, &parts, &mut judge, listener, &mut source, known) {
                     Ok(()) => {}
@@ -118,7 +118,10 @@ pub fn learn<'k, R: Read, L: Listener>(
                 Ok(()) => {}
                 Err(ReadFailed) => return Err(CheckError::Read),
             },
-            Ok(Step::End(_)) => return Ok(()),
+            Ok(Step::End) => return Ok(()),
+            Ok(Step::Open(span)) => {
+                return Err(CheckError::Stream(StreamError::Unfinished(span)));
+            }
             Err(error) => return Err(error),
         }
     }

@@ -1,17 +1,22 @@
 //! The lines of a report, one at a time.
 
-ghost use Rattle.std.specs.Prelude.{◌≡◌, ◌++◌, ◌∷◌, [], IfOk, OnOk, codes, decimal};
-ghost use Rattle.fz_check.specs.Report.{claim_text, event_line, nodes_text, place_text, refuter_text, verdict_text};
+ghost use Rattle.std.specs.Prelude.{◌≡◌, ◌++◌, ◌∷◌, [], IfOk, OnOk, codes, decimal, take};
+ghost use Rattle.fz_check.specs.Report.{claim_text, event_line, is_shown, most_shown, nodes_text, place_text, refuter_text, shown_front, verdict_text};
+ghost use Rattle.std.specs.List.{prefix_len};
 ghost use Rattle.fz_check.specs.Report.Event.{Answered, Claimed, CutOff, Judged, Proved, Refuted};
 ghost use Rattle.fz_filling.specs.View.{verdict_view};
 ghost use Rattle.fz_check.specs.View.{answer_view};
 
 use crate::account::Answer;
 use crate::claims::{Refutation, Refuter, Statement};
+use crate::event::Cut;
 use crate::text::{push_bytes, push_count, push_fault, push_reason};
 use fz_filling::Verdict;
-use fz_stream::{ClaimKind, Span};
+use fz_stream::ClaimKind;
 use std::alloc::{AllocError, Global};
+
+/// The most bytes that are shown of a text that is cut off.
+const MOST_SHOWN: usize = 60;
 
 /// A claim's line in a stream, without blanks at its ends.
 pub fn claim_text(kind: ClaimKind) -> &'static [u8]
@@ -173,16 +178,58 @@ pub fn block_text(
     Ok(text)
 }
 
+/// Whether a byte is shown: one of ASCII that is no control character.
+fn is_shown(byte: u8) -> bool
+    ensures { result ≡ is_shown byte }
+{
+    32 <= byte && byte <= 126
+}
+
+/// How many bytes at the front of a text are shown.
+fn shown_len(text: &[u8]) -> usize
+    ensures { result ≡ prefix_len is_shown text.now }
+{
+    let mut rest = text;
+    while let Some((first, others)) = rest.split_first() {
+        if !is_shown(*first) {
+            return text.len() - rest.len();
+        }
+        rest = others;
+    }
+    text.len()
+}
+
+/// The first 60 bytes of a text.
+fn first_bytes(text: &[u8]) -> &[u8]
+    ensures { result.now ≡ take most_shown text.now }
+{
+    if text.len() < MOST_SHOWN {
+        text
+    } else {
+        &text[..MOST_SHOWN]
+    }
+}
+
+/// What is shown of a text that is cut off: its first 60 bytes, up to the end of the line.
+pub fn shown_front(text: &[u8]) -> &[u8]
+    ensures { result.now ≡ shown_front text.now }
+{
+    let front = first_bytes(text);
+    &front[..shown_len(front)]
+}
+
 /// Adds the line of what was cut off.
-pub(crate) fn push_cut(text: &mut Vec<u8>, span: Span) -> Result<(), AllocError>
+pub(crate) fn push_cut(text: &mut Vec<u8>, cut: &Cut<'_>) -> Result<(), AllocError>
     ensures { OnOk result (text.new.items
-        ≡ text.old.items ++ event_line (CutOff span)) }
+        ≡ text.old.items ++ event_line (CutOff cut.now.span cut.now.text.now)) }
 {
     push_bytes(text, b"cut: ")?;
-    push_count(text, span.start)?;
+    push_count(text, cut.span.start)?;
     push_bytes(text, b"..")?;
-    push_count(text, span.end)?;
-    push_bytes(text, b"\n")?;
+    push_count(text, cut.span.end)?;
+    push_bytes(text, b", from \"")?;
+    push_bytes(text, shown_front(cut.text))?;
+    push_bytes(text, b"\"\n")?;
     Ok(())
 }
 

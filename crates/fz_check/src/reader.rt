@@ -2,14 +2,14 @@
 
 ghost use Rattle.std.specs.Prelude.{◌≡◌, ◌≢◌, ℕ, Option, ◌+◌, ◌<◌, ◌≤◌, List, [], ◌∷◌, ◌++◌, length, map, Ok, Some, IfOk, IfSome, OnOk, OnErr, IfErr, IsSome, true, false};
 ghost use Rattle.std.specs.Io.KnownBytes.{Consumes, IsAtEnd};
-ghost use Rattle.fz_filling.specs.of_stream.Parts.{StreamPart, Frame, frame_of};
+ghost use Rattle.fz_filling.specs.of_stream.Parts.{IsStreamTextWithin, StreamPart, Frame, frame_of};
 ghost use Rattle.fz_filling.specs.of_syntax.Limits.{Limits};
+ghost use Rattle.fz_search.specs.of_model.Meaning.{Model as PlainModel};
 ghost use Rattle.fz_filling.specs.of_stream.Splitting.{EndsLast, most_taken};
 ghost use Rattle.fz_check.specs.Reading.{HasNext, HasRead, StandsAt, WaitsInside, piece_size, steps_left};
-ghost use Rattle.fz_check.specs.Telling.{IsEndOf, IsUnread, broken_end};
+ghost use Rattle.fz_check.specs.Telling.{IsLeftOpen, IsUnread, broken_end};
 
 use crate::error::{CheckError, stream_refusal};
-use crate::options::Ending;
 use crate::pieces::{Pieces, ReadFailed};
 use fz_stream::{Limits, Part, Span, Splitter, StreamError};
 use std::alloc::Global;
@@ -23,21 +23,21 @@ pub(crate) enum Step {
     Part,
     /// All bytes that were read are taken: more have to be read.
     Bytes,
-    /// The stream has ended, and all of its parts were read; this was cut off, where something was.
-    End(Option<Span>),
+    /// The stream has ended, and all of its parts were read.
+    End,
+    /// The stream has ended inside a block, which has this byte range, behind all parts that were
+    /// read.
+    Open(Span),
 }
 
 /// What there is to do with a stream that can't end as it is.
-fn broken_end(ending: Ending, error: StreamError) -> Result<Step, CheckError>
-    ensures is { result ≡ broken_end ending error }
+fn broken_end(error: StreamError) -> Result<Step, CheckError>
+    ensures is { result ≡ broken_end error }
     ensures not_part { result ≢ Ok Step.Part }
 {
-    match ending {
-        Ending::Whole => Err(stream_refusal(error)),
-        Ending::Cut => match error {
-            StreamError::Unfinished(span) => Ok(Step::End(Some(span))),
-            error => Err(stream_refusal(error)),
-        },
+    match error {
+        StreamError::Unfinished(span) => Ok(Step::Open(span)),
+        error => Err(stream_refusal(error)),
     }
 }
 
@@ -98,10 +98,11 @@ impl PartReader {
         ensures none { result ≡ Ok Step.Bytes → (limits : Limits) (given : List ℕ)
             (parts : List StreamPart) → HasRead limits self.old given parts
             → (self.new.pieces.pending ≡ []) × HasRead limits self.new given parts }
-        ensures not_end { (cut : Option SpanData) → result ≢ Ok (Step.End cut) }
-        ensures refused { IfErr result (λ e. (limits : Limits) (ending : Ending)
+        ensures not_end { result ≢ Ok Step.End }
+        ensures not_open { (span : SpanData) → result ≢ Ok (Step.Open span) }
+        ensures refused { IfErr result (λ e. (limits : Limits) (ending : Ending) (m : PlainModel)
             (left : Option (List ℕ)) (given : List ℕ) (parts : List StreamPart)
-            → HasRead limits self.old given parts → IsUnread limits ending left given parts e) }
+            → HasRead limits self.old given parts → IsUnread limits ending m left given parts e) }
     {
         let PartReader {
             splitter,
@@ -120,7 +121,7 @@ impl PartReader {
     }
 
     /// Ends the stream, whose bytes were all taken.
-    fn finish(&mut self, ending: Ending) -> Result<Step, CheckError>
+    fn finish(&mut self) -> Result<Step, CheckError>
         requires at_end { self.old.pieces.at_end ≡ true }
         requires going { self.old.splitter.stage ≢ Finished }
         ensures same { self.new.pieces ≡ self.old.pieces }
@@ -130,24 +131,27 @@ impl PartReader {
         ensures more { result ≡ Ok Step.Part → (limits : Limits) (given : List ℕ)
             (parts : List StreamPart) → HasRead limits self.old given parts → (frame : Frame)
             × (self.new.splitter.waits ≡ Some frame) × EndsLast given (map frame_of parts) frame }
-        ensures end { (cut : Option SpanData) → result ≡ Ok (Step.End cut) → (limits : Limits)
+        ensures end { result ≡ Ok Step.End → (limits : Limits) (given : List ℕ)
+            (parts : List StreamPart) → HasRead limits self.old given parts
+            → IsStreamTextWithin limits given parts }
+        ensures open { (span : SpanData) → result ≡ Ok (Step.Open span) → (limits : Limits)
             (given : List ℕ) (parts : List StreamPart) → HasRead limits self.old given parts
-            → IsEndOf limits ending given parts cut }
+            → IsLeftOpen limits given parts span self.new.splitter.held }
         ensures not_bytes { result ≢ Ok Step.Bytes }
-        ensures refused { IfErr result (λ e. (limits : Limits) (left : Option (List ℕ))
-            (given : List ℕ) (parts : List StreamPart)
+        ensures refused { IfErr result (λ e. (limits : Limits) (ending : Ending) (m : PlainModel)
+            (left : Option (List ℕ)) (given : List ℕ) (parts : List StreamPart)
             → HasRead limits self.old given parts → IsAtEnd left
-            → IsUnread limits ending left given parts e) }
+            → IsUnread limits ending m left given parts e) }
     {
         match self.splitter.finish() {
             Ok(()) => {}
-            Err(error) => return broken_end(ending, error),
+            Err(error) => return broken_end(error),
         }
         self.has_ended = true;
         if self.splitter.waiting() {
             return Ok(Step::Part);
         }
-        Ok(Step::End(None))
+        Ok(Step::End)
     }
 
     /// Goes on to the end of the next part in what was read. After an error it fails for good.
@@ -155,7 +159,7 @@ impl PartReader {
     /// # Errors
     ///
     /// The stream's first fault, or `Memory` where memory runs out.
-    pub(crate) fn advance(&mut self, ending: Ending) -> Result<Step, CheckError>
+    pub(crate) fn advance(&mut self) -> Result<Step, CheckError>
         ensures part { result ≡ Ok Step.Part → (limits : Limits) (left : Option (List ℕ))
             (given : List ℕ) (parts : List StreamPart) → StandsAt limits self.old left given parts
             → (frame : Frame) × HasNext limits self.new left given parts frame }
@@ -167,25 +171,31 @@ impl PartReader {
             (given : List ℕ) (parts : List StreamPart) → StandsAt limits self.old left given parts
             → (self.new.pieces.pending ≡ []) × HasRead limits self.new given parts }
         ensures open { result ≡ Ok Step.Bytes → self.new.pieces.at_end ≡ false }
-        // The bytes have ended, and are a text of the parts so far, but for what is cut off.
-        ensures end { (cut : Option SpanData) → result ≡ Ok (Step.End cut)
-            → (limits : Limits) (left : Option (List ℕ)) (given : List ℕ) (parts : List StreamPart)
+        // The bytes have ended, and are a text of the parts so far.
+        ensures end { result ≡ Ok Step.End → (limits : Limits) (left : Option (List ℕ))
+            (given : List ℕ) (parts : List StreamPart) → StandsAt limits self.old left given parts
+            → IsAtEnd left × IsStreamTextWithin limits given parts }
+        ensures found_end { result ≡ Ok Step.End → self.old.pieces.at_end ≡ true }
+        ensures ended { self.old.splitter.stage ≡ Finished → result ≡ Ok Step.End }
+        // The bytes have ended, and leave a block open behind the parts so far.
+        ensures left_open { (span : SpanData) → result ≡ Ok (Step.Open span) → (limits : Limits)
+            (left : Option (List ℕ)) (given : List ℕ) (parts : List StreamPart)
             → StandsAt limits self.old left given parts
-            → IsAtEnd left × IsEndOf limits ending given parts cut }
-        ensures found_end { (cut : Option SpanData) → result ≡ Ok (Step.End cut)
+            → IsAtEnd left × IsLeftOpen limits given parts span self.new.splitter.held }
+        ensures found_open { (span : SpanData) → result ≡ Ok (Step.Open span)
             → self.old.pieces.at_end ≡ true }
-        ensures ended { self.old.splitter.stage ≡ Finished → result ≡ Ok (Step.End None) }
         ensures reads { self.new.pieces.reads ≡ self.old.pieces.reads }
         ensures at_end { self.new.pieces.at_end ≡ self.old.pieces.at_end }
-        ensures refused { IfErr result (λ e. (limits : Limits) (left : Option (List ℕ))
-            (given : List ℕ) (parts : List StreamPart) → StandsAt limits self.old left given parts
-            → IsUnread limits ending left given parts e) }
+        ensures refused { IfErr result (λ e. (limits : Limits) (ending : Ending) (m : PlainModel)
+            (left : Option (List ℕ)) (given : List ℕ) (parts : List StreamPart)
+            → StandsAt limits self.old left given parts
+            → IsUnread limits ending m left given parts e) }
     {
         if self.has_ended {
-            return Ok(Step::End(None));
+            return Ok(Step::End);
         }
         if self.pieces.at_end() {
-            return self.finish(ending);
+            return self.finish();
         }
         self.feed()
     }
@@ -212,6 +222,13 @@ impl PartReader {
         self.pieces.read(reader)
     }
 
+    /// The text that the end of the stream leaves open, where it does.
+    pub(crate) fn left_open(&self) -> &[u8]
+        ensures { result.now ≡ self.now.splitter.held }
+    {
+        self.splitter.held()
+    }
+
     /// Lends the part that waits, and reads a block's text for it. An error changes nothing.
     ///
     /// # Errors
@@ -226,10 +243,10 @@ impl PartReader {
             (given : List ℕ) (parts : List StreamPart) (frame : Frame)
             → HasNext limits self.now left given parts frame
             → StandsAt limits self.now left given (parts ++ part_of part ∷ [])) }
-        ensures refused { IfErr result (λ e. (limits : Limits) (ending : Ending)
+        ensures refused { IfErr result (λ e. (limits : Limits) (ending : Ending) (m : PlainModel)
             (left : Option (List ℕ)) (given : List ℕ) (parts : List StreamPart) (frame : Frame)
             → HasNext limits self.now left given parts frame
-            → IsUnread limits ending left given parts e) }
+            → IsUnread limits ending m left given parts e) }
     {
         match self.splitter.take() {
             Ok(Some(part)) => Ok(part),

@@ -5,7 +5,7 @@ ghost use Rattle.std.specs.Prelude.{◌≡◌, ℕ, List, [], IfOk, IfErr};
 ghost use Rattle.fz_search.specs.of_model.Texts.{IsLoadedFromWithin};
 ghost use Rattle.fz_check.specs.Cutting.{HoldsOfJudged};
 ghost use Rattle.fz_check.specs.Headline.{HasSolutionsWithin, HoldsOfStream};
-ghost use Rattle.fz_check.specs.Reported.{HasSolutions};
+ghost use Rattle.fz_check.specs.Reported.{HasSolutions, HoldsOfModelWithin};
 ghost use Rattle.fz_check.specs.Reading.{SpendsReads};
 ghost use Rattle.fz_check.specs.Streaming.{IsEnded, IsEndedWith, IsReported, IsReportedWith, most_reads};
 ghost use Rattle.fz_check.specs.Telling.{AnswersOnceWritten, Stands, StopsOnceWritten};
@@ -13,6 +13,7 @@ ghost use Rattle.fz_check.specs.View.{answer_view};
 
 use crate::account::Answer;
 use crate::checking::read_model;
+use crate::cutting::cut_off;
 use crate::error::CheckError;
 use crate::event::{Taker, TextTaker};
 use crate::jury::Jury;
@@ -52,7 +53,7 @@ fn tell_parts<R: Read, W: Write, T: Taker>(
     // A line is made apart, so that running out of memory in its midst leaves whole lines.
     let mut line = Vec::new(alloc);
     loop {
-        match parts.advance(options.ending) {
+        match parts.advance() {
             Ok(Step::Part) => {
                 match tell_next(alloc, &parts, &mut jury, taker, &mut line) {
                     Ok(()) => {}
@@ -73,8 +74,15 @@ fn tell_parts<R: Read, W: Write, T: Taker>(
                     Err(ReadFailed) => return Err(CheckError::Read),
                 }
             }
-            Ok(Step::End(cut)) => {
-                return tell_end(taker, &mut line, lines, cut, jury.answer());
+            Ok(Step::End) => {
+                return tell_end(taker, &mut line, lines, None, jury.answer());
+            }
+            Ok(Step::Open(span)) => {
+                let cut = match cut_off(alloc, model, options, span, parts.left_open()) {
+                    Ok(cut) => cut,
+                    Err(error) => return Err(error),
+                };
+                return tell_end(taker, &mut line, lines, Some(cut), jury.answer());
             }
             Err(error) => return Err(error),
         }
@@ -90,9 +98,10 @@ fn tell_parts<R: Read, W: Write, T: Taker>(
 /// It can make an undecided block satisfied, and a satisfied one undecided, where its objective
 /// isn't better than one that was found for the block before.
 ///
-/// Where cutting is on, a stream that ends inside a block is no fault: the block is cut off, which
-/// is told before the answer, and the bytes before it are judged. A claim's line without LF in that
-/// block, at the end, is cut off with it.
+/// Where cutting is on, a stream that ends inside a block is no fault, if only the end of the block
+/// is missing: what there is of it is the front of items whose names are declared, or its whole
+/// lines are such items, and the last line is the front of a marker or a claim. The block is cut
+/// off, which is told before the answer, and the bytes before it are judged.
 ///
 /// Where claims are judged, one is told as refuted at its place, or behind the block that refutes
 /// it. Where they are to be proved too, a search is made for one that nothing refutes at its place,
@@ -116,16 +125,17 @@ pub fn check_events<R: Read, W: Write, T: Taker>(
 ) -> Result<Answer, CheckError>
     // What is accepted has solutions.
     ensures accepted { IfOk result (λ a. (count : ℕ) → a ≡ Answer.Accepted count
-        → HoldsOfStream (R.remaining reader.old) (R.remaining reader.new)
-        (λ given. HoldsOfJudged options.entry.limits options.entry.ending given
-        (λ front _. HasSolutionsWithin options.entry.limits model.now front count))) }
+        → HoldsOfModelWithin options.entry.limits model.now
+        (λ m. HoldsOfStream (R.remaining reader.old) (R.remaining reader.new)
+        (λ given. HoldsOfJudged options.entry.limits options.entry.ending m given
+        (λ front _. HasSolutionsWithin options.entry.limits model.now front count)))) }
     // The writer got the report on all that the reader gave up to its end, but for what is cut off,
     // which is told, and nothing else.
-    ensures report { IfOk result (λ a. HoldsOfStream (R.remaining reader.old)
-        (R.remaining reader.new)
-        (λ given. HoldsOfJudged options.entry.limits options.entry.ending given
+    ensures report { IfOk result (λ a. HoldsOfModelWithin options.entry.limits model.now
+        (λ m. HoldsOfStream (R.remaining reader.old) (R.remaining reader.new)
+        (λ given. HoldsOfJudged options.entry.limits options.entry.ending m given
         (λ front cut. IsReportedWith options.entry cut T.text model.now front
-        (W.contents writer.old) (W.contents writer.new) (answer_view a)))) }
+        (W.contents writer.old) (W.contents writer.new) (answer_view a))))) }
     // The model, the stream or a block is refused only for its first fault. What was told of the
     // parts before it was written, and nothing else.
     ensures refused { IfErr result (IsEndedWith options.entry T.text model.now
@@ -144,11 +154,12 @@ pub fn check_events<R: Read, W: Write, T: Taker>(
     check_loaded(alloc, &loaded, reader, writer, taker, reads, options)
 }
 
-/// As `check_events` for each text that the model is loaded from, under the limits of the options.
+/// As `check_events`, with a model that is loaded: what is said there of the model's text is so of
+/// each that it may have been loaded from, within the limits.
 ///
 /// # Errors
 ///
-/// As `check_events` has them of a stream.
+/// As `check_events`, but for `Model` and `Names`.
 pub fn check_loaded<R: Read, W: Write, T: Taker>(
     alloc: Global,
     model: &Model<'_>,
@@ -158,20 +169,21 @@ pub fn check_loaded<R: Read, W: Write, T: Taker>(
     reads: u64,
     options: Options<'_>,
 ) -> Result<Answer, CheckError>
-    ensures accepted { (source : List ℕ) → IsLoadedFromWithin options.entry.limits source model.now
-        → IfOk result (λ a. (count : ℕ) → a ≡ Answer.Accepted count
+    ensures accepted { IfOk result (λ a. (count : ℕ) → a ≡ Answer.Accepted count
+        → (source : List ℕ) → IsLoadedFromWithin options.entry.limits source model.now
         → HoldsOfStream (R.remaining reader.old) (R.remaining reader.new)
-        (λ given. HoldsOfJudged options.entry.limits options.entry.ending given
+        (λ given. HoldsOfJudged options.entry.limits options.entry.ending model.now given
         (λ front _. HasSolutionsWithin options.entry.limits source front count))) }
-    ensures report { (source : List ℕ) → IsLoadedFromWithin options.entry.limits source model.now
-        → IfOk result (λ a. HoldsOfStream (R.remaining reader.old) (R.remaining reader.new)
-        (λ given. HoldsOfJudged options.entry.limits options.entry.ending given
+    ensures report { IfOk result (λ a. (source : List ℕ)
+        → IsLoadedFromWithin options.entry.limits source model.now
+        → HoldsOfStream (R.remaining reader.old) (R.remaining reader.new)
+        (λ given. HoldsOfJudged options.entry.limits options.entry.ending model.now given
         (λ front cut. IsReportedWith options.entry cut T.text source front
         (W.contents writer.old) (W.contents writer.new) (answer_view a)))) }
-    ensures refused { (source : List ℕ) → IsLoadedFromWithin options.entry.limits source model.now
-        → IfErr result (IsEndedWith options.entry T.text source
-        (R.remaining reader.old) (R.remaining reader.new) (W.contents writer.old)
-        (W.contents writer.new)) }
+    ensures refused { IfErr result (λ e. (source : List ℕ)
+        → IsLoadedFromWithin options.entry.limits source model.now
+        → IsEndedWith options.entry T.text source (R.remaining reader.old)
+        (R.remaining reader.new) (W.contents writer.old) (W.contents writer.new) e) }
     ensures reads { SpendsReads reads 0 (R.remaining reader.old) (R.remaining reader.new) }
     ensures end_read { IfOk result
         (λ _. SpendsReads reads 1 (R.remaining reader.old) (R.remaining reader.new)) }

@@ -18,11 +18,11 @@ ghost use Rattle.fz_check.specs.Writing.{Adds, WritesFront, Wrote};
 use crate::account::Answer;
 use crate::claims::{Refutation, Refuter, Statement};
 use crate::error::CheckError;
-use crate::event::{Event, Judged, Taker};
+use crate::event::{Cut, Event, Judged, Taker};
 use crate::jury::Jury;
 use crate::reader::PartReader;
 use crate::writing::{WriteFailed, write_lines};
-use fz_stream::{Part, Span};
+use fz_stream::Part;
 use std::alloc::{AllocError, Global};
 use std::io::Write;
 
@@ -118,13 +118,13 @@ fn tell_part<T: Taker>(
 fn make_cut<T: Taker>(
     taker: &mut T,
     line: &mut Vec<u8>,
-    cut: Option<Span>,
+    cut: Option<Cut<'_>>,
 ) -> Result<(), AllocError>
-    ensures { OnOk result (AreOf T.text (cut_events cut) line.new.items) }
+    ensures { OnOk result (AreOf T.text (cut_events cut.entry) line.new.items) }
 {
     line.clear();
     match cut {
-        Some(span) => taker.take(&Event::Cut(span), line),
+        Some(cut) => taker.take(&Event::Cut(cut), line),
         None => Ok(()),
     }
 }
@@ -135,10 +135,10 @@ pub(crate) fn tell_end<T: Taker>(
     taker: &mut T,
     line: &mut Vec<u8>,
     lines: &mut Vec<u8>,
-    cut: Option<Span>,
+    cut: Option<Cut<'_>>,
     answer: Answer,
 ) -> Result<Answer, CheckError>
-    ensures told { OnOk result (Adds (AreOf T.text (cut_events cut
+    ensures told { OnOk result (Adds (AreOf T.text (cut_events cut.entry
         ++ Answered (answer_view answer) ∷ [])) lines.old.items lines.new.items) }
     ensures answer { IfOk result (λ a. a ≡ answer) }
     ensures unchanged { OnErr result (lines.new.items ≡ lines.old.items) }

@@ -25,7 +25,8 @@ fzcheck check [--large] [--complete] [--complete-steps N] [--cut] [--claims[=pro
                 --claims=prove to ten times as many; both get 100 more for each point of the model
                 and each scalar in it
     --cut       accepts the output of a solver that was killed: judges what comes before the
-                unfinished block, and reports the byte range of that block
+                unfinished block, and reports the byte range of that block and its first bytes;
+                only the end of the block may be missing
     --claims    judges claims on the whole search, that there is no solution, or none better than
                 the last one: a satisfied block can refute them
     --claims=prove

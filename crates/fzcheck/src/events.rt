@@ -3,7 +3,8 @@
 use crate::reading::Unread;
 use crate::refusing::unread_text;
 use fz_check::{
-    CheckError, ClaimKind, Fault, Judged, Reason, Refutation, Refuter, Span, Verdict, claim_text,
+    CheckError, ClaimKind, Cut, Fault, Judged, Reason, Refutation, Refuter, Verdict, claim_text,
+    shown_front,
 };
 use fz_files::Object;
 use std::alloc::{AllocError, Global};
@@ -156,10 +157,11 @@ pub fn refuted_line(alloc: Global, refutation: &Refutation<'_>) -> Result<Vec<u8
     object.line()
 }
 
-/// The line of what was cut off, with its byte range.
-pub fn cut_line(alloc: Global, span: Span) -> Result<Vec<u8>, AllocError> {
+/// The line of what was cut off, with its byte range and the front of its first line.
+pub fn cut_line(alloc: Global, cut: &Cut<'_>) -> Result<Vec<u8>, AllocError> {
     let mut object = Object::new(alloc);
-    object.pair("cut", span.start, span.end);
+    object.pair("cut", cut.span.start, cut.span.end);
+    object.word("from", shown_front(cut.text));
     object.line()
 }
 

@@ -195,7 +195,7 @@ impl<'s, 't, 'r, 'n> Teller<'s, 't, 'r, 'n> {
                 claim_line(alloc, claim.kind, claim.after, Some(*nodes))
             }
             Event::Refuted(refutation) => refuted_line(alloc, refutation),
-            Event::Cut(span) => cut_line(alloc, *span),
+            Event::Cut(cut) => cut_line(alloc, cut),
             Event::Answer(answer) => {
                 let mut lines = Vec::new(alloc);
                 self.add_explanation(&mut lines);

@@ -4,7 +4,7 @@ import re
 from typing import IO, Dict, Iterator, List, Optional, Set, Tuple
 
 from fzcheck.batch.results import Claim, Outcome, Result
-from fzcheck.lines import Object, block_line, note_lines, refusal_line
+from fzcheck.lines import Object, block_line, cut_words, note_lines, refusal_line
 
 PIECE = 1 << 22
 MOST_CLAIMS, MOST_POINTS, MOST_LINES, MOST_OBJECTIVES = 1000, 60, 60, 250
@@ -224,12 +224,6 @@ class Reader:
 
 def claim_words(claim: Claim) -> str:
     return f"claim after block {claim.after}: {claim.claim} {claim.judgement}"
-
-
-def cut_words(line: Object) -> str:
-    """The byte range that was cut off, and the front of its text where that is told."""
-    front = f', from "{line["from"]}"' if "from" in line else ""
-    return "{}..{}".format(*line["cut"]) + front
 
 
 def refusal_words(line: Object) -> str:

@@ -12,7 +12,7 @@ from fzcheck.mzn.values import Array, SetOf, Unreadable, listing
 
 # The compiler's own variables, whose numbers depend on how it is called, and such as `_output`.
 OF_NO_MODEL = re.compile(r"X_INTRODUCED_\d+_$|_")
-CUT_SHORT = "cut_short = 0;"  # an item without a marker behind it
+CUT_SHORT = "-"  # the front of a marker
 
 
 class Waiting(NamedTuple):
@@ -46,7 +46,7 @@ class Writer:
             if isinstance(part, Claim):
                 self.put(part.text, part.line)
             elif isinstance(part, Cut):
-                self.put(CUT_SHORT, part.line)
+                self.put(CUT_SHORT, part.line, "")
                 self.cut = part.start
             else:
                 self.solution(part.values)
@@ -54,8 +54,8 @@ class Writer:
         self.compute()
         return "".join(self.pieces)
 
-    def put(self, text: str, line: int) -> None:
-        self.pieces.append(text + "\n")
+    def put(self, text: str, line: int, end: str = "\n") -> None:
+        self.pieces.append(text + end)
         self.lines.append(line)
 
     def solution(self, values: List[Printed]) -> None:

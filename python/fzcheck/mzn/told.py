@@ -1,5 +1,6 @@
 """The report of `fzcheck check --json` in the planner's words, as text or as JSON."""
 import json
+import re
 from typing import Dict, Iterator, List, NamedTuple, Optional, Tuple
 
 from fzcheck import lines
@@ -10,6 +11,8 @@ from fzcheck.mzn.items import Items
 from fzcheck.mzn.model import Model
 from fzcheck.mzn.plan import Solution
 from fzcheck.mzn.wording import Wording, joined
+
+SHOWN = re.compile(rb"[ -~]{0,60}")  # of what is cut off
 
 
 class Source(NamedTuple):
@@ -33,8 +36,14 @@ class Source(NamedTuple):
             found["line"] = self.line(found["line"])
             found.pop("column", None)
         if "cut" in found and self.cut:
-            found["cut"] = list(self.cut)
+            found["cut"], found["from"] = list(self.cut), self.cut_front(self.cut[0])
         return found
+
+    def cut_front(self, at: int) -> str:
+        """What is shown of the plan's text from this byte on, which is cut off."""
+        text = "\n".join(self.text).encode("utf-8", "surrogateescape")
+        shown = SHOWN.match(text, at)
+        return shown[0].decode() if shown else ""
 
 
 class Told:

@@ -4,5 +4,5 @@ use Rattle.fz_check.proofs.CutLemmas.{open_not_framed}
 use Rattle.fz_check.proofs.cut_streams_end_inside.Goals as goal
 
 pub returns : goal.returns
-returns c = λ limits others given front span parts cut text.
-    open_not_framed given cut.frames (map frame_of parts) span cut.breaks text.framed
+returns c = λ limits others m given front span text parts cut parted.
+    open_not_framed given cut.frames (map frame_of parts) span cut.breaks parted.framed

@@ -1,11 +1,11 @@
-use Rattle.std.proofs.Common.{◌≡◌, ◌≢◌, ◌∙◌, ◌+◌, ◌++◌, None, inl, sym, subst, Ok, rules, arith}
+use Rattle.std.proofs.Common.{◌≡◌, ◌≢◌, ◌∙◌, ◌+◌, ◌++◌, None, Some, inl, sym, subst, Ok, rules, arith}
 use Rattle.std.proofs.lemmas.Result.{IfErr-weaker}
 use Rattle.fz_filling.specs.of_stream.declared.splitter.Stage.TheVariants.{Finished}
 use Rattle.fz_check.specs.declared.reader.Step.TheVariants as steps
 use Rattle.fz_check.specs.Streaming.{IsUnwritten}
 use Rattle.fz_check.specs.Writing.{WritesFront, Wrote}
 use Rattle.fz_check.proofs.JuryLemmas.{told_none}
-use Rattle.fz_check.proofs.StreamingLemmas.{living_first, living_stands, living_unread, living_untold, living_told, living_ungathered, living_lost, living_unread_stands, living_no_bytes, living_read, living_ended, living_answered}
+use Rattle.fz_check.proofs.StreamingLemmas.{living_first, living_stands, living_unread, living_untold, living_told, living_ungathered, living_lost, living_unread_stands, living_no_bytes, living_read, living_ended, living_answered, opened_cut, opened_uncut}
 use Rattle.fz_check.proofs.streaming.tell_parts.Goals as goal
 
 pub loop-parts-init : goal.loop-parts-init
@@ -19,7 +19,7 @@ pub returns-in-Err-clause-stands : goal.returns-in-Err-clause-stands
 returns-in-Err-clause-stands g c = living_stands c.loop-parts.invariant
 
 pub returns-in-Err-clause-refused : goal.returns-in-Err-clause-refused
-returns-in-Err-clause-refused g c = living_unread c.loop-parts.invariant c.in-Err.error (c.in-Err.ensures.refused _)
+returns-in-Err-clause-refused g c = living_unread c.loop-parts.invariant c.in-Err.error (c.in-Err.ensures.refused _ _ _)
 
 -- ---- a part is told
 
@@ -34,13 +34,13 @@ returns-in-Err-tell_next-clause-stands g c = living_stands c.loop-parts.invarian
 pub returns-in-Err-tell_next-clause-refused : goal.returns-in-Err-tell_next-clause-refused
 returns-in-Err-tell_next-clause-refused g c =
     let is : c.advance.result ≡ Ok steps.Part = search rules in
-    let going : c.loop-parts.parts.splitter.stage ≢ Finished = λ f. (let no : Ok steps.Part ≡ Ok (steps.End None) = sym is ∙ c.advance.ensures.ended f in cc) in
+    let going : c.loop-parts.parts.splitter.stage ≢ Finished = λ f. (let no : Ok steps.Part ≡ Ok steps.End = sym is ∙ c.advance.ensures.ended f in cc) in
     living_untold c.loop-parts.invariant c.advance.new.self going (c.advance.ensures.part is _) (c.advance.ensures.fewer is _ _ _ _ c.loop-parts.invariant.stands) c.advance.ensures.reads c.advance.ensures.at_end c.in-Err-tell_next.error c.in-Err-tell_next.ensures.refused
 
 pub loop-parts-preserved-in-Ok-gather : goal.loop-parts-preserved-in-Ok-gather
 loop-parts-preserved-in-Ok-gather g c =
     let is : c.advance.result ≡ Ok steps.Part = search rules in
-    let going : c.loop-parts.parts.splitter.stage ≢ Finished = λ f. (let no : Ok steps.Part ≡ Ok (steps.End None) = sym is ∙ c.advance.ensures.ended f in cc) in
+    let going : c.loop-parts.parts.splitter.stage ≢ Finished = λ f. (let no : Ok steps.Part ≡ Ok steps.End = sym is ∙ c.advance.ensures.ended f in cc) in
     let gathered = subst (λ l. Wrote (g.W.Write.contents c.loop-parts.writer) (g.W.Write.contents c.gather.new.writer) (c.loop-parts.lines.items ++ l) c.gather.new.lines.items) c.deref.ensures.value c.in-Ok-gather.ensures.gathered in
     living_told c.loop-parts.invariant c.advance.new.self going (c.advance.ensures.part is _) (c.advance.ensures.fewer is _ _ _ _ c.loop-parts.invariant.stands) c.advance.ensures.reads c.advance.ensures.at_end
     c.tell_next.new.jury c.tell_next.new.line.items c.in-Ok.ensures.told _ _ gathered c.in-Ok.ensures.counted
@@ -48,7 +48,7 @@ loop-parts-preserved-in-Ok-gather g c =
 pub returns-in-Err-gather-clause-stands : goal.returns-in-Err-gather-clause-stands
 returns-in-Err-gather-clause-stands g c =
     let is : c.advance.result ≡ Ok steps.Part = search rules in
-    let going : c.loop-parts.parts.splitter.stage ≢ Finished = λ f. (let no : Ok steps.Part ≡ Ok (steps.End None) = sym is ∙ c.advance.ensures.ended f in cc) in
+    let going : c.loop-parts.parts.splitter.stage ≢ Finished = λ f. (let no : Ok steps.Part ≡ Ok steps.End = sym is ∙ c.advance.ensures.ended f in cc) in
     living_ungathered c.loop-parts.invariant c.advance.new.self going (c.advance.ensures.part is _) (c.advance.ensures.fewer is _ _ _ _ c.loop-parts.invariant.stands) c.advance.ensures.reads c.advance.ensures.at_end
     c.tell_next.new.jury c.tell_next.new.line.items c.in-Ok.ensures.told _ _
     (λ next f. subst (λ l. WritesFront (g.W.Write.contents c.loop-parts.writer) next (c.loop-parts.lines.items ++ l)) c.deref.ensures.value (c.in-Err-gather.ensures.front next f))
@@ -69,7 +69,7 @@ read-requires-clause-none g c =
 pub loop-parts-preserved : goal.loop-parts-preserved
 loop-parts-preserved g c =
     let is : c.advance.result ≡ Ok steps.Bytes = search rules in
-    let going : c.loop-parts.parts.splitter.stage ≢ Finished = λ f. (let no : Ok steps.Bytes ≡ Ok (steps.End None) = sym is ∙ c.advance.ensures.ended f in cc) in
+    let going : c.loop-parts.parts.splitter.stage ≢ Finished = λ f. (let no : Ok steps.Bytes ≡ Ok steps.End = sym is ∙ c.advance.ensures.ended f in cc) in
     let reads : c.read.new.self.pieces.reads + 1 ≡ c.loop-parts.parts.pieces.reads = omega (arith, c.in-Ok-read.ensures.reads, c.advance.ensures.reads) in
     living_read c.loop-parts.invariant c.advance.new.self c.read.new.self _ _ _ c.in-Ok-write_lines.ensures.whole c.write_lines.ensures.none_left (c.advance.ensures.bytes is _) c.read.ensures.same c.read.ensures.given reads c.read.ensures.size c.read.ensures.end going
 
@@ -87,19 +87,47 @@ returns-in-Err-read-clause-refused g c =
 
 pub returns-in-Ok-End-clause-stands : goal.returns-in-Ok-End-clause-stands
 returns-in-Ok-End-clause-stands g c =
-    let is : c.advance.result ≡ Ok (steps.End c.in-Ok-End.cut) = search rules in
-    living_ended c.loop-parts.invariant c.in-Ok-End.cut
-    (c.advance.ensures.end c.in-Ok-End.cut is _) _ c.answer.ensures _ c.tell_end.result
+    let is : c.advance.result ≡ Ok steps.End = search rules in
+    living_ended c.loop-parts.invariant None
+    (c.advance.ensures.end is _) _ c.answer.ensures _ c.tell_end.result
     c.tell_end.ensures.told c.tell_end.ensures.unchanged
 
 pub returns-in-Ok-End-clause-answered : goal.returns-in-Ok-End-clause-answered
 returns-in-Ok-End-clause-answered g c =
-    let is : c.advance.result ≡ Ok (steps.End c.in-Ok-End.cut) = search rules in
-    living_answered c.loop-parts.invariant c.in-Ok-End.cut
-    (c.advance.ensures.end c.in-Ok-End.cut is _) _ c.answer.ensures _ c.tell_end.result
-    c.tell_end.ensures.told c.tell_end.ensures.answer
-    (c.advance.ensures.found_end c.in-Ok-End.cut is)
+    let is : c.advance.result ≡ Ok steps.End = search rules in
+    living_answered c.loop-parts.invariant None
+    (c.advance.ensures.end is _) _ c.answer.ensures _ c.tell_end.result
+    c.tell_end.ensures.told c.tell_end.ensures.answer (c.advance.ensures.found_end is)
 
 pub returns-in-Ok-End-clause-refused : goal.returns-in-Ok-End-clause-refused
 returns-in-Ok-End-clause-refused g c =
     IfErr-weaker c.tell_end.result _ _ (λ e is. inl (subst IsUnwritten (sym is) tt)) c.tell_end.ensures.kinds
+
+-- ---- inside a block, which is cut off, or not
+
+pub returns-in-Err-cut_off-clause-stands : goal.returns-in-Err-cut_off-clause-stands
+returns-in-Err-cut_off-clause-stands g c = living_stands c.loop-parts.invariant
+
+pub returns-in-Err-cut_off-clause-refused : goal.returns-in-Err-cut_off-clause-refused
+returns-in-Err-cut_off-clause-refused g c =
+    let is : c.advance.result ≡ Ok (steps.Open c.in-Ok-Open.span) = search rules in
+    living_unread c.loop-parts.invariant c.in-Err-cut_off.error
+    (opened_uncut c.args.options c.args.model.now _ _ _ _ c.left_open.ensures (c.advance.ensures.left_open c.in-Ok-Open.span is _) c.in-Err-cut_off.error c.in-Err-cut_off.ensures.refused)
+
+pub returns-in-Ok-Open-clause-stands : goal.returns-in-Ok-Open-clause-stands
+returns-in-Ok-Open-clause-stands g c =
+    let is : c.advance.result ≡ Ok (steps.Open c.in-Ok-Open.span) = search rules in
+    living_ended c.loop-parts.invariant (Some c.in-Ok-cut_off.cut)
+    (opened_cut c.args.options c.args.model.now _ _ _ _ c.left_open.ensures (c.advance.ensures.left_open c.in-Ok-Open.span is _) c.in-Ok-cut_off.cut c.in-Ok-cut_off.ensures.cut) _ c.answer-in-Ok-Open.ensures _ c.tell_end-in-Ok-Open.result
+    c.tell_end-in-Ok-Open.ensures.told c.tell_end-in-Ok-Open.ensures.unchanged
+
+pub returns-in-Ok-Open-clause-answered : goal.returns-in-Ok-Open-clause-answered
+returns-in-Ok-Open-clause-answered g c =
+    let is : c.advance.result ≡ Ok (steps.Open c.in-Ok-Open.span) = search rules in
+    living_answered c.loop-parts.invariant (Some c.in-Ok-cut_off.cut)
+    (opened_cut c.args.options c.args.model.now _ _ _ _ c.left_open.ensures (c.advance.ensures.left_open c.in-Ok-Open.span is _) c.in-Ok-cut_off.cut c.in-Ok-cut_off.ensures.cut) _ c.answer-in-Ok-Open.ensures _ c.tell_end-in-Ok-Open.result
+    c.tell_end-in-Ok-Open.ensures.told c.tell_end-in-Ok-Open.ensures.answer (c.advance.ensures.found_open c.in-Ok-Open.span is)
+
+pub returns-in-Ok-Open-clause-refused : goal.returns-in-Ok-Open-clause-refused
+returns-in-Ok-Open-clause-refused g c =
+    IfErr-weaker c.tell_end-in-Ok-Open.result _ _ (λ e is. inl (subst IsUnwritten (sym is) tt)) c.tell_end-in-Ok-Open.ensures.kinds

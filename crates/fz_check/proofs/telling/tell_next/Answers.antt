@@ -12,4 +12,4 @@ returns-clause-refused g c =
     IfErr-weaker c.tell_part.result _ _ (λ e refused o m left given parts frame outcomes n h. inr (part_of c.in-Ok.part, c.in-Ok.ensures.part o.limits left given parts frame n, refused o m parts outcomes h c.in-Ok.ensures.places c.in-Ok.ensures.within)) c.tell_part.ensures.refused
 
 pub returns-in-Err-clause-refused : goal.returns-in-Err-clause-refused
-returns-in-Err-clause-refused g c = λ o m left given parts frame outcomes n h. inl (c.in-Err.ensures.refused o.limits o.ending left given parts frame n)
+returns-in-Err-clause-refused g c = λ o m left given parts frame outcomes n h. inl (c.in-Err.ensures.refused o.limits o.ending m left given parts frame n)

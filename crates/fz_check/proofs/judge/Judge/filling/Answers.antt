@@ -1,1 +1,0 @@
-use Rattle.fz_check.proofs.judge.Judge.filling.Goals as goal

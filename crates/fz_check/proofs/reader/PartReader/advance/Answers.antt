@@ -33,10 +33,16 @@ returns-clause-fewer c = λ is limits left given parts st.
     omega (arith, ap is_going more.2.fits.running, ap is_going h.fits.running, c.feed.ensures.reads, c.feed.ensures.fewer is limits given parts h))
 
 pub returns-then-at_end-clause-end : goal.returns-then-at_end-clause-end
-returns-then-at_end-clause-end c = λ cut is limits left given parts st.
+returns-then-at_end-clause-end c = λ is limits left given parts st.
     (let going : c.args.self.now.splitter.stage ≢ Finished = λ f. (let no : false ≡ true = sym c.if-self.false ∙ c.self.invariant.ended.1 (ap (λ (s : ReaderState). s.splitter.stage) c.self.view_is ∙ f) in cc) in
     let end = stands_at_end c.args.self.now left given parts (sym (ap (λ (s : ReaderState). s.pieces.at_end) c.self.view_is) ∙ sym c.at_end.ensures ∙ c.if-at_end.true) st in
-    (end, c.finish.ensures.end cut is limits given parts (stands_reading c.args.self.now left given parts going st)))
+    (end, c.finish.ensures.end is limits given parts (stands_reading c.args.self.now left given parts going st)))
+
+pub returns-then-at_end-clause-left_open : goal.returns-then-at_end-clause-left_open
+returns-then-at_end-clause-left_open c = λ span is limits left given parts st.
+    (let going : c.args.self.now.splitter.stage ≢ Finished = λ f. (let no : false ≡ true = sym c.if-self.false ∙ c.self.invariant.ended.1 (ap (λ (s : ReaderState). s.splitter.stage) c.self.view_is ∙ f) in cc) in
+    let end = stands_at_end c.args.self.now left given parts (sym (ap (λ (s : ReaderState). s.pieces.at_end) c.self.view_is) ∙ sym c.at_end.ensures ∙ c.if-at_end.true) st in
+    (end, c.finish.ensures.open span is limits given parts (stands_reading c.args.self.now left given parts going st)))
 
 pub returns-clause-bytes : goal.returns-clause-bytes
 returns-clause-bytes c = λ is limits left given parts st.

@@ -17,7 +17,7 @@ returns-clause-none c = λ _ limits given parts h.
     (λ s. let no : false ≡ true = sym c.if-waiting.false ∙ c.waiting.ensures.1 s in cc) c.in-Ok.ensures.all
 
 pub returns-in-Err-clause-refused : goal.returns-in-Err-clause-refused
-returns-in-Err-clause-refused c = λ limits ending left given parts h.
+returns-in-Err-clause-refused c = λ limits ending m left given parts h.
     (let failed : c.in-Err.error ≢ stream.Failed = λ e. (let no : Running ≡ Failed = sym h.fits.running ∙ sym (ap (λ (s : ReaderState). s.splitter.stage) c.self.view_is) ∙ c.feed.ensures.failed.0 (c.in-Err.is ∙ ap Err e) in cc) in
-    subst (IsUnread limits ending left given parts) (sym c.stream_refusal.ensures) (unread limits ending left given parts c.in-Err.error (λ _. cutting_fault c.in-Err.error (c.in-Err.ensures.fault failed)) (λ memory.
-    inside_by ending left given parts c.in-Err.error (fed_refused c.args.self.now c.self.inside.splitter c.self.inside.pieces c.self.view_is c.pending.result.now c.pending.ensures given parts h c.in-Err.error (λ long. c.in-Err.ensures.broken memory long failed) (λ e. c.feed.ensures.too_long (c.in-Err.is ∙ ap Err e))))))
+    subst (IsUnread limits ending m left given parts) (sym c.stream_refusal.ensures) (unread limits ending m left given parts c.in-Err.error (λ _. cutting_fault c.in-Err.error (c.in-Err.ensures.fault failed)) (λ memory.
+    inside_by ending m left given parts c.in-Err.error (fed_refused c.args.self.now c.self.inside.splitter c.self.inside.pieces c.self.view_is c.pending.result.now c.pending.ensures given parts h c.in-Err.error (λ long. c.in-Err.ensures.broken memory long failed) (λ e. c.feed.ensures.too_long (c.in-Err.is ∙ ap Err e))))))
