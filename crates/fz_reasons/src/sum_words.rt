@@ -8,27 +8,37 @@ use fz_store::Builtin;
 /// The most products that are listed.
 const MOST_LISTED: usize = 8;
 
+/// A factor and the value that it is multiplied with, at a place of a sum.
+#[derive(Clone, Copy)]
+struct Product {
+    factor: i64,
+    value: i64,
+    place: usize,
+}
+
+impl Product {
+    fn size(self) -> u128 {
+        u128::from(self.factor.unsigned_abs()) * u128::from(self.value.unsigned_abs())
+    }
+}
+
 /// The products of a sum, with a sign of equality behind them: of more than so many the values of
 /// the greatest ones alone. What one number is, isn't told.
 pub(crate) fn say_sum(teller: &mut Teller<'_, '_>) {
-    let count = count_of_products(teller);
+    let (factors, terms) = (teller.view.elements(0), teller.view.elements(1));
+    let count = factors.len().min(terms.len());
     if count > MOST_LISTED {
-        return say_greatest(teller, count);
+        return say_greatest(teller);
     }
     if has_variable(teller, count) {
-        say_products(teller, true, count);
+        say_products(teller, true);
         teller.say(" = ");
     }
-    if count == 0 || count == 1 && teller.view.elements(0).int(0).unsigned_abs() == 1 {
+    if count == 0 || count == 1 && factors.int(0).unsigned_abs() == 1 {
         return;
     }
-    say_products(teller, false, count);
+    say_products(teller, false);
     teller.say(" = ");
-}
-
-fn count_of_products(teller: &Teller<'_, '_>) -> usize {
-    let (factors, terms) = (teller.view.elements(0), teller.view.elements(1));
-    factors.len().min(terms.len())
 }
 
 fn has_variable(teller: &Teller<'_, '_>, count: usize) -> bool {
@@ -41,15 +51,24 @@ fn has_variable(teller: &Teller<'_, '_>, count: usize) -> bool {
 }
 
 /// The products, by name or by value.
-fn say_products(teller: &mut Teller<'_, '_>, by_name: bool, count: usize) {
-    for place in 0..count {
-        say_product(teller, by_name, place == 0, place);
+fn say_products(teller: &mut Teller<'_, '_>, by_name: bool) {
+    let (factors, terms) = (teller.view.elements(0), teller.view.elements(1));
+    for place in 0..factors.len().min(terms.len()) {
+        let product = Product {
+            factor: factors.int(place),
+            value: terms.int(place),
+            place,
+        };
+        say_product(teller, by_name, place == 0, product);
     }
 }
 
-fn say_product(teller: &mut Teller<'_, '_>, by_name: bool, is_first: bool, place: usize) {
-    let factor = teller.view.elements(0).int(place);
-    let value = teller.view.elements(1).int(place);
+fn say_product(teller: &mut Teller<'_, '_>, by_name: bool, is_first: bool, product: Product) {
+    let Product {
+        factor,
+        value,
+        place,
+    } = product;
     match teller.variable(1, place) {
         Some(variable) if by_name => {
             say_factor(teller, is_first, factor);
@@ -57,56 +76,60 @@ fn say_product(teller: &mut Teller<'_, '_>, by_name: bool, is_first: bool, place
         }
         variable => {
             // The first one is no `-0`.
-            let factor = if is_first && value == 0 {
-                factor.max(1)
-            } else {
-                factor
-            };
-            say_factor(teller, is_first, factor);
+            let is_plain = is_first && (factor == 1 || value == 0);
+            say_factor(teller, is_first, if is_plain { 1 } else { factor });
             teller.meet_at(1, place);
-            say_term(teller, is_first && factor == 1, value, variable);
+            say_term(teller, is_plain, value, variable);
         }
     }
 }
 
 /// The values of the greatest products, the greatest first, how many others there are, and how many
 /// are 0.
-fn say_greatest(teller: &mut Teller<'_, '_>, count: usize) {
-    let (places, others) = greatest_of(teller, count);
-    let listed = others.min(MOST_LISTED);
-    for (rank, place) in places.iter().take(listed).enumerate() {
-        say_product(teller, false, rank == 0, *place);
+fn say_greatest(teller: &mut Teller<'_, '_>) {
+    let (products, others, zeros) = greatest_of(teller);
+    for (rank, product) in products.iter().take(others).enumerate() {
+        say_product(teller, false, rank == 0, *product);
     }
-    if others > listed {
-        say!(teller; " + ", others.saturating_sub(listed), " more");
+    if others > MOST_LISTED {
+        say!(teller; " + ", others.saturating_sub(MOST_LISTED), " more");
     }
-    if count > others {
+    if zeros > 0 {
         teller.say(if others == 0 { "" } else { " + " });
-        let zeros = count.saturating_sub(others);
         say!(teller; zeros, if zeros == 1 { " zero" } else { " zeros" });
     }
     teller.say(" = ");
 }
 
-/// The places of the greatest products, the greatest first, and how many aren't 0.
-fn greatest_of(teller: &Teller<'_, '_>, count: usize) -> ([usize; MOST_LISTED], usize) {
+/// The greatest products, the greatest first, how many aren't 0, and how many are.
+fn greatest_of(teller: &Teller<'_, '_>) -> ([Product; MOST_LISTED], usize, usize) {
     let (factors, terms) = (teller.view.elements(0), teller.view.elements(1));
-    let (mut places, mut sizes) = ([0; MOST_LISTED], [0; MOST_LISTED]);
-    let mut others: usize = 0;
-    for place in 0..count {
-        let mut size = size_of(factors.int(place), terms.int(place));
-        let mut place = place;
-        if size > 0 {
-            others = others.saturating_add(1);
+    let nothing = Product {
+        factor: 0,
+        value: 0,
+        place: 0,
+    };
+    let mut greatest = [nothing; MOST_LISTED];
+    let (mut others, mut zeros): (usize, usize) = (0, 0);
+    for place in 0..factors.len().min(terms.len()) {
+        let mut product = Product {
+            factor: factors.int(place),
+            value: terms.int(place),
+            place,
+        };
+        match product.size() {
+            0 => zeros = zeros.saturating_add(1),
+            _ => others = others.saturating_add(1),
         }
         for rank in 0..MOST_LISTED {
-            if size > sizes[rank] {
-                std::mem::swap(&mut sizes[rank], &mut size);
-                std::mem::swap(&mut places[rank], &mut place);
+            if product.size() > greatest[rank].size() {
+                let less = greatest[rank];
+                greatest[rank] = product;
+                product = less;
             }
         }
     }
-    (places, others)
+    (greatest, others, zeros)
 }
 
 /// Of a sum of many numbers that are 0 or 1, all with the factor 1 or all with -1: how many are 1,
@@ -115,8 +138,7 @@ pub(crate) fn say_ones(teller: &mut Teller<'_, '_>, sides: Sides) -> bool {
     let Some((factor, ones)) = ones_of(teller) else {
         return false;
     };
-    let count = count_of_products(teller);
-    say_how_many(teller, ones, count);
+    say_how_many(teller, ones);
     match (sides.relation, factor, sides.right) {
         (Relation::AtMost, 1, most) => say!(teller; ", at most ", most, " may be"),
         (Relation::AtMost, _, -1) => teller.say(", 1 is needed"),
@@ -130,15 +152,16 @@ pub(crate) fn say_ones(teller: &mut Teller<'_, '_>, sides: Sides) -> bool {
 /// The factor of a sum of many numbers that are 0 or 1, where it is 1 or -1 for all, and how many
 /// are 1.
 fn ones_of(teller: &Teller<'_, '_>) -> Option<(i64, usize)> {
+    match teller.builtin {
+        Builtin::IntLinLe | Builtin::IntLinEq => {}
+        _ => return None,
+    }
     let (factors, terms) = (teller.view.elements(0), teller.view.elements(1));
-    let count = count_of_products(teller);
-    let factor = factors.int(0);
-    if teller.builtin != Builtin::IntLinLe && teller.builtin != Builtin::IntLinEq
-        || count <= MOST_LISTED
-        || factor.unsigned_abs() != 1
-    {
+    let count = factors.len().min(terms.len());
+    if count <= MOST_LISTED || factors.int(0).unsigned_abs() != 1 {
         return None;
     }
+    let factor = factors.int(0);
     let mut ones: usize = 0;
     for place in 0..count {
         match terms.int(place) {
@@ -151,8 +174,10 @@ fn ones_of(teller: &Teller<'_, '_>) -> Option<(i64, usize)> {
     Some((factor, ones))
 }
 
-/// How many of so many numbers are 1, with the names of the first of these.
-fn say_how_many(teller: &mut Teller<'_, '_>, ones: usize, count: usize) {
+/// How many of the numbers are 1, with the names of the first of these.
+fn say_how_many(teller: &mut Teller<'_, '_>, ones: usize) {
+    let terms = teller.view.elements(1);
+    let count = terms.len();
     match ones {
         0 => return say!(teller; "none of ", count, " is 1"),
         1 => say!(teller; "1 of ", count, " is 1"),
@@ -161,7 +186,7 @@ fn say_how_many(teller: &mut Teller<'_, '_>, ones: usize, count: usize) {
     let mut named: usize = 0;
     for place in 0..count {
         if named < MOST_LISTED
-            && teller.view.elements(1).int(place) == 1
+            && terms.int(place) == 1
             && let Some(variable) = teller.variable(1, place)
         {
             teller.say(if named == 0 { " (" } else { ", " });
