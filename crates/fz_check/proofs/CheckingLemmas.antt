@@ -1,12 +1,12 @@
 -- What is known between two blocks of a stream that was read whole.
-use Rattle.std.proofs.Common.{◌≡◌, ℕ, ℤ, suc, zero, ◌+◌, ◌≤◌, ◌<◌, List, [], ◌∷◌, ◌++◌, length, map, take, drop, get_or, Option, None, refl, sym, ap, ◌∙◌, subst, arith}
+use Rattle.std.proofs.Common.{◌≡◌, ℕ, ℤ, suc, zero, ◌+◌, ◌≤◌, ◌<◌, List, [], ◌∷◌, ◌++◌, length, map, take, drop, get_or, Option, None, Some, refl, sym, ap, ◌∙◌, subst, arith}
 use Rattle.std.specs.List.{AllByRecursion}
 use Rattle.std.proofs.lemmas.List.{take_more, take_all, drop_more, take-append-drop, map-append, length-take}
 use Rattle.fz_search.specs.of_model.Meaning.{Model}
 use Rattle.fz_filling.specs.of_stream.declared.block.Block as the_block
 use Rattle.fz_filling.specs.of_stream.declared.reading.Claim.{Claim}
 use Rattle.fz_filling.specs.of_stream.Found.{EndsWithin, HasPlaces, IsReadAs, block_of}
-use Rattle.fz_filling.specs.of_stream.Parts.{StreamPart, BlockPart, ClaimPart, blocks_in}
+use Rattle.fz_filling.specs.of_stream.Parts.{SolutionBlock, StreamPart, BlockPart, ClaimPart, blocks_in}
 use Rattle.fz_filling.specs.BlockFaults.{AllFit}
 use Rattle.fz_filling.specs.declared.completion.Completion.TheVariants.{Off}
 use Rattle.fz_filling.specs.Verdict.{Answer, answer_of}
@@ -20,7 +20,7 @@ use Rattle.fz_check.specs.declared.error.CheckError.{CheckError}
 use Rattle.fz_check.specs.declared.error.CheckError.TheVariants as errors
 use Rattle.fz_check.specs.declared.jury.Jury.{Jury}
 use Rattle.fz_check.specs.declared.options.Options.{Options}
-use Rattle.fz_check.specs.Claims.{AreOutcomes, IsReportWith, Outcome, account, behind_block, no_account, standard_options, verdicts_of}
+use Rattle.fz_check.specs.Claims.{AreOutcomes, IsReportWith, Outcome, account, behind_block, no_account, standard_options, unasked, verdicts_of}
 use Rattle.fz_check.specs.Claims.Outcome.{OfBlock, OfClaim}
 use Rattle.fz_check.specs.Report.{in_order}
 use Rattle.fz_check.specs.Telling.{HasJudged, IsJudgingRefusal, IsUnjudged, JudgesOneMore, last_outcome}
@@ -32,38 +32,41 @@ abbrev parts_of : List the_block.Block → List StreamPart
 parts_of bs = map BlockPart (map block_of bs)
 
 -- a block with an outcome fits the model
-all_fit : (o : Options) (m : Model) (filled found : Option ℤ) (bs : List the_block.Block)
-    (os : List Outcome) → AreOutcomes o m filled found (parts_of bs) os
+all_fit : (o : Options) (m : Model) (before : Option SolutionBlock) (filled found : Option ℤ)
+    (bs : List the_block.Block) (os : List Outcome)
+    → AreOutcomes o m before filled found (parts_of bs) os
     → AllByRecursion (λ (b : the_block.Block). AllFit m (bare_items b.items.items)) bs
-all_fit o m filled found [] os h = tt
-all_fit o m filled found (b ∷ bs) [] h = absurd h
-all_fit o m filled found (b ∷ bs) (OfClaim kind shown ∷ os) h = absurd h
-all_fit o m filled found (b ∷ bs) (OfBlock k ∷ os) h =
-    (h.0.is_filled.fits, all_fit o m k.filled k.found bs os h.1)
+all_fit o m before filled found [] os h = tt
+all_fit o m before filled found (b ∷ bs) [] h = absurd h
+all_fit o m before filled found (b ∷ bs) (OfClaim kind bound shown ∷ os) h = absurd h
+all_fit o m before filled found (b ∷ bs) (OfBlock k ∷ os) h =
+    (h.0.is_filled.fits, all_fit o m (Some (block_of b)) k.filled k.found bs os h.1)
 
 -- the outcomes of blocks, and none that shows a claim, as outcomes of all parts
 abbrev with_claims : List StreamPart → List Outcome → List Outcome
 with_claims [] os = os
-with_claims (ClaimPart kind ∷ ps) os = OfClaim kind None ∷ with_claims ps os
+with_claims (ClaimPart kind ∷ ps) os = OfClaim kind None None ∷ with_claims ps os
 with_claims (BlockPart block ∷ ps) [] = []
 with_claims (BlockPart block ∷ ps) (o ∷ os) = o ∷ with_claims ps os
 
 -- The parts have outcomes with these verdicts.
-abbrev HaveAlso : Options → Model → Option ℤ → Option ℤ → List StreamPart → List Outcome → Type 0
-HaveAlso o m filled found ps os = AreOutcomes o m filled found ps (with_claims ps os)
+abbrev HaveAlso : Options → Model → Option SolutionBlock → Option ℤ → Option ℤ → List StreamPart
+    → List Outcome → Type 0
+HaveAlso o m before filled found ps os = AreOutcomes o m before filled found ps (with_claims ps os)
     × (verdicts_of (with_claims ps os) ≡ verdicts_of os)
 
-have_also : (o : Options) (m : Model) (filled found : Option ℤ) (ps : List StreamPart)
-    (os : List Outcome) → AreOutcomes o m filled found (map BlockPart (blocks_in ps)) os
-    → HaveAlso o m filled found ps os
-have_also o m filled found [] [] are = (tt, refl)
-have_also o m filled found [] (k ∷ os) are = absurd are
-have_also o m filled found (ClaimPart kind ∷ ps) os are =
-    let (rest, same) = have_also o m filled found ps os are in ((refl, tt, rest), same)
-have_also o m filled found (BlockPart block ∷ ps) [] are = absurd are
-have_also o m filled found (BlockPart block ∷ ps) (OfClaim kind shown ∷ os) are = absurd are
-have_also o m filled found (BlockPart block ∷ ps) (OfBlock b ∷ os) (is, are) =
-    let (rest, same) = have_also o m b.filled b.found ps os are in
+have_also : (o : Options) (m : Model) (before : Option SolutionBlock) (filled found : Option ℤ)
+    (ps : List StreamPart) (os : List Outcome)
+    → AreOutcomes o m before filled found (map BlockPart (blocks_in ps)) os
+    → HaveAlso o m before filled found ps os
+have_also o m before filled found [] [] are = (tt, refl)
+have_also o m before filled found [] (k ∷ os) are = absurd are
+have_also o m before filled found (ClaimPart kind ∷ ps) os are =
+    let (rest, same) = have_also o m (unasked kind before) filled found ps os are in ((refl, tt, tt, rest), same)
+have_also o m before filled found (BlockPart block ∷ ps) [] are = absurd are
+have_also o m before filled found (BlockPart block ∷ ps) (OfClaim kind bound shown ∷ os) are = absurd are
+have_also o m before filled found (BlockPart block ∷ ps) (OfBlock b ∷ os) (is, are) =
+    let (rest, same) = have_also o m (Some block) b.filled b.found ps os are in
     ((is, rest), ap (λ vs. b.verdict ∷ vs) same)
 
 -- So many blocks were judged, with these verdicts, and no claim was heard of.
@@ -97,7 +100,7 @@ module _ (m : Model) (blocks : List the_block.Block) (i : ℕ) (j : Jury) (verdi
         → JudgesOneMore j j' (block_of b) (verdict_view v) → more ≡ verdicts ++ v ∷ []
         → JudgedSoFar m blocks (i + 1) j' more
     judged_next j' v more one pushed =
-        let out = last_outcome j'.judge (verdict_view v) one.bound in
+        let out = last_outcome j'.judge (verdict_view v) in
         let aim = ap (λ (n : Model). n.aim) h.judged.same_model in
         let account_next : j'.account ≡ behind_block m.aim (account m.aim NotJudged no_account h.outcomes) out =
         one.account_is ∙ (λ k. behind_block (aim k) (h.account_is k) out) in
@@ -122,7 +125,7 @@ module _ (m : Model) (blocks : List the_block.Block) (i : ℕ) (j : Jury) (verdi
       after = drop (i + 1) blocks;
       blocks_are = sym (take-append-drop i blocks) ∙ ap (λ l. take i blocks ++ l) back;
       numbered = omega (arith, u.0, h.counted, length-take i blocks, lt);
-      none_before = all_fit standard_options m None None (take i blocks) h.outcomes (all_outcomes standard_options m (parts_of (take i blocks)) h.outcomes j.judge.before j.judge.found h.judged.goes_on);
+      none_before = all_fit standard_options m None None None (take i blocks) h.outcomes (all_outcomes standard_options m (parts_of (take i blocks)) h.outcomes h.judged.block j.judge.before j.judge.found h.judged.goes_on);
       tells = subst (λ n. IsBlockRefusal n b e) h.judged.same_model (u.2 places within);
       not_memory = u.1;
     }
@@ -136,9 +139,9 @@ module _ (m : Model) (blocks : List the_block.Block) (i : ℕ) (j : Jury) (verdi
   judged_all answer end is claims bytes read =
       let all : parts_of (take i blocks) ≡ map BlockPart (blocks_in read.parts) =
       ap parts_of (take_all i blocks end) ∙ ap (map BlockPart) read.blocks_are in
-      let have = subst (λ ps. AreOutcomes standard_options m None None ps h.outcomes) all
-      (all_outcomes standard_options m (parts_of (take i blocks)) h.outcomes j.judge.before j.judge.found h.judged.goes_on) in
-      let (also, same) = have_also standard_options m None None read.parts h.outcomes have in
+      let have = subst (λ ps. AreOutcomes standard_options m None None None ps h.outcomes) all
+      (all_outcomes standard_options m (parts_of (take i blocks)) h.outcomes h.judged.block j.judge.before j.judge.found h.judged.goes_on) in
+      let (also, same) = have_also standard_options m None None None read.parts h.outcomes have in
       let outcomes = with_claims read.parts h.outcomes in
       record {
         parts = read.parts;
@@ -148,7 +151,7 @@ module _ (m : Model) (blocks : List the_block.Block) (i : ℕ) (j : Jury) (verdi
         answer_is = is ∙ ap answer_of_account h.account_is ∙ answer_is_told m NotJudged h.outcomes
             ∙ answer_unjudged m h.outcomes ∙ ap answer_of (sym same) ∙ sym (answer_unjudged m outcomes);
         events_are = (λ k. in_order 0 ((h.verdicts_are ∙ sym same) k) (read.claims_are k))
-            ∙ sym (told_unjudged standard_options m no_account None None read.parts outcomes refl refl also);
+            ∙ sym (told_unjudged standard_options m no_account None None None read.parts outcomes refl refl also);
       }
 
 -- what holds of each block holds of the one at a place

@@ -11,7 +11,6 @@ use Rattle.fz_filling.specs.of_stream.declared.reading.Claim.{Claim}
 use Rattle.fz_filling.specs.of_stream.Found.{claims_in}
 use Rattle.fz_filling.specs.of_stream.Parts.{blocks_in, SolutionBlock, StreamPart, BlockPart, ClaimPart}
 use Rattle.fz_search.specs.Claims.{is_better}
-use Rattle.fz_check.specs.Bounds.{IsBound}
 use Rattle.fz_filling.specs.declared.completion.Completion.{Completion}
 use Rattle.fz_filling.specs.declared.completion.Completion.TheVariants.{Off, On}
 use Rattle.fz_filling.specs.Judged.{JudgeState, IsJudged}
@@ -35,7 +34,7 @@ use Rattle.fz_check.specs.declared.claims.Claims.TheVariants.{NotJudged, Judged 
 use Rattle.fz_check.specs.declared.claims.Proofs.TheVariants as proving
 use Rattle.fz_check.specs.declared.account.Account.{Account}
 use Rattle.fz_check.specs.declared.options.Options.{Options}
-use Rattle.fz_check.specs.Claims.{IsFalse, IsShown, IsTrueClaim, Outcome, HasSolutionWith, HaveOutcomes, IsOutcome, IsSolvedWith, AreOutcomes, Knows, KnowsOf, IsTrueOf, account, answer_told, answer_with, behind, behind_block, behind_claim, best_refuter, better_of, best_with, claim_event, first_of, is_satisfied, known_refuter, known_with, late_earliest, late_events, late_refuted, late_waiting, no_account, outcome_told, own_refuter, refuter, refutes, saying, statement, told, verdicts_of}
+use Rattle.fz_check.specs.Claims.{IsFalse, IsShown, IsTrueClaim, Outcome, HasSolutionWith, HaveOutcomes, IsOutcome, IsSolvedWith, AreOutcomes, Knows, KnowsOf, IsTrueOf, account, answer_told, answer_with, asked, behind, behind_block, behind_claim, best_refuter, better_of, best_with, claim_event, first_of, is_satisfied, known_refuter, known_with, late_earliest, late_events, late_refuted, late_waiting, no_account, outcome_told, own_refuter, refuter, refutes, saying, statement, told, unasked, verdicts_of}
 use Rattle.fz_check.specs.Claims.Outcome.{OfBlock, OfClaim}
 use Rattle.fz_check.specs.Telling.{OutcomesGoOn, last_outcome}
 use Rattle.fz_check.proofs.EventLemmas.{comes_by, comes_later}
@@ -61,42 +60,42 @@ module _ (aim : Aim) (c : Claims) where
 pub verdicts_append : (os ks : List Outcome)
     → verdicts_of (os ++ ks) ≡ verdicts_of os ++ verdicts_of ks
 verdicts_append [] ks = refl
-verdicts_append (OfClaim kind shown ∷ os) ks = verdicts_append os ks
+verdicts_append (OfClaim kind bound shown ∷ os) ks = verdicts_append os ks
 verdicts_append (OfBlock b ∷ os) ks = ap (λ vs. b.verdict ∷ vs) (verdicts_append os ks)
 
-module _ (o : Options) (m : Model) (ps : List StreamPart) (os : List Outcome) (filled found : Option ℤ) (go : OutcomesGoOn o m ps os filled found) where
-  pub outcomes_more : (p : StreamPart) (k : Outcome) (filled_next found_next : Option ℤ)
-      → ((more : List StreamPart) (others : List Outcome) → AreOutcomes o m filled_next found_next more others
-      → AreOutcomes o m filled found (p ∷ more) (k ∷ others))
-      → OutcomesGoOn o m (ps ++ p ∷ []) (os ++ k ∷ []) filled_next found_next
-  outcomes_more p k filled_next found_next one = λ more others are.
-      subst₂ (AreOutcomes o m None None) (sym (append_assoc ps (p ∷ []) more)) (sym (append_assoc os (k ∷ []) others))
+module _ (o : Options) (m : Model) (ps : List StreamPart) (os : List Outcome) (before : Option SolutionBlock) (filled found : Option ℤ) (go : OutcomesGoOn o m ps os before filled found) where
+  pub outcomes_more : (p : StreamPart) (k : Outcome) (next : Option SolutionBlock) (filled_next found_next : Option ℤ)
+      → ((more : List StreamPart) (others : List Outcome) → AreOutcomes o m next filled_next found_next more others
+      → AreOutcomes o m before filled found (p ∷ more) (k ∷ others))
+      → OutcomesGoOn o m (ps ++ p ∷ []) (os ++ k ∷ []) next filled_next found_next
+  outcomes_more p k next filled_next found_next one = λ more others are.
+      subst₂ (AreOutcomes o m None None None) (sym (append_assoc ps (p ∷ []) more)) (sym (append_assoc os (k ∷ []) others))
       (go (p ∷ more) (k ∷ others) (one more others are))
 
-  pub all_outcomes : AreOutcomes o m None None ps os
-  all_outcomes = subst₂ (AreOutcomes o m None None) (append-nil ps) (append-nil os) (go [] [] tt)
+  pub all_outcomes : AreOutcomes o m None None None ps os
+  all_outcomes = subst₂ (AreOutcomes o m None None None) (append-nil ps) (append-nil os) (go [] [] tt)
 
 -- the verdicts of outcomes
-pub outcomes_told : (o : Options) (m : Model) (filled found : Option ℤ) (ps : List StreamPart)
-    (os : List Outcome) → AreOutcomes o m filled found ps os
+pub outcomes_told : (o : Options) (m : Model) (before : Option SolutionBlock) (filled found : Option ℤ)
+    (ps : List StreamPart) (os : List Outcome) → AreOutcomes o m before filled found ps os
     → AreTold o.completion m filled found (blocks_in ps) (verdicts_of os)
-outcomes_told o m filled found [] [] are = NoneLeft
-outcomes_told o m filled found (BlockPart block ∷ ps) (OfBlock b ∷ os) (is, are) = OneMore is.filling is.is_filled is.is_told
-    (subst (λ f. AreTold o.completion m f b.found (blocks_in ps) (verdicts_of os)) is.filled_is (outcomes_told o m b.filled b.found ps os are))
-outcomes_told o m filled found (ClaimPart kind ∷ ps) (OfClaim k shown ∷ os) (is, shows, are) =
-    outcomes_told o m filled found ps os are
-outcomes_told o m filled found _ _ are = absurd are
+outcomes_told o m before filled found [] [] are = NoneLeft
+outcomes_told o m before filled found (BlockPart block ∷ ps) (OfBlock b ∷ os) (is, are) = OneMore is.filling is.is_filled is.is_told
+    (subst (λ f. AreTold o.completion m f b.found (blocks_in ps) (verdicts_of os)) is.filled_is (outcomes_told o m (Some block) b.filled b.found ps os are))
+outcomes_told o m before filled found (ClaimPart kind ∷ ps) (OfClaim k bound shown ∷ os) (is, bounded, shows, are) =
+    outcomes_told o m (unasked kind before) filled found ps os are
+outcomes_told o m before filled found _ _ are = absurd are
 
 -- each block has one
-have_each : (o : Options) (m : Model) (filled found : Option ℤ) (ps : List StreamPart)
-    (os : List Outcome) → AreOutcomes o m filled found ps os
+have_each : (o : Options) (m : Model) (before : Option SolutionBlock) (filled found : Option ℤ)
+    (ps : List StreamPart) (os : List Outcome) → AreOutcomes o m before filled found ps os
     → length (verdicts_of os) ≡ length (blocks_in ps)
-have_each o m filled found [] [] are = refl
-have_each o m filled found (BlockPart block ∷ ps) (OfBlock b ∷ os) are =
-    ap suc (have_each o m b.filled b.found ps os are.1)
-have_each o m filled found (ClaimPart kind ∷ ps) (OfClaim k shown ∷ os) are =
-    have_each o m filled found ps os are.2
-have_each o m filled found _ _ are = absurd are
+have_each o m before filled found [] [] are = refl
+have_each o m before filled found (BlockPart block ∷ ps) (OfBlock b ∷ os) are =
+    ap suc (have_each o m (Some block) b.filled b.found ps os are.1)
+have_each o m before filled found (ClaimPart kind ∷ ps) (OfClaim k bound shown ∷ os) (is, bounded, shows, are) =
+    have_each o m (unasked kind before) filled found ps os are
+have_each o m before filled found _ _ are = absurd are
 
 -- ---- the answer follows from the account
 
@@ -119,7 +118,7 @@ Tallies a b vs = (b.blocks ≡ a.blocks + length vs)
 tallied : (aim : Aim) (c : Claims) (a : Account) (os : List Outcome)
     → Tallies a (account aim c a os) (verdicts_of os)
 tallied aim c a [] = (sym (add-zero a.blocks), or_none a.violated, or_none a.undecided)
-tallied aim c a (OfClaim kind shown ∷ os) = tallied aim c (behind_claim aim c a kind) os
+tallied aim c a (OfClaim kind bound shown ∷ os) = tallied aim c (behind_claim aim c (asked a bound) kind) os
 tallied aim c a (OfBlock o ∷ os) =
     let t = tallied aim c (behind_block aim a o) os in
     let n = a.blocks + 1 in
@@ -148,7 +147,7 @@ pub blocks_told : (o : Options) (m : Model) (ps : List StreamPart) (os : List Ou
     → (account m.aim o.claims no_account os).blocks ≡ length (blocks_in ps)
 blocks_told o m ps os have =
     let t = tallied m.aim o.claims no_account os in
-    omega (arith, t.0, have_each o m None None ps os have)
+    omega (arith, t.0, have_each o m None None None ps os have)
 
 -- ---- where claims aren't judged
 
@@ -160,8 +159,8 @@ late_unjudged aim (Some s) is found none = absurd cc
 pub refuted_unjudged : (aim : Aim) (a : Account) (os : List Outcome) → a.waiting ≡ None
     → (account aim NotJudged a os).refuted ≡ a.refuted
 refuted_unjudged aim a [] none = refl
-refuted_unjudged aim a (OfClaim kind shown ∷ os) none =
-    refuted_unjudged aim (behind_claim aim NotJudged a kind) os none
+refuted_unjudged aim a (OfClaim kind bound shown ∷ os) none =
+    refuted_unjudged aim (behind_claim aim NotJudged (asked a bound) kind) os none
 refuted_unjudged aim a (OfBlock o ∷ os) none =
     let late = late_unjudged aim a.waiting (is_satisfied o.verdict) o.found none in
     refuted_unjudged aim (behind_block aim a o) os (ap (λ s. late_waiting s a.waiting) late ∙ none)
@@ -200,19 +199,19 @@ none_shown : (c : Claims) (m : Model) (s : Saying) (shown : Option ℕ) → c �
 none_shown c m s None unasked shows = refl
 none_shown c m s (Some n) unasked shows = absurd (subst (λ d. IsShown d m s (Some n)) unasked shows)
 
-pub told_unjudged : (o : Options) (m : Model) (a : Account) (filled found : Option ℤ)
-    (ps : List StreamPart) (os : List Outcome) → o.claims ≡ NotJudged → a.waiting ≡ None
-    → AreOutcomes o m filled found ps os
+pub told_unjudged : (o : Options) (m : Model) (a : Account) (before : Option SolutionBlock)
+    (filled found : Option ℤ) (ps : List StreamPart) (os : List Outcome) → o.claims ≡ NotJudged
+    → a.waiting ≡ None → AreOutcomes o m before filled found ps os
     → told m.aim NotJudged a os ≡ in_order a.blocks (verdicts_of os) (claims_in a.blocks ps)
-told_unjudged o m a filled found [] [] unasked none are = refl
-told_unjudged o m a filled found (ClaimPart kind ∷ ps) (OfClaim k shown ∷ os) unasked none (is, shows, are) =
+told_unjudged o m a before filled found [] [] no_claims none are = refl
+told_unjudged o m a before filled found (ClaimPart kind ∷ ps) (OfClaim k bound shown ∷ os) no_claims none (is, bounded, shows, are) =
     let n = a.blocks in
     let c : Claim = record { after = n; kind = kind } in
-    let rest = told_unjudged o m (behind_claim m.aim NotJudged a k) filled found ps os unasked none are in
-    let no = none_shown o.claims m (saying k filled) shown unasked shows in
-    (λ i. claim_event (statement a (is i)) None (no i) ∷ rest i)
+    let rest = told_unjudged o m (behind_claim m.aim NotJudged (asked a bound) k) (unasked kind before) filled found ps os no_claims none are in
+    let no = none_shown o.claims m (saying k filled) shown no_claims shows in
+    (λ i. claim_event (statement (asked a bound) (is i)) None (no i) ∷ rest i)
     ∙ sym (claim_first n (verdicts_of os) c (claims_in n ps) (omega arith))
-told_unjudged o m a filled found (BlockPart block ∷ ps) (OfBlock b ∷ os) unasked none (is, are) =
+told_unjudged o m a before filled found (BlockPart block ∷ ps) (OfBlock b ∷ os) no_claims none (is, are) =
     let n = a.blocks in
     let cs = claims_in (n + 1) ps in
     let next = behind_block m.aim a b in
@@ -223,9 +222,9 @@ told_unjudged o m a filled found (BlockPart block ∷ ps) (OfBlock b ∷ os) una
     ≡ Judged (n + 1) b.verdict ∷ in_order (n + 1) (verdicts_of os) cs =
     λ i. (by.0 i) ++ Judged (n + 1) b.verdict ∷ in_order (n + 1) (verdicts_of os) (by.1 i) in
     ap (λ s. Judged (n + 1) b.verdict ∷ (late_events s (n + 1) ++ told m.aim NotJudged next os)) late
-    ∙ ap (λ es. Judged (n + 1) b.verdict ∷ es) (told_unjudged o m next b.filled b.found ps os unasked waits are)
+    ∙ ap (λ es. Judged (n + 1) b.verdict ∷ es) (told_unjudged o m next (Some block) b.filled b.found ps os no_claims waits are)
     ∙ sym behind_none
-told_unjudged o m a filled found _ _ unasked none are = absurd are
+told_unjudged o m a before filled found _ _ no_claims none are = absurd are
 
 -- ---- what a block tells
 
@@ -234,18 +233,14 @@ compared_now : (c : Completion) (filled own found : Option ℤ) → own ≡ fill
 compared_now Off filled own found is one = sym is ∙ sym (one refl)
 compared_now On filled own found is one = refl
 
-pub outcome_of : (j j' : JudgeState) (block : SolutionBlock) (v : Verdict) (bound : Option ℤ)
-    → IsJudged j j' block v → IfSome bound (IsBound j.model block)
-    → (j.completion ≡ Off → bound ≡ None)
-    → IsOutcome j.completion j.model j.before j.found block (last_outcome j' v bound)
-outcome_of j j' block v bound h bounded no_bound = record {
+pub outcome_of : (j j' : JudgeState) (block : SolutionBlock) (v : Verdict) → IsJudged j j' block v
+    → IsOutcome j.completion j.model j.before j.found block (last_outcome j' v)
+outcome_of j j' block v h = record {
   filling = h.filling;
   is_filled = h.is_filled;
   filled_is = h.kept_is;
   is_told = h.told;
   one_objective = h.one_objective;
-  bounded = bounded;
-  no_bound = no_bound;
   solved = λ e. (
       let u = satisfied_under j.completion j.model block h.filling j.before j.found j'.found _ v h.partial refl h.told e in
       let s = satisfied_solves j.model u.values block _ u.partial u.satisfied in
@@ -361,26 +356,40 @@ module _ (m : Model) where
   late_true None number es h rest = rest
   late_true (Some s) number es h rest = (h, rest)
 
-  pub all_true : (o : Options) (a : Account) (filled bound found : Option ℤ) (ps : List StreamPart)
-      (os : List Outcome) → a.objective ≡ option_or filled bound → KnowsOf m o.claims → IsSound a
-      → AreOutcomes o m filled found ps os → AllByRecursion (IsTrueOf m) (told m.aim o.claims a os)
-  all_true o a filled bound found [] [] last knows sound are = tt
-  all_true o a filled bound found (ClaimPart kind ∷ ps) (OfClaim k shown ∷ os) last knows sound (is, shows, are) = (
-    claim_true o.claims (statement a k) (saying k filled) (refuter m.aim o.claims a (saying k a.objective)) shown
-        (λ h. subst (λ l. IsTrueClaim m (saying k l)) (sym last) (told_last k filled bound h))
-        (refuter_false o.claims a (saying k a.objective) knows sound) shows,
-    all_true o (behind_claim m.aim o.claims a k) filled bound found ps os last knows sound are,
-  )
-  all_true o a filled bound found (BlockPart block ∷ ps) (OfBlock b ∷ os) last knows sound (is, are) =
+  or_again : (filled bound more : Option ℤ)
+      → option_or (option_or filled bound) more ≡ option_or filled (option_or bound more)
+  or_again None bound more = refl
+  or_again (Some f) bound more = refl
+
+  none_yet : (filled : Option ℤ) → filled ≡ option_or filled None
+  none_yet None = refl
+  none_yet (Some f) = refl
+
+  pub all_true : (o : Options) (a : Account) (before : Option SolutionBlock)
+      (filled bound found : Option ℤ) (ps : List StreamPart) (os : List Outcome)
+      → a.objective ≡ option_or filled bound → KnowsOf m o.claims → IsSound a
+      → AreOutcomes o m before filled found ps os
+      → AllByRecursion (IsTrueOf m) (told m.aim o.claims a os)
+  all_true o a before filled bound found [] [] last knows sound are = tt
+  all_true o a before filled bound found (ClaimPart kind ∷ ps) (OfClaim k more shown ∷ os) last knows sound (is, bounded, shows, are) =
+      let b = asked a more in
+      let last_now : b.objective ≡ option_or filled (option_or bound more) =
+      ap (λ l. option_or l more) last ∙ or_again filled bound more in (
+        claim_true o.claims (statement b k) (saying k filled) (refuter m.aim o.claims b (saying k b.objective)) shown
+            (λ h. subst (λ l. IsTrueClaim m (saying k l)) (sym last_now) (told_last k filled (option_or bound more) h))
+            (refuter_false o.claims b (saying k b.objective) knows sound) shows,
+        all_true o (behind_claim m.aim o.claims b k) (unasked kind before) filled (option_or bound more) found ps os last_now knows sound are,
+      )
+  all_true o a before filled bound found (BlockPart block ∷ ps) (OfBlock b ∷ os) last knows sound (is, are) =
       let next = behind_block m.aim a b in
       let solved : b.verdict ≡ Satisfied → HasSolutionWith m b.found = λ e. has_solution m block b.found (is.solved e) in
       let sound_next : IsSound next = one_more_sound a.satisfied b.verdict b.found (a.blocks + 1) solved sound in (
         tt,
         late_true (late_refuted m.aim a.waiting (is_satisfied b.verdict) b.found) (a.blocks + 1) _
             (late_false a.waiting (is_satisfied b.verdict) b.found (λ e. solved (satisfied_is b.verdict e)))
-            (all_true o next b.filled b.bound b.found ps os refl knows sound_next are),
+            (all_true o next (Some block) b.filled None b.found ps os (none_yet b.filled) knows sound_next are),
       )
-  all_true o a filled bound found _ _ last knows sound are = absurd are
+  all_true o a before filled bound found _ _ last knows sound are = absurd are
 
   -- ---- what is known of other streams
 

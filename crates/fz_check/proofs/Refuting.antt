@@ -1,7 +1,8 @@
 -- A block that lacks a value, where no known-solution has the values of its filling, or none with a
 -- better objective.
-use Rattle.std.proofs.Common.{◌≡◌, ℕ, ◌<◌, ℤ, List, length, Option, None, Some, IfSome, option_map, slice_get, sym, ap, subst₂, ◌∙◌}
-use Rattle.fz_check.specs.Bounds.{IsBound}
+use Rattle.std.proofs.Common.{◌≡◌, ℕ, ◌<◌, ℤ, List, length, Option, None, Some, IfSome, option_map, slice_get, sym, ap, subst, subst₂, ◌∙◌}
+use Rattle.fz_check.specs.Claims.{IsBoundBehind}
+use Rattle.fz_check.specs.Telling.{IsOpen}
 use Rattle.fz_search.specs.Found.{HasNone}
 use Rattle.fz_search.specs.of_model.Meaning.{Assignment, Model, Partial, objective, points, whole}
 use Rattle.fz_search.specs.of_model.Openings.{HasEach}
@@ -12,6 +13,7 @@ use Rattle.fz_filling.specs.Completed.IsCompleted.{Refuted}
 use Rattle.fz_filling.specs.declared.completion.Completion.{Completion}
 use Rattle.fz_filling.specs.declared.completion.Completion.TheVariants.{On}
 use Rattle.fz_filling.specs.Judged.{IsOfPoint}
+use Rattle.fz_filling.specs.of_stream.declared.line.ClaimKind.TheVariants.{Complete}
 use Rattle.fz_filling.specs.of_stream.Parts.{SolutionBlock}
 use Rattle.fz_filling.specs.Verdict.{Fault, IsFilled, Verdict, fault_named}
 use Rattle.fz_filling.specs.Verdict.Reason.{NoValueFor}
@@ -36,10 +38,23 @@ refuted_told m block before F name k v kept filled (p, at, is) none kept_is =
     subst₂ (λ w o. IsCompleted m block before F (Undecided (NoValueFor name)) w o) (sym is) (sym kept_is)
     (Refuted k p at (λ A solution extends. none A solution (filling_agrees On m A block F solution extends filled.filling)))
 
-pub bounded_by : (c : Completion) (m : Model) (block : SolutionBlock) (F : Partial) (o : Option ℤ)
-    → IsFilled c m block F
+pub bounded_by : (m : Model) (block : SolutionBlock) (F : Partial) (o : Option ℤ)
+    → IsFilled On m block F
     → IfSome o (λ b. HasNone (record { model = m; filling = F; last = Some b }))
-    → IfSome o (IsBound m block)
-bounded_by c m block F None filled none = tt
-bounded_by c m block F (Some b) filled none = λ A solution extends better.
-    none A (solution, filling_agrees c m A block F solution extends filled.filling, better)
+    → IsBoundBehind On m (Some block) Complete o
+bounded_by m block F None filled none = tt
+bounded_by m block F (Some b) filled none = λ A solution extends better.
+    none A (solution, filling_agrees On m A block F solution extends filled.filling, better)
+
+-- a filling that is kept is that of the block, and has a bound on its objectives
+pub open_by : (c : Completion) (m : Model) (block : SolutionBlock) (F : Partial)
+    (k : Option Partial) → IfSome k (λ f. f ≡ F) → IsFilled c m block F → IsOpen c m (Some block) k
+open_by c m block F None is filled = tt
+open_by c m block F (Some f) is filled = subst (IsFilled c m block) (sym is) filled
+
+pub bound_behind : (c : Completion) (m : Model) (F : Partial) (o : Option ℤ)
+    → ((block : SolutionBlock) → IsFilled c m block F → IsBoundBehind c m (Some block) Complete o)
+    → (block : Option SolutionBlock) → IsOpen c m block (Some F)
+    → IsBoundBehind c m block Complete o
+bound_behind c m F o h None kept_of = absurd kept_of
+bound_behind c m F o h (Some block) kept_of = h block kept_of

@@ -39,7 +39,7 @@ module _ (o : Options) (model : List ℕ) (m : Model) (stream : List ℕ) (event
   verdicts = verdicts_of r.outcomes
 
   are : AreVerdicts o.completion (model_of loaded.tree) blocks verdicts
-  are = subst (λ n. AreVerdicts o.completion n blocks verdicts) loaded.is (outcomes_told o m None None r.parts r.outcomes r.have_outcomes)
+  are = subst (λ n. AreVerdicts o.completion n blocks verdicts) loaded.is (outcomes_told o m None None None r.parts r.outcomes r.have_outcomes)
 
   pub reported : HasReportWith o model stream events answer
   reported = record {
@@ -48,7 +48,7 @@ module _ (o : Options) (model : List ℕ) (m : Model) (stream : List ℕ) (event
     holds = (
       r,
       subst (λ n. AreBorneOut n blocks verdicts) (sym loaded.is) (borne_out o.completion loaded.tree blocks verdicts loaded.no_fault are),
-      λ knows. subst (AllByRecursion (IsTrueOf m)) (sym r.events_are) (all_true m o no_account None None None r.parts r.outcomes refl knows tt r.have_outcomes),
+      λ knows. subst (AllByRecursion (IsTrueOf m)) (sym r.events_are) (all_true m o no_account None None None None r.parts r.outcomes refl knows tt r.have_outcomes),
     );
   }
 

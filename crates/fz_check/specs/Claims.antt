@@ -13,7 +13,7 @@ use Rattle.fz_filling.specs.of_stream.Found.{claims_in}
 use Rattle.fz_filling.specs.of_stream.Parts.{SolutionBlock, StreamPart, BlockPart, ClaimPart, IsStreamTextWithin, blocks_in}
 use Rattle.fz_filling.specs.Solutions.{Extends}
 use Rattle.fz_filling.specs.declared.completion.Completion.{Completion}
-use Rattle.fz_filling.specs.declared.completion.Completion.TheVariants.{Off}
+use Rattle.fz_filling.specs.declared.completion.Completion.TheVariants.{Off, On}
 use Rattle.fz_filling.specs.Completed.{IsToldBy}
 use Rattle.fz_filling.specs.Verdict.{Verdict, Answer, IsFilled, answer_of, is_undecided, is_violated, verdict}
 use Rattle.fz_filling.specs.Verdict.Verdict.{Satisfied}
@@ -72,18 +72,18 @@ IsShown _ m s (Some nodes) = ⊥
 
 -- ---- what is known of a part of the stream, and of other streams
 
--- of a block: a verdict, the objective under the block's filling, the one under the values with
--- which it is satisfied, and a bound on those that it may have
+-- of a block: a verdict, the objective under the block's filling, and the one under the values with
+-- which it is satisfied
 pub record BlockOutcome : Type 0 where
   pub verdict : Verdict
   pub filled : Option ℤ
   pub found : Option ℤ
-  pub bound : Option ℤ
 
--- of a part: of a block, or of a claim, with how many nodes show it
+-- of a part: of a block, or of a claim, with the bound that it asks for on the objectives of the
+-- block before it, and how many nodes show it
 pub data Outcome : Type 0 where
   OfBlock : BlockOutcome → Outcome
-  OfClaim : ClaimKind → Option ℕ → Outcome
+  OfClaim : ClaimKind → Option ℤ → Option ℕ → Outcome
 
 -- there is a solution with this objective
 abbrev pub HasSolutionWith : Model → Option ℤ → Type 0
@@ -95,8 +95,7 @@ IsSolvedWith m block o =
     (A : Assignment) × Extends m A block × IsSolution m A × (objective m (whole A) ≡ o)
 
 -- The outcome of a block, where the block before has these objectives. The filling and the
--- objectives are those of its verdict; where no values are looked for, there is one objective, and
--- no bound.
+-- objectives are those of its verdict; where no values are looked for, there is one objective.
 pub record IsOutcome (c : Completion) (m : Model) (filled found : Option ℤ) (block : SolutionBlock)
     (o : BlockOutcome) : Type 0 where
   pub filling : Partial
@@ -104,29 +103,42 @@ pub record IsOutcome (c : Completion) (m : Model) (filled found : Option ℤ) (b
   pub filled_is : o.filled ≡ objective m filling
   pub is_told : IsToldBy c m block found filling (verdict m filling block filled) o.verdict o.found
   pub one_objective : c ≡ Off → o.found ≡ o.filled
-  pub bounded : IfSome o.bound (IsBound m block)
-  pub no_bound : c ≡ Off → o.bound ≡ None
   pub solved : o.verdict ≡ Satisfied → IsSolvedWith m block o.found
 
--- those of parts in order, of which each block hands its objectives on to the next
-abbrev pub AreOutcomes : Options → Model → Option ℤ → Option ℤ → List StreamPart → List Outcome
+-- A bound is one on the objectives of the block that comes before, and a claim that none is better
+-- asks for it, once behind a block. There is none where no values are looked for.
+abbrev pub IsBoundBehind : Completion → Model → Option SolutionBlock → ClaimKind → Option ℤ
     → Type 0
-AreOutcomes o m filled found [] [] = ⊤
-AreOutcomes o m filled found (BlockPart block ∷ ps) (OfBlock b ∷ os) =
-    IsOutcome o.completion m filled found block b × AreOutcomes o m b.filled b.found ps os
-AreOutcomes o m filled found (ClaimPart kind ∷ ps) (OfClaim claimed shown ∷ os) =
-    (claimed ≡ kind) × IsShown o.claims m (saying claimed filled) shown
-    × AreOutcomes o m filled found ps os
-AreOutcomes o m filled found _ _ = ⊥
+IsBoundBehind c m before kind None = ⊤
+IsBoundBehind On m (Some block) Complete (Some b) = IsBound m block b
+IsBoundBehind _ m _ _ (Some b) = ⊥
+
+-- the block before of which no claim has asked for a bound yet, behind one more claim
+abbrev pub unasked : ClaimKind → Option SolutionBlock → Option SolutionBlock
+unasked Complete before = None
+unasked _ before = before
+
+-- those of parts in order, of which each block hands itself and its objectives on to what follows
+abbrev pub AreOutcomes : Options → Model → Option SolutionBlock → Option ℤ → Option ℤ
+    → List StreamPart → List Outcome → Type 0
+AreOutcomes o m before filled found [] [] = ⊤
+AreOutcomes o m before filled found (BlockPart block ∷ ps) (OfBlock b ∷ os) =
+    IsOutcome o.completion m filled found block b
+    × AreOutcomes o m (Some block) b.filled b.found ps os
+AreOutcomes o m before filled found (ClaimPart kind ∷ ps) (OfClaim claimed bound shown ∷ os) =
+    (claimed ≡ kind) × IsBoundBehind o.completion m before kind bound
+    × IsShown o.claims m (saying claimed filled) shown
+    × AreOutcomes o m (unasked kind before) filled found ps os
+AreOutcomes o m before filled found _ _ = ⊥
 
 abbrev pub verdicts_of : List Outcome → List Verdict
 verdicts_of [] = []
 verdicts_of (OfBlock b ∷ os) = b.verdict ∷ verdicts_of os
-verdicts_of (OfClaim kind shown ∷ os) = verdicts_of os
+verdicts_of (OfClaim kind bound shown ∷ os) = verdicts_of os
 
 -- the parts have these outcomes; the first block is compared with nothing
 abbrev pub HaveOutcomes : Options → Model → List StreamPart → List Outcome → Type 0
-HaveOutcomes o m parts outcomes = AreOutcomes o m None None parts outcomes
+HaveOutcomes o m parts outcomes = AreOutcomes o m None None None parts outcomes
 
 -- what is known of other streams is so: there are solutions, one with the best objective
 pub record Knows (m : Model) (k : Known) : Type 0 where
@@ -173,6 +185,11 @@ block_refuter aim k a s =
 abbrev pub refuter : Aim → Claims → Account → Saying → Option Refuter
 refuter aim NotJudged a s = None
 refuter aim (ClaimsJudged k p) a s = block_refuter aim k a s
+
+-- where a claim asks for this bound: it takes the place of the objective that the last block leaves
+-- open
+abbrev pub asked : Account → Option ℤ → Account
+asked a bound = record a { objective = option_or a.objective bound }
 
 -- the claim that comes next
 abbrev pub statement : Account → ClaimKind → Statement
@@ -225,15 +242,14 @@ first_of before is number = option_or before (cond is (Some number) None)
 abbrev pub late_by : Aim → Account → BlockOutcome → Option Statement
 late_by aim a b = late_refuted aim a.waiting (is_satisfied b.verdict) b.found
 
--- Behind the block that comes next. Where its filling has no objective, a bound is in the place of
--- it.
+-- behind the block that comes next
 abbrev pub behind_block : Aim → Account → BlockOutcome → Account
 behind_block aim a b = record {
   blocks = a.blocks + 1;
   satisfied = first_of a.satisfied (is_satisfied b.verdict) (a.blocks + 1);
   violated = first_of a.violated (is_violated b.verdict) (a.blocks + 1);
   undecided = first_of a.undecided (is_undecided b.verdict) (a.blocks + 1);
-  objective = option_or b.filled b.bound;
+  objective = b.filled;
   waiting = late_waiting (late_by aim a b) a.waiting;
   refuted = late_earliest (late_by aim a b) a.refuted;
 }
@@ -276,11 +292,12 @@ block_told aim a b = Judged (a.blocks + 1) b.verdict
     ∷ late_events (late_by aim a b) (a.blocks + 1)
 
 abbrev pub behind : Aim → Claims → Account → Outcome → Account
-behind aim c a (OfClaim kind shown) = behind_claim aim c a kind
+behind aim c a (OfClaim kind bound shown) = behind_claim aim c (asked a bound) kind
 behind aim c a (OfBlock b) = behind_block aim a b
 
 abbrev pub outcome_told : Aim → Claims → Account → Outcome → List Event
-outcome_told aim c a (OfClaim kind shown) = claim_told aim c a kind shown ∷ []
+outcome_told aim c a (OfClaim kind bound shown) =
+    claim_told aim c (asked a bound) kind shown ∷ []
 outcome_told aim c a (OfBlock b) = block_told aim a b
 
 -- the events of outcomes that come behind this account, and the account behind them

@@ -1,9 +1,9 @@
 -- What is judged and told while the parts of a stream come. Private functions alone cite this file,
 -- and a reader need not believe it.
-use Rattle.std.specs.Prelude.{◌≡◌, ◌≢◌, ℕ, suc, ℤ, ◌+◌, ◌*◌, ◌≤◌, List, [], ◌∷◌, ◌++◌, length, Option, Some, None, Result, Ok, Err, ⊤, ◌⊎◌}
+use Rattle.std.specs.Prelude.{◌≡◌, ◌≢◌, ℕ, suc, ℤ, ◌+◌, ◌*◌, ◌≤◌, List, [], ◌∷◌, ◌++◌, length, Option, Some, None, option_map, Result, Ok, Err, ⊤, ◌⊎◌}
 use Rattle.std.specs.Io.KnownBytes.{Appends, Consumes, IsAtEnd}
 use Rattle.fz_filling.specs.of_syntax.Limits.{Limits}
-use Rattle.fz_search.specs.of_model.Meaning.{Model}
+use Rattle.fz_search.specs.of_model.Meaning.{Model, Partial}
 use Rattle.fz_filling.specs.of_stream.declared.block.Block as the_block
 use Rattle.fz_filling.specs.of_stream.declared.line.ClaimKind.{ClaimKind}
 use Rattle.fz_filling.specs.of_stream.declared.error.StreamError.{StreamError}
@@ -12,7 +12,8 @@ use Rattle.fz_filling.specs.of_stream.declared.error.StreamError.TheVariants.{Me
 use Rattle.fz_filling.specs.of_stream.Faults.{IsStreamFault}
 use Rattle.fz_filling.specs.of_stream.Found.{EndsWithin, HasPlaces}
 use Rattle.fz_filling.specs.of_stream.Parts.{SolutionBlock, StreamPart, Frame, IsStreamTextWithin}
-use Rattle.fz_filling.specs.Verdict.{Answer, Verdict}
+use Rattle.fz_filling.specs.Verdict.{Answer, IsFilled, Verdict}
+use Rattle.fz_filling.specs.declared.completion.Completion.{Completion}
 use Rattle.fz_filling.specs.declared.error.BlockError.TheVariants.{Memory}
 use Rattle.fz_filling.specs.Judged.{IsBlockRefusal, JudgeState}
 use Rattle.fz_filling.specs.of_syntax.Span.{Span}
@@ -25,7 +26,7 @@ use Rattle.fz_check.specs.declared.jury.Jury.{Jury}
 use Rattle.fz_check.specs.declared.reader.Step.{Step}
 use Rattle.fz_check.specs.declared.reader.Step.TheVariants.{End}
 use Rattle.fz_check.specs.Cutting.{HoldsOfJudged, IsCutOff}
-use Rattle.fz_check.specs.Claims.{AreOutcomes, BlockOutcome, HaveOutcomes, IsOutcome, IsReportWith, IsShown, Outcome, account, answer_told, behind_block, behind_claim, claim_told, no_account, saying, told_of}
+use Rattle.fz_check.specs.Claims.{AreOutcomes, BlockOutcome, HaveOutcomes, IsBoundBehind, IsOutcome, IsReportWith, IsShown, Outcome, account, answer_told, asked, behind_block, behind_claim, claim_told, no_account, saying, told_of, unasked}
 use Rattle.fz_check.specs.Report.{AreOf, Event}
 use Rattle.fz_check.specs.Report.Event.{CutOff, Answered}
 use Rattle.fz_check.specs.Refused.{HasStreamFault, IsFirstFault}
@@ -55,43 +56,63 @@ abbrev pub cut_events : Option Span → List Event
 cut_events None = []
 cut_events (Some span) = CutOff span ∷ []
 
--- The outcomes of parts that come behind these, which leave such objectives, go on from them.
-abbrev pub OutcomesGoOn : Options → Model → List StreamPart → List Outcome → Option ℤ → Option ℤ
-    → Type 0
-OutcomesGoOn o m parts outcomes filled found =
-    (more : List StreamPart) (others : List Outcome) → AreOutcomes o m filled found more others
-    → AreOutcomes o m None None (parts ++ more) (outcomes ++ others)
+-- The outcomes of parts that come behind these, which leave such a block and such objectives, go on
+-- from them.
+abbrev pub OutcomesGoOn : Options → Model → List StreamPart → List Outcome → Option SolutionBlock
+    → Option ℤ → Option ℤ → Type 0
+OutcomesGoOn o m parts outcomes before filled found =
+    (more : List StreamPart) (others : List Outcome)
+    → AreOutcomes o m before filled found more others
+    → AreOutcomes o m None None None (parts ++ more) (outcomes ++ others)
 
 -- The parts were judged with these outcomes. What is judged from here on goes on from them.
 pub record HasJudged (o : Options) (m : Model) (j : JudgeState) (parts : List StreamPart)
     (outcomes : List Outcome) : Type 0 where
   pub same_model : j.model ≡ m
   pub same_completion : j.completion ≡ o.completion
-  pub goes_on : OutcomesGoOn o m parts outcomes j.before j.found
+  pub block : Option SolutionBlock
+  pub goes_on : OutcomesGoOn o m parts outcomes block j.before j.found
 
--- the outcome of the block that was judged last, with this verdict and this bound
-abbrev pub last_outcome : JudgeState → Verdict → Option ℤ → BlockOutcome
-last_outcome j v bound = record { verdict = v; filled = j.before; found = j.found; bound = bound }
+-- the outcome of the block that was judged last, with this verdict
+abbrev pub last_outcome : JudgeState → Verdict → BlockOutcome
+last_outcome j v = record { verdict = v; filled = j.before; found = j.found }
+
+-- the filling that is kept is one of this block
+abbrev pub IsOpen : Completion → Model → Option SolutionBlock → Option Partial → Type 0
+IsOpen c m block None = ⊤
+IsOpen c m None (Some filling) = ⊥
+IsOpen c m (Some block) (Some filling) = IsFilled c m block filling
+
+-- that of a jury
+abbrev pub kept : Jury → Option Partial
+kept j = option_map (λ filling. filling.value) j.filling
 
 -- the next block was judged, with this verdict, and is accounted for
 pub record JudgesOneMore (j j' : Jury) (block : SolutionBlock) (v : Verdict) : Type 0 where
-  pub bound : Option ℤ
   pub outcome : IsOutcome j.judge.completion j.judge.model j.judge.before j.judge.found block
-      (last_outcome j'.judge v bound)
+      (last_outcome j'.judge v)
+  pub is_open : IsOpen j.judge.completion j.judge.model (Some block) (kept j')
   pub same_model : j'.judge.model ≡ j.judge.model
   pub same_completion : j'.judge.completion ≡ j.judge.completion
   pub same_claims : j'.claims ≡ j.claims
-  pub account_is : j'.account
-      ≡ behind_block j.judge.model.aim j.account (last_outcome j'.judge v bound)
+  pub account_is : j'.account ≡ behind_block j.judge.model.aim j.account (last_outcome j'.judge v)
 
 -- the next claim was judged, with this told of it, and is accounted for
 pub record HearsOneMore (j j' : Jury) (kind : ClaimKind) (e : Event) : Type 0 where
+  pub bound : Option ℤ
+  pub bounded : (block : Option SolutionBlock)
+      → IsOpen j.judge.completion j.judge.model block (kept j)
+      → IsBoundBehind j.judge.completion j.judge.model block kind bound
+  pub is_open : (block : Option SolutionBlock)
+      → IsOpen j.judge.completion j.judge.model block (kept j)
+      → IsOpen j.judge.completion j.judge.model (unasked kind block) (kept j')
   pub shown : Option ℕ
   pub is_shown : IsShown j.claims j.judge.model (saying kind j.judge.before) shown
-  pub event_is : e ≡ claim_told j.judge.model.aim j.claims j.account kind shown
+  pub event_is : e ≡ claim_told j.judge.model.aim j.claims (asked j.account bound) kind shown
   pub same_judge : j'.judge ≡ j.judge
   pub same_claims : j'.claims ≡ j.claims
-  pub account_is : j'.account ≡ behind_claim j.judge.model.aim j.claims j.account kind
+  pub account_is : j'.account
+      ≡ behind_claim j.judge.model.aim j.claims (asked j.account bound) kind
 
 -- the next block is refused, with its number, or memory ran out; the block is one that ends within
 -- so many bytes
@@ -105,6 +126,7 @@ IsUnjudged most j block _ = ⊥
 pub record HasTold (o : Options) (m : Model) (j : Jury) (parts : List StreamPart)
     (outcomes : List Outcome) : Type 0 where
   pub judged : HasJudged o m j.judge parts outcomes
+  pub is_open : IsOpen o.completion m judged.block (kept j)
   pub claims_are : j.claims ≡ o.claims
   pub account_is : j.account ≡ account m.aim o.claims no_account outcomes
 

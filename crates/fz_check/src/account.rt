@@ -6,7 +6,7 @@ ghost use Rattle.std.specs.Option.{option_or};
 ghost use Rattle.fz_search.specs.of_model.Parts.{goal_view};
 ghost use Rattle.fz_filling.specs.Verdict.{answer_by, is_undecided, is_violated};
 ghost use Rattle.fz_filling.specs.View.{verdict_view};
-ghost use Rattle.fz_check.specs.Claims.{answer_with, behind_block, behind_claim, block_refuter, claim_refutation, earliest, is_satisfied, late_refuted, no_account, statement};
+ghost use Rattle.fz_check.specs.Claims.{answer_with, asked, behind_block, behind_claim, block_refuter, claim_refutation, earliest, is_satisfied, late_refuted, no_account, statement};
 ghost use Rattle.fz_check.specs.View.{answer_view};
 
 use crate::claims::{Claims, Known, Refutation, Refuter, Saying, Statement, refutes, said_by};
@@ -59,7 +59,8 @@ pub(crate) struct Account {
     violated: Option<usize>,
     /// The number of the first undecided block, from 1.
     undecided: Option<usize>,
-    /// The objective of the last block under its filling, or a bound on those that it may have.
+    /// The objective of the last block under its filling; where it has none, a bound on those that
+    /// it may have, once a claim asks for one.
     objective: Option<i64>,
     /// The last claim that a later block may refute.
     waiting: Option<Statement>,
@@ -151,6 +152,13 @@ impl Account {
         }
     }
 
+    /// Hears of the bound that a claim asks for, where the last block leaves its objective open.
+    pub(crate) fn hear_bound(&mut self, bound: Option<i64>)
+        ensures { self.new ≡ asked self.old bound }
+    {
+        self.objective = self.objective.or(bound);
+    }
+
     /// Judges the next claim. It gives the solution that refutes it, if there is one.
     pub(crate) fn hear_claim<'k>(
         &mut self,
@@ -180,16 +188,14 @@ impl Account {
         }
     }
 
-    /// Hears of the next block: the verdict on it, its objectives under its filling and with the
-    /// values that were found, and a bound on those that it may have. It gives the claim that it
-    /// refutes, where it refutes one.
+    /// Hears of the next block: the verdict on it, and its objectives under its filling and with the
+    /// values that were found. It gives the claim that it refutes, where it refutes one.
     pub(crate) fn hear_block(
         &mut self,
         goal: &Goal,
         verdict: &Verdict<'_>,
         filled: Option<i64>,
         found: Option<i64>,
-        bound: Option<i64>,
     ) -> Option<Statement>
         requires { self.old.blocks < usize.MAX }
         ensures refuted { result ≡ late_refuted (goal_view goal.now) self.old.waiting
@@ -198,7 +204,6 @@ impl Account {
           verdict = verdict_view verdict.now;
           filled = filled;
           found = found;
-          bound = bound;
         }) }
     {
         let is_satisfied = is_satisfied(verdict);
@@ -210,7 +215,7 @@ impl Account {
         self.satisfied = first(self.satisfied, is_satisfied, self.blocks);
         self.violated = first(self.violated, is_violated(verdict), self.blocks);
         self.undecided = first(self.undecided, is_undecided(verdict), self.blocks);
-        self.objective = filled.or(bound);
+        self.objective = filled;
         if let Some(claim) = late {
             self.waiting = None;
             self.refuted = earliest(self.refuted, claim.after);

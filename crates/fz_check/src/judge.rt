@@ -1,7 +1,9 @@
 //! A judge: blocks, one after another, against a model.
 
-ghost use Rattle.std.specs.Prelude.{◌≡◌, IfErr, IfOk, IfSome, None, option_map};
-ghost use Rattle.fz_check.specs.Bounds.{IsBound};
+ghost use Rattle.std.specs.Prelude.{◌≡◌, IfErr, IfOk, IfSome, None, Some, option_map};
+ghost use Rattle.fz_check.specs.Claims.{IsBoundBehind};
+ghost use Rattle.fz_filling.specs.of_stream.Parts.{SolutionBlock};
+ghost use Rattle.fz_filling.specs.of_stream.declared.line.ClaimKind.TheVariants.{Complete};
 ghost use Rattle.fz_search.specs.Claims.{HasNoneBeyond};
 ghost use Rattle.fz_search.specs.of_model.Meaning.{IsPartial, objective};
 ghost use Rattle.fz_search.specs.of_model.Overviews.{IsOverview};
@@ -430,30 +432,37 @@ impl<'m, 'a> Judge<'m, 'a> {
         Ok(shown)
     }
 
-    /// A number that no known-solution which extends the block has an objective better than. It
-    /// gives none where no values are looked for, where the objective has no bounds once the block
-    /// is filled, and of a block that has a fault.
+    /// A number that no known-solution which extends a block with this filling has an objective
+    /// better than. It gives none where no values are looked for, and where the objective has no
+    /// bounds under the filling.
     ///
     /// # Errors
     ///
     /// Out of memory.
-    pub fn bound(&mut self, alloc: Global, block: &Block<'_>) -> Result<Option<i64>, AllocError>
+    pub(crate) fn bound(
+        &mut self,
+        alloc: Global,
+        filling: &Partial,
+    ) -> Result<Option<i64>, AllocError>
         ensures same { self.new ≡ self.old }
-        ensures bounded { IfOk result (λ o. IfSome o
-            (IsBound self.old.model (block_of block.now))) }
+        ensures bounded { IfOk result (λ o. (block : SolutionBlock)
+            → IsFilled self.old.completion self.old.model block filling.now
+            → IsBoundBehind self.old.completion self.old.model (Some block) Complete o) }
         ensures unasked { self.old.completion ≡ Off → IfOk result (λ o. o ≡ None) }
     {
         let Completion::On = self.completion else {
             return Ok(None);
         };
-        match self.filling(alloc, block) {
-            Ok(filling) => {
-                let steps = self.patience.steps();
-                bound(alloc, self.model, &filling, steps, &mut self.search)
-            }
-            Err(BlockError::Memory) => Err(AllocError),
-            Err(_) => Ok(None),
-        }
+        let steps = self.patience.steps();
+        bound(alloc, self.model, filling, steps, &mut self.search)
+    }
+
+    /// Gives the next block the memory of a filling that isn't needed any more.
+    pub(crate) fn reuse(&mut self, filling: Box<Partial>)
+        requires { IsPartial self.old.model filling.value }
+        ensures { self.new ≡ self.old }
+    {
+        self.spare = Some(filling);
     }
 
     /// The verdict on the next block, under its filling: the first that fails of the printed names
@@ -483,6 +492,31 @@ impl<'m, 'a> Judge<'m, 'a> {
         ensures refused { IfErr result (λ e. HasPlaces block.now → EndsWithin usize.MAX block.now
             → IsBlockRefusal self.old.model block.now e) }
     {
+        let (verdict, filling) = self.judge_filled(alloc, block)?;
+        self.reuse(filling);
+        Ok(verdict)
+    }
+
+    /// The same, with the filling of the block.
+    pub(crate) fn judge_filled(
+        &mut self,
+        alloc: Global,
+        block: &Block<'_>,
+    ) -> Result<(Verdict<'a>, Box<Partial>), BlockError>
+        ensures judged { IfOk result (λ r. IsJudged self.old self.new (block_of block.now)
+            (verdict_view r.0)) }
+        ensures filled { IfOk result (λ r. IsFilled self.old.completion self.old.model
+            (block_of block.now) r.1.value) }
+        ensures kinds { IfOk result (λ r. IsPartial self.old.model r.1.value) }
+        ensures refuted { IfOk result (λ r. IfSome self.new.refuted
+            (λ k. IsOfPoint self.old.model k (verdict_view r.0))) }
+        ensures same_model { self.new.model ≡ self.old.model }
+        ensures same_completion { self.new.completion ≡ self.old.completion }
+        ensures unchanged { IfErr result (λ _. self.new ≡ self.old) }
+        ensures only { IfErr result (λ e. TellsKind e (block_fault self.old.model block.now)) }
+        ensures refused { IfErr result (λ e. HasPlaces block.now → EndsWithin usize.MAX block.now
+            → IsBlockRefusal self.old.model block.now e) }
+    {
         let filling = self.filling(alloc, block)?;
         let partial = &*filling;
         let overview = &mut self.overview;
@@ -494,7 +528,6 @@ impl<'m, 'a> Judge<'m, 'a> {
         self.before = now;
         self.found = found;
         self.refuted = refuted;
-        self.spare = Some(filling);
-        Ok(verdict)
+        Ok((verdict, filling))
     }
 }

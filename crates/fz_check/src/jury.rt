@@ -1,13 +1,13 @@
 //! The verdicts on blocks, one after another, and the answer on all of them.
 
-ghost use Rattle.std.specs.Prelude.{◌≡◌, ◌+◌, ◌<◌, None, IfOk, IfErr, IfSome, OnOk};
-ghost use Rattle.fz_check.specs.Bounds.{IsBound};
-ghost use Rattle.fz_filling.specs.declared.completion.Completion.TheVariants.{Off};
+ghost use Rattle.std.specs.Prelude.{◌≡◌, ◌+◌, ◌<◌, None, IfOk, IfErr, IfSome, OnOk, Option};
 ghost use Rattle.fz_filling.specs.Verdict.{answer_by};
 ghost use Rattle.fz_filling.specs.of_stream.Found.{block_of};
+ghost use Rattle.fz_filling.specs.of_stream.Parts.{SolutionBlock};
+ghost use Rattle.fz_search.specs.of_model.Meaning.{IsPartial};
 ghost use Rattle.fz_filling.specs.View.{verdict_view};
-ghost use Rattle.fz_check.specs.Claims.{IsShown, answer_with, is_satisfied, late_refuted, no_account};
-ghost use Rattle.fz_check.specs.Telling.{HearsOneMore, IsUnjudged, JudgesOneMore};
+ghost use Rattle.fz_check.specs.Claims.{IsBoundBehind, IsShown, answer_with, is_satisfied, late_refuted, no_account, unasked};
+ghost use Rattle.fz_check.specs.Telling.{HearsOneMore, IsOpen, IsUnjudged, JudgesOneMore, kept};
 ghost use Rattle.fz_check.specs.View.{answer_view, event_view};
 
 use crate::account::{Account, Answer};
@@ -17,7 +17,7 @@ use crate::event::Event;
 use crate::judge::Judge;
 use crate::options::Options;
 use fz_filling::{BlockError, Verdict};
-use fz_store::Model;
+use fz_store::{Model, Partial};
 use fz_stream::{Block, ClaimKind};
 use std::alloc::{AllocError, Global};
 
@@ -27,6 +27,9 @@ pub(crate) struct Jury<'m, 'a, 'k> {
     pub(crate) judge: Judge<'m, 'a>,
     pub(crate) account: Account,
     claims: Claims<'k>,
+    /// the filling of the block that was judged last, where a claim may ask for a bound of its
+    /// objective, and none has
+    filling: Option<Box<Partial>>,
 }
 
 impl<'m, 'a, 'k> Jury<'m, 'a, 'k> {
@@ -41,11 +44,13 @@ impl<'m, 'a, 'k> Jury<'m, 'a, 'k> {
         } }
         ensures account { result.account ≡ no_account }
         ensures claims { result.claims ≡ options.entry.claims }
+        ensures nothing_kept { kept result ≡ None }
     {
         Jury {
             judge: Judge::completing(model, options.completion, options.steps),
             account: Account::new(),
             claims: options.claims,
+            filling: None,
         }
     }
 
@@ -64,42 +69,58 @@ impl<'m, 'a, 'k> Jury<'m, 'a, 'k> {
         ensures counted { OnOk result (self.new.account.blocks ≡ self.old.account.blocks + 1) }
         ensures refused { IfErr result (IsUnjudged usize.MAX self.old block.now) }
     {
-        let verdict = match self.judge.judge(alloc, block) {
-            Ok(verdict) => verdict,
+        let (verdict, filling) = match self.judge.judge_filled(alloc, block) {
+            Ok(judged) => judged,
             Err(BlockError::Memory) => return Err(CheckError::Memory),
             Err(error) => return Err(CheckError::Block(self.account.blocks + 1, error)),
         };
-        let bound = self.bound(alloc, block, &verdict)?;
+        self.keep(&verdict, filling);
         let goal = self.judge.model().goal();
         let filled = self.judge.filled_objective();
         let found = self.judge.objective();
-        let late = self
-            .account
-            .hear_block(goal, &verdict, filled, found, bound);
+        let late = self.account.hear_block(goal, &verdict, filled, found);
         Ok((verdict, late))
     }
 
-    /// A bound on the objectives of the block that was judged last, where it is satisfied and has
-    /// none under its filling, and claims are judged.
-    fn bound(
-        &mut self,
-        alloc: Global,
-        block: &Block<'_>,
-        verdict: &Verdict<'_>,
-    ) -> Result<Option<i64>, AllocError>
-        ensures bounded { IfOk result (λ o. IfSome o
-            (IsBound self.old.judge.model (block_of block.now))) }
-        ensures unasked { self.old.judge.completion ≡ Off → IfOk result (λ o. o ≡ None) }
-        ensures same { self.new ≡ self.old }
+    /// Keeps the filling of the block that was judged last, where the block is satisfied, has no
+    /// objective under it, and claims are judged.
+    fn keep(&mut self, verdict: &Verdict<'_>, filling: Box<Partial>)
+        requires kinds { IsPartial self.old.judge.model filling.value }
+        ensures kept { IfSome (kept self.new) (λ f. f ≡ filling.value) }
+        ensures same_judge { self.new.judge ≡ self.old.judge }
+        ensures same_account { self.new.account ≡ self.old.account }
+        ensures same_claims { self.new.claims ≡ self.old.claims }
     {
-        let (Claims::Judged(..), Verdict::Satisfied, None) = (
-            self.claims,
-            verdict,
-            self.judge.filled_objective(),
-        ) else {
+        match (self.claims, verdict, self.judge.filled_objective()) {
+            (Claims::Judged(..), Verdict::Satisfied, None) => self.filling = Some(filling),
+            _ => {
+                self.filling = None;
+                self.judge.reuse(filling);
+            }
+        }
+    }
+
+    /// A bound on the objectives of the block that was judged last, where this claim asks for it,
+    /// and none before it did.
+    fn bound(&mut self, alloc: Global, kind: ClaimKind) -> Result<Option<i64>, AllocError>
+        ensures bounded { IfOk result (λ o. (block : Option SolutionBlock)
+            → IsOpen self.old.judge.completion self.old.judge.model block (kept self.old)
+            → IsBoundBehind self.old.judge.completion self.old.judge.model block kind o) }
+        ensures still { (block : Option SolutionBlock)
+            → IsOpen self.old.judge.completion self.old.judge.model block (kept self.old)
+            → IsOpen self.old.judge.completion self.old.judge.model (unasked kind block)
+            (kept self.new) }
+        ensures same_judge { self.new.judge ≡ self.old.judge }
+        ensures same_account { self.new.account ≡ self.old.account }
+        ensures same_claims { self.new.claims ≡ self.old.claims }
+    {
+        let ClaimKind::Complete = kind else {
             return Ok(None);
         };
-        self.judge.bound(alloc, block)
+        match self.filling.take() {
+            Some(filling) => self.judge.bound(alloc, &filling),
+            None => Ok(None),
+        }
     }
 
     /// How many nodes show what a claim says, where that is asked for, and some do.
@@ -108,6 +129,7 @@ impl<'m, 'a, 'k> Jury<'m, 'a, 'k> {
         ensures same_judge { self.new.judge ≡ self.old.judge }
         ensures same_account { self.new.account ≡ self.old.account }
         ensures same_claims { self.new.claims ≡ self.old.claims }
+        ensures same_open { kept self.new ≡ kept self.old }
     {
         let Claims::Judged(_, proofs) = self.claims else {
             return Ok(None);
@@ -123,7 +145,7 @@ impl<'m, 'a, 'k> Jury<'m, 'a, 'k> {
     }
 
     /// Judges the next claim of the stream, and gives what is told of it. Where no block refutes
-    /// it, it may be proved.
+    /// it, it may be proved. A bound is sought only here: most blocks have no claim behind them.
     pub(crate) fn hear_claim(
         &mut self,
         alloc: Global,
@@ -132,6 +154,8 @@ impl<'m, 'a, 'k> Jury<'m, 'a, 'k> {
         ensures heard { IfOk result (λ e. HearsOneMore self.old self.new kind (event_view e)) }
         ensures counted { OnOk result (self.new.account.blocks ≡ self.old.account.blocks) }
     {
+        let bound = self.bound(alloc, kind)?;
+        self.account.hear_bound(bound);
         let claim = self.account.statement(kind);
         let goal = self.judge.model().goal();
         if let Some(refutation) = self.account.hear_claim(goal, &self.claims, kind) {

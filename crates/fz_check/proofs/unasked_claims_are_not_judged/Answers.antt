@@ -5,6 +5,6 @@ use Rattle.fz_check.proofs.unasked_claims_are_not_judged.Goals as goal
 
 pub returns : goal.returns
 returns c = λ o m ps os. (
-  λ unasked have. told_unjudged o m no_account None None ps os unasked refl have,
+  λ unasked have. told_unjudged o m no_account None None None ps os unasked refl have,
   answer_unjudged m os,
 )

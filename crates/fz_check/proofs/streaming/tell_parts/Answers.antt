@@ -10,7 +10,7 @@ use Rattle.fz_check.proofs.streaming.tell_parts.Goals as goal
 
 pub loop-parts-init : goal.loop-parts-init
 loop-parts-init g c =
-    let told = told_none c.args.options c.args.model.now c.new-jury.result c.new-jury.ensures.judge c.new-jury.ensures.account c.new-jury.ensures.claims in
+    let told = told_none c.args.options c.args.model.now c.new-jury.result c.new-jury.ensures.judge c.new-jury.ensures.nothing_kept c.new-jury.ensures.account c.new-jury.ensures.claims in
     living_first c.args.options g.T.Taker.text c.args.model.now c.new-parts.result c.new-jury.result c.args.reads _ _ c.args.lines.now.items told c.new-jury.ensures.account c.new-parts.ensures.nothing c.new-parts.ensures.pieces c.requires.none
 
 -- ---- the stream is refused

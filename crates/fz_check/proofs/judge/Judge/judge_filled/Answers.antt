@@ -5,8 +5,8 @@ use Rattle.fz_filling.specs.of_stream.Found.{block_of}
 use Rattle.fz_filling.specs.Judged.{JudgeState}
 use Rattle.fz_filling.specs.Working.{HasRoom}
 use Rattle.fz_filling.proofs.Starting.{has_room}
-use Rattle.fz_check.proofs.judge.Judge.judge.Goals as goal
-use Rattle.fz_check.proofs.judge.Judge.judge.Goals.{in-Off, in-On+in_ok-verdict-in-On}
+use Rattle.fz_check.proofs.judge.Judge.judge_filled.Goals as goal
+use Rattle.fz_check.proofs.judge.Judge.judge_filled.Goals.{in-Off, in-On+in_ok-verdict-in-On}
 
 pub invariant_of-self-2 : goal.invariant_of-self-2
 invariant_of-self-2 c =
