@@ -36,11 +36,69 @@ fn asked_numbers(task: &Task<'_, '_>, variable: usize) -> Range
     numbers
 }
 
+/// How many variables without bounds each point has. A point leaves bounds to a variable only where
+/// that is the only one, so other points needn't be looked at: a sum of many variables without
+/// bounds would be gone through for each of them.
+struct Counts {
+    counts: Vec<usize>,
+    /// of each point by which variable it was counted last, since one may stand there twice
+    marks: Vec<usize>,
+}
+
+impl Counts {
+    fn new(task: &Task<'_, '_>, bounds: &Bounds) -> Result<Counts, AllocError> {
+        let mut counts = Counts {
+            counts: Vec::new(task.alloc),
+            marks: Vec::new(task.alloc),
+        };
+        for _ in 0..task.model.points() {
+            counts.counts.push(0)?;
+            counts.marks.push(usize::MAX)?;
+        }
+        for variable in 0..task.model.variables().len() {
+            if bounds.is_unknown(variable) {
+                counts.change(task, variable, true);
+            }
+        }
+        Ok(counts)
+    }
+
+    /// Counts a variable at each of its points, or takes it away there.
+    fn change(&mut self, task: &Task<'_, '_>, variable: usize, is_unknown: bool) {
+        let mark = if is_unknown { variable } else { !variable };
+        for place in task.known.places_of(variable) {
+            if let Some(last) = self.marks.get_mut(place.point)
+                && *last != mark
+                && let Some(count) = self.counts.get_mut(place.point)
+            {
+                *last = mark;
+                *count = if is_unknown {
+                    count.saturating_add(1)
+                } else {
+                    count.saturating_sub(1)
+                };
+            }
+        }
+    }
+
+    /// The points of a variable without bounds that have no other one.
+    fn points_of(&self, task: &Task<'_, '_>, variable: usize) -> Result<Vec<usize>, AllocError> {
+        let mut points = Vec::new(task.alloc);
+        for place in task.known.places_of(variable) {
+            if self.counts.get(place.point) == Some(&1) {
+                points.push(place.point)?;
+            }
+        }
+        Ok(points)
+    }
+}
+
 /// Gives a variable without bounds those that its points leave to it, and tells whether it does.
 fn enclose(
     task: &Task<'_, '_>,
     bounds: &mut Bounds,
     variable: usize,
+    counts: &mut Counts,
     marks: &mut Bounds,
 ) -> Result<bool, AllocError>
     requires unmarked { marks.old.lowest ≡ marks.old.highest }
@@ -48,15 +106,16 @@ fn enclose(
         → IsInside bounds.new A }
     ensures unmarked { marks.new.lowest ≡ marks.new.highest }
 {
-    if bounds.ends(variable).is_some() {
+    if !bounds.is_unknown(variable) {
         return Ok(false);
     }
-    let mut points = Vec::new(task.alloc);
-    for place in task.known.places_of(variable) {
-        points.push(place.point)?;
-    }
+    let points = counts.points_of(task, variable)?;
     let numbers = asked_numbers(task, variable);
-    Ok(bounds.enclose(task.model, variable, &points, numbers, marks))
+    let finds = bounds.enclose(task.model, variable, &points, numbers, marks);
+    if finds {
+        counts.change(task, variable, false);
+    }
+    Ok(finds)
 }
 
 /// Gives all variables without bounds those that their points leave to them, so far as they do.
@@ -78,10 +137,11 @@ fn enclose_each(
     ensures { IfOk result (λ _. (A : Assignment) → IsSought (asked_of task.now) A
         → IsInside bounds.old A → IsInside bounds.new A) }
 {
+    let mut counts = Counts::new(task, bounds)?;
     'rounds: for _ in 0..ROUNDS {
         let mut finds = false;
         'variables: for variable in 0..task.model.variables().len() {
-            finds |= enclose(task, bounds, variable, marks)?;
+            finds |= enclose(task, bounds, variable, &mut counts, marks)?;
         }
         if !finds {
             break;

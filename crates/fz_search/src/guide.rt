@@ -86,11 +86,14 @@ impl Edge<'_> {
 
 impl<'m, 'a> Work<'m, 'a> {
     /// The split of the solver's tree at the node to which the present bounds lead from its root,
-    /// where it has one there.
+    /// where it has one there, and steps are left.
     pub(crate) fn guided(&mut self) -> Option<Split> {
         let edges = self.task.edges;
         let mut node = edges.first()?.branch.parent;
         for _ in edges {
+            if self.has_no_steps() {
+                return None;
+            }
             let edge = self.edge_from(node)?;
             let ends = self.ends_of(edge.variable);
             if let Outlook::Open = edge.outlook(ends) {
@@ -108,7 +111,7 @@ impl<'m, 'a> Work<'m, 'a> {
         let first = edges.partition_point(|edge| edge.branch.parent < node);
         for edge in edges.get(first..)? {
             self.spend(1);
-            if edge.branch.parent != node {
+            if edge.branch.parent != node || self.has_no_steps() {
                 return None;
             }
             match edge.outlook(self.ends_of(edge.variable)) {

@@ -180,6 +180,11 @@ impl<'m, 'a> Work<'m, 'a> {
         self.steps = self.steps.saturating_sub(steps);
     }
 
+    /// Whether all steps are taken.
+    pub(crate) fn has_no_steps(&self) -> bool {
+        self.steps == 0
+    }
+
     pub(crate) fn domain_of(&self, variable: usize) -> Option<&'m Domain> {
         let variable = self.task.model.variables().get(variable)?;
         Some(&variable.domain)
