@@ -1,8 +1,10 @@
 -- What is shown of a model's whole search (this project's profile).
-use Rattle.std.specs.Prelude.{◌≡◌, ℤ, Bool, true, false, Option, Some, None, int_lt}
-use Rattle.fz_bounds.specs.of_model.Meaning.{Aim, Assignment, Model, objective, whole}
+use Rattle.std.specs.Prelude.{◌≡◌, ℤ, Bool, true, false, Option, Some, None, int_lt, ⊤}
+use Rattle.fz_bounds.specs.of_model.Meaning.{Aim, Assignment, IsPartial, Model, objective, whole}
 use Rattle.fz_bounds.specs.of_model.Meaning.Aim.{Satisfy, Minimize, Maximize}
 use Rattle.fz_bounds.specs.of_model.States.{IsKnownSolution}
+use Rattle.fz_search.specs.declared.found.Decision.{Decision}
+use Rattle.fz_search.specs.declared.found.Decision.TheVariants as decisions
 
 -- whether an objective is strictly better than another
 abbrev pub is_better : Aim → ℤ → ℤ → Bool
@@ -20,3 +22,9 @@ beats aim (Some last) (Some now) = is_better aim last now
 abbrev pub HasNoneBeyond : Model → Option ℤ → Type 0
 HasNoneBeyond m last = (A : Assignment) → IsKnownSolution m A
     → beats m.aim last (objective m (whole A)) ≡ true → ⊥
+
+-- Where that is told, it is shown. Values that are found are of their variables' kinds.
+abbrev pub IsDecided : Model → Option ℤ → Decision → Type 0
+IsDecided m last (decisions.Shown nodes) = HasNoneBeyond m last
+IsDecided m last (decisions.Found K) = IsPartial m K
+IsDecided m last (decisions.Open why) = ⊤

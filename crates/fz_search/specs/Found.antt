@@ -7,6 +7,8 @@ use Rattle.fz_bounds.specs.of_model.Openings.{HasEach}
 use Rattle.fz_bounds.specs.of_model.States.{IsKnownSolution}
 use Rattle.fz_search.specs.Claims.{beats}
 use Rattle.fz_search.specs.declared.found.Found.{Found}
+use Rattle.fz_search.specs.declared.found.Decision.{Decision}
+use Rattle.fz_search.specs.declared.found.Decision.TheVariants as decisions
 use Rattle.fz_search.specs.declared.found.Task.{Task}
 use Rattle.fz_search.specs.declared.found.Found.TheVariants as founds
 
@@ -38,7 +40,13 @@ IsRefutedAt q k = (k < length (points q.model)) × HasNone q
 abbrev pub IsFoundFor : Asked → Found → Type 0
 IsFoundFor q (founds.Values K) = IsPartial q.model K
 IsFoundFor q (founds.Refuted r) = IsRefutedAt q r.point
-IsFoundFor q founds.Nothing = ⊤
+IsFoundFor q (founds.Nothing why) = ⊤
+
+-- the same, of what is decided (private functions only)
+abbrev pub IsDecidedFor : Asked → Decision → Type 0
+IsDecidedFor q (decisions.Shown nodes) = HasNone q
+IsDecidedFor q (decisions.Found K) = IsPartial q.model K
+IsDecidedFor q (decisions.Open why) = ⊤
 
 -- the objective is this variable, of which the less or the more is the better (private functions
 -- only)

@@ -23,6 +23,8 @@ pub(crate) struct Task<'m, 'a> {
     pub(crate) edges: &'m [Edge<'m>],
     /// the objective that is to be beaten
     pub(crate) last: Option<i64>,
+    /// so many steps are taken at most each time
+    pub(crate) steps: usize,
 }
 
 /// What a search comes to for values that a block leaves out.
@@ -32,5 +34,28 @@ pub enum Found {
     Values(Partial),
     /// that there are no such values
     Refuted(Refutation),
-    Nothing,
+    Nothing(Why),
+}
+
+/// What a search comes to that is asked whether there is a solution.
+#[derive(Drop)]
+pub enum Decision {
+    /// there is none, as so many nodes of a tree show
+    Shown(usize),
+    /// values that the search takes for one
+    Found(Partial),
+    Open(Why),
+}
+
+/// Why a search comes to nothing.
+#[derive(Clone, Copy, Debug, PartialEq, Eq)]
+pub enum Why {
+    /// so many steps weren't enough
+    Steps(usize),
+    /// the objective has no bound
+    Objective,
+    /// a constraint isn't known
+    Constraint,
+    /// an integer has no bounds, or a number leaves 128 bits
+    Numbers,
 }

@@ -1,6 +1,9 @@
 //! Nodes where each variable that can be split has a value: the sets that can't get one there, and
 //! all points are evaluated.
 
+use crate::found::Why;
+use crate::order::objective_of;
+use crate::standing::ALL;
 use crate::work::Work;
 use fz_store::{IntSet, State, Value};
 use std::alloc::AllocError;
@@ -9,8 +12,9 @@ use std::alloc::AllocError;
 const LEAF: usize = 1_000;
 
 impl<'m, 'a> Work<'m, 'a> {
-    /// The first point that doesn't hold under the values that are found, if one doesn't.
-    pub(crate) fn unmet(&mut self) -> Result<Option<usize>, AllocError> {
+    /// The first point that doesn't hold under the values that are found, if one doesn't, and what
+    /// may be to blame where it isn't closed.
+    pub(crate) fn unmet(&mut self) -> Result<Option<(usize, Why)>, AllocError> {
         for _ in self.task.sets {
             if !self.force()? && !self.empty()? {
                 break;
@@ -21,7 +25,7 @@ impl<'m, 'a> Work<'m, 'a> {
             self.spend(self.task.known.cost_of(point));
             let state = self.proposal.state(self.task.alloc, point)?;
             if !matches!(state, State::Holds) {
-                unmet = Some(point);
+                unmet = Some((point, self.why(state)));
                 break;
             }
         }
@@ -34,6 +38,17 @@ impl<'m, 'a> Work<'m, 'a> {
             }
         }
         Ok(unmet)
+    }
+
+    /// Why a node is left open in which a point has this state.
+    fn why(&self, state: State) -> Why {
+        let objective = objective_of(self.task.model);
+        let ends = objective.map(|(variable, _)| self.ends_of(variable));
+        match state {
+            State::Unknown => Why::Constraint,
+            _ if ends.is_some_and(|ends| ends.width() == ALL.width()) => Why::Objective,
+            _ => Why::Numbers,
+        }
     }
 
     /// Gives a set what a point forces, and tells whether one does.

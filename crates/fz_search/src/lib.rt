@@ -23,6 +23,6 @@ mod tree;
 mod visiting;
 mod work;
 
-pub use found::Found;
+pub use found::{Decision, Found, Why};
 pub use guide::Branch;
 pub use searching::{bound, prove, search};

@@ -1,10 +1,10 @@
 //! The search for values.
 
 ghost use Rattle.std.specs.Prelude.{◌≡◌, None, Some, IfOk, IfSome};
-ghost use Rattle.fz_search.specs.Claims.{HasNoneBeyond};
-ghost use Rattle.fz_search.specs.Found.{HasNone, IsFoundFor, asked_of};
+ghost use Rattle.fz_search.specs.Claims.{IsDecided};
+ghost use Rattle.fz_search.specs.Found.{HasNone, IsDecidedFor, IsFoundFor, asked_of};
 
-use crate::found::{Found, Task};
+use crate::found::{Decision, Found, Task, Why};
 use crate::guide::{Branch, edges_of};
 use crate::order::{Way, objective_of};
 use crate::proposal::copied;
@@ -63,7 +63,7 @@ fn make<'m, 'a>(
             tree.split_set(task.alloc, domain, &set.numbers)?;
             work.branch_off(tree, set.variable)
         }
-        Move::Leave(_) | Move::Found | Move::Nothing => Ok(()),
+        Move::Leave(..) | Move::Found | Move::Nothing => Ok(()),
     }
 }
 
@@ -85,9 +85,9 @@ fn go_through<'m, 'a>(
             continue;
         }
         match work.next()? {
-            Move::Leave(point) => if !tree.close(task.alloc, point)? {
+            Move::Leave(point, why) => if !tree.close(task.alloc, point)? {
                 if matches!(work.way, Way::Unsupposed) {
-                    return Ok(Found::Nothing);
+                    return Ok(Found::Nothing(why));
                 }
                 tree.give_up();
             },
@@ -95,18 +95,17 @@ fn go_through<'m, 'a>(
                 let values = copied(task.alloc, task.model, work.proposal.values())?;
                 return Ok(Found::Values(values));
             }
-            Move::Nothing => return Ok(Found::Nothing),
+            Move::Nothing => break,
             next => make(task, tree, work, next)?,
         }
     }
-    Ok(Found::Nothing)
+    Ok(Found::Nothing(Why::Steps(task.steps)))
 }
 
-/// Goes through a tree from its root on, with so many steps more.
+/// Goes through a tree from its root on.
 fn go_from<'m, 'a>(
     task: &Task<'m, 'a>,
     way: Way,
-    steps: usize,
     tree: &mut Tree<'m, 'a>,
 ) -> Result<Found, AllocError>
     requires asked { tree.old.model ≡ task.now.model.now }
@@ -116,33 +115,33 @@ fn go_from<'m, 'a>(
         .known
         .size()
         .saturating_mul(STEPS_EACH)
-        .saturating_add(steps);
+        .saturating_add(task.steps);
     let mut work = Work::new(task, way, steps, tree)?;
     go_through(task, tree, &mut work)
 }
 
 /// Searches once, in one way.
-fn go(task: &Task<'_, '_>, way: Way, steps: usize) -> Result<Found, AllocError>
+fn go(task: &Task<'_, '_>, way: Way) -> Result<Found, AllocError>
     ensures found { IfOk result (IsFoundFor (asked_of task.now)) }
 {
     let mut tree = Tree::new(task, way.supposes(task))?;
-    go_from(task, way, steps, &mut tree)
+    go_from(task, way, &mut tree)
 }
 
 /// Searches in one way after another, until one comes to something.
-fn go_all_ways(task: &Task<'_, '_>, steps: usize) -> Result<Found, AllocError>
+fn go_all_ways(task: &Task<'_, '_>) -> Result<Found, AllocError>
     ensures found { IfOk result (IsFoundFor (asked_of task.now)) }
 {
     for way in [Way::InOrder, Way::Smallest] {
-        let found = go(task, way, steps)?;
-        if !matches!(found, Found::Nothing) {
+        let found = go(task, way)?;
+        if !matches!(found, Found::Nothing(_)) {
             return Ok(found);
         }
     }
     if task.lacks_bounds {
-        return go(task, Way::Unsupposed, steps);
+        return go(task, Way::Unsupposed);
     }
-    Ok(Found::Nothing)
+    Ok(Found::Nothing(Why::Steps(task.steps)))
 }
 
 /// The set variables without a value, and whether an integer without one has no bounds.
@@ -196,28 +195,45 @@ pub fn search(
         before,
         edges: &[],
         last: None,
+        steps,
     };
-    go_all_ways(&task, steps)
+    go_all_ways(&task)
 }
 
-/// How many nodes of a tree show that there is none that is asked for, where some do.
-fn refuting(task: &Task<'_, '_>, steps: usize) -> Result<Option<usize>, AllocError>
-    ensures { IfOk result (λ o. IfSome o (λ _. HasNone (asked_of task.now))) }
+/// Whether there is one that is asked for.
+fn decide(task: &Task<'_, '_>) -> Result<Decision, AllocError>
+    ensures { IfOk result (IsDecidedFor (asked_of task.now)) }
 {
-    match go(task, Way::Unsupposed, steps)? {
+    match go(task, Way::Unsupposed)? {
         // Each node of the tree is a leaf or is split in two.
         Found::Refuted(refutation) => {
             let nodes = refutation.tried.saturating_mul(2).saturating_sub(1);
-            Ok(Some(nodes))
+            Ok(Decision::Shown(nodes))
         }
-        Found::Values(_) | Found::Nothing => Ok(None),
+        Found::Values(values) => Ok(Decision::Found(values)),
+        Found::Nothing(why) => Ok(Decision::Open(why)),
     }
 }
 
-/// How many nodes of a tree show that no known-solution of the model has an objective better than
-/// `last`, or where that is none, that there is none at all. It gives nothing where the search
-/// comes to no end in ten times so many steps, or finds one. It refuses only where memory runs
-/// out.
+/// The same, where integers without bounds are also looked for within 64 bits: so one may be found,
+/// and nothing is shown.
+fn decide_all_ways(task: &Task<'_, '_>) -> Result<Decision, AllocError>
+    ensures { IfOk result (IsDecidedFor (asked_of task.now)) }
+{
+    let decision = decide(task)?;
+    if task.lacks_bounds
+        && matches!(decision, Decision::Open(_))
+        && let Found::Values(values) = go(task, Way::InOrder)?
+    {
+        return Ok(Decision::Found(values));
+    }
+    Ok(decision)
+}
+
+/// Whether a known-solution of the model has an objective better than `last`, or where that is
+/// none, whether there is one at all: how many nodes of a tree show that there is none, or values
+/// of one, which the caller judges, or why it comes to no end in ten times so many steps. It
+/// refuses only where memory runs out.
 pub fn prove(
     alloc: Global,
     model: &Model<'_>,
@@ -225,8 +241,8 @@ pub fn prove(
     tree: &[Branch<'_>],
     steps: usize,
     known: &mut Option<Search>,
-) -> Result<Option<usize>, AllocError>
-    ensures shown { IfOk result (λ o. IfSome o (λ _. HasNoneBeyond model.now last)) }
+) -> Result<Decision, AllocError>
+    ensures decided { IfOk result (IsDecided model.now last) }
 {
     let known = known_of(alloc, model, known)?;
     let filling = Partial::new(alloc, model)?;
@@ -242,20 +258,20 @@ pub fn prove(
         before: None,
         edges: &edges,
         last,
+        steps: steps.saturating_mul(CLAIM),
     };
-    refuting(&task, steps.saturating_mul(CLAIM))
+    decide_all_ways(&task)
 }
 
 /// The best number that bounds leave to the objective, before any variable is split.
-fn best_left(task: &Task<'_, '_>, steps: usize) -> Result<Option<i64>, AllocError> {
+fn best_left(task: &Task<'_, '_>) -> Result<Option<i64>, AllocError> {
     let mut tree = Tree::new(task, false)?;
-    best_in(task, steps, &mut tree)
+    best_in(task, &mut tree)
 }
 
 /// The same, in a tree of one node.
 fn best_in<'m, 'a>(
     task: &Task<'m, 'a>,
-    steps: usize,
     tree: &mut Tree<'m, 'a>,
 ) -> Result<Option<i64>, AllocError>
     requires asked { tree.old.model ≡ task.now.model.now }
@@ -263,26 +279,26 @@ fn best_in<'m, 'a>(
     let Some((variable, is_cost)) = objective_of(task.model) else {
         return Ok(None);
     };
-    go_from(task, Way::Unsplit, steps, tree)?;
+    go_from(task, Way::Unsplit, tree)?;
     let best = |ends: KindEnds| if is_cost { ends.low } else { ends.high };
     Ok(tree.ends(variable).map(best))
 }
 
 /// The best number that bounds leave to the objective, where a search shows that none is better.
-fn shown_best(task: &Task<'_, '_>, steps: usize) -> Result<Option<i64>, AllocError>
+fn shown_best(task: &Task<'_, '_>) -> Result<Option<i64>, AllocError>
     ensures { IfOk result (λ o. IfSome o (λ b. HasNone
         (record { model = task.now.model.now; filling = task.now.filling.now; last = Some b }))) }
 {
-    let Some(best) = best_left(task, steps)? else {
+    let Some(best) = best_left(task)? else {
         return Ok(None);
     };
     let beyond = Task {
         last: Some(best),
         ..*task
     };
-    match refuting(&beyond, steps)? {
-        Some(_) => Ok(Some(best)),
-        None => Ok(None),
+    match decide(&beyond)? {
+        Decision::Shown(_) => Ok(Some(best)),
+        Decision::Found(_) | Decision::Open(_) => Ok(None),
     }
 }
 
@@ -311,6 +327,7 @@ pub fn bound(
         before: None,
         edges: &[],
         last: None,
+        steps,
     };
-    shown_best(&task, steps)
+    shown_best(&task)
 }

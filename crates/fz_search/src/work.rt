@@ -3,7 +3,7 @@
 
 ghost use Rattle.std.specs.Prelude.{◌≡◌, IfOk};
 
-use crate::found::Task;
+use crate::found::{Task, Why};
 use crate::order::{Split, Way, improvement};
 use crate::proposal::Proposal;
 use crate::standing::{ALL, NOTHING, Standing, standing_of};
@@ -48,8 +48,8 @@ pub(crate) enum Move<'m> {
     Tighten(usize, Left),
     /// the node is closed, where this point holds nowhere
     Close(usize),
-    /// the same, and else the node is given up
-    Leave(usize),
+    /// the same, and else the node is given up, or the search for this reason
+    Leave(usize, Why),
     Split(Split),
     SplitSet(&'m OpenSet),
     /// the objective is made better
@@ -300,7 +300,7 @@ impl<'m, 'a> Work<'m, 'a> {
             return Ok(split);
         }
         match self.unmet()? {
-            Some(point) => Ok(Move::Leave(point)),
+            Some((point, why)) => Ok(Move::Leave(point, why)),
             None => Ok(Move::Found),
         }
     }

@@ -1,6 +1,6 @@
 use Rattle.std.proofs.Common.{subst}
 use Rattle.fz_search.specs.Found.{IsFoundFor}
-use Rattle.fz_search.proofs.searching.refuting.Goals as goal
+use Rattle.fz_search.proofs.searching.decide.Goals as goal
 
 pub returns-in-Refuted : goal.returns-in-Refuted
 returns-in-Refuted c =
