@@ -16,6 +16,7 @@ use Rattle.fz_filling.specs.View.{verdict_view}
 use Rattle.fz_filling.specs.declared.verdict.Verdict as the_verdict
 use Rattle.fz_check.specs.declared.account.Account.{Account}
 use Rattle.fz_check.specs.declared.claims.Claims.TheVariants.{NotJudged}
+use Rattle.fz_check.specs.declared.claims.Ruling.TheVariants as rulings
 use Rattle.fz_check.specs.declared.error.CheckError.{CheckError}
 use Rattle.fz_check.specs.declared.error.CheckError.TheVariants as errors
 use Rattle.fz_check.specs.declared.jury.Jury.{Jury}
@@ -38,14 +39,14 @@ all_fit : (o : Options) (m : Model) (before : Option SolutionBlock) (filled foun
     → AllByRecursion (λ (b : the_block.Block). AllFit m (bare_items b.items.items)) bs
 all_fit o m before filled found [] os h = tt
 all_fit o m before filled found (b ∷ bs) [] h = absurd h
-all_fit o m before filled found (b ∷ bs) (OfClaim kind bound shown ∷ os) h = absurd h
+all_fit o m before filled found (b ∷ bs) (OfClaim kind bound r ∷ os) h = absurd h
 all_fit o m before filled found (b ∷ bs) (OfBlock k ∷ os) h =
     (h.0.is_filled.fits, all_fit o m (Some (block_of b)) k.filled k.found bs os h.1)
 
 -- the outcomes of blocks, and none that shows a claim, as outcomes of all parts
 abbrev with_claims : List StreamPart → List Outcome → List Outcome
 with_claims [] os = os
-with_claims (ClaimPart kind ∷ ps) os = OfClaim kind None None ∷ with_claims ps os
+with_claims (ClaimPart kind ∷ ps) os = OfClaim kind None (rulings.Open None) ∷ with_claims ps os
 with_claims (BlockPart block ∷ ps) [] = []
 with_claims (BlockPart block ∷ ps) (o ∷ os) = o ∷ with_claims ps os
 
@@ -64,7 +65,7 @@ have_also o m before filled found [] (k ∷ os) are = absurd are
 have_also o m before filled found (ClaimPart kind ∷ ps) os are =
     let (rest, same) = have_also o m (unasked kind before) filled found ps os are in ((refl, tt, tt, rest), same)
 have_also o m before filled found (BlockPart block ∷ ps) [] are = absurd are
-have_also o m before filled found (BlockPart block ∷ ps) (OfClaim kind bound shown ∷ os) are = absurd are
+have_also o m before filled found (BlockPart block ∷ ps) (OfClaim kind bound r ∷ os) are = absurd are
 have_also o m before filled found (BlockPart block ∷ ps) (OfBlock b ∷ os) (is, are) =
     let (rest, same) = have_also o m (Some block) b.filled b.found ps os are in
     ((is, rest), ap (λ vs. b.verdict ∷ vs) same)

@@ -26,6 +26,9 @@ use Rattle.fz_check.specs.declared.claims.Saying.TheVariants.{Nothing, NoSolutio
 use Rattle.fz_check.specs.declared.claims.Statement.{Statement}
 use Rattle.fz_check.specs.declared.claims.Source.{Source}
 use Rattle.fz_check.specs.declared.claims.Best.{Best}
+use Rattle.fz_check.specs.declared.claims.Own.{Own}
+use Rattle.fz_check.specs.declared.claims.Ruling.{Ruling}
+use Rattle.fz_check.specs.declared.claims.Ruling.TheVariants as rulings
 use Rattle.fz_check.specs.declared.claims.Refuter.{Refuter}
 use Rattle.fz_check.specs.declared.claims.Refuter.TheVariants as refuters
 use Rattle.fz_check.specs.declared.claims.Known.{Known}
@@ -34,12 +37,12 @@ use Rattle.fz_check.specs.declared.claims.Claims.TheVariants.{NotJudged, Judged 
 use Rattle.fz_check.specs.declared.claims.Proofs.TheVariants as proving
 use Rattle.fz_check.specs.declared.account.Account.{Account}
 use Rattle.fz_check.specs.declared.options.Options.{Options}
-use Rattle.fz_check.specs.Claims.{IsFalse, IsShown, IsTrueClaim, Outcome, HasSolutionWith, HaveOutcomes, IsOutcome, IsSolvedWith, AreOutcomes, Knows, KnowsOf, IsTrueOf, account, answer_told, answer_with, asked, behind, behind_block, behind_claim, best_refuter, better_of, best_with, claim_event, first_of, is_satisfied, known_refuter, known_with, late_earliest, late_events, late_refuted, late_waiting, no_account, outcome_told, own_refuter, refuter, refutes, saying, statement, told, unasked, verdicts_of}
+use Rattle.fz_check.specs.Claims.{IsFalse, IsRuled, IsRulingOn, IsTrueClaim, Outcome, HasSolutionWith, HaveOutcomes, IsOutcome, IsSolvedWith, AreOutcomes, Knows, KnowsOf, IsTrueOf, account, answer_told, answer_with, asked, behind, behind_block, behind_claim, best_own, best_refuter, better_of, better_own, best_with, claim_event, first_of, found_refuter, is_satisfied, known_refuter, known_with, late_earliest, late_events, late_refuted, late_waiting, no_account, outcome_told, own_refuter, own_with, refuter, refutes, saying, statement, told, unasked, verdicts_of}
 use Rattle.fz_check.specs.Claims.Outcome.{OfBlock, OfClaim}
 use Rattle.fz_check.specs.Telling.{OutcomesGoOn, last_outcome}
 use Rattle.fz_check.proofs.EventLemmas.{comes_by, comes_later}
 use Rattle.fz_check.specs.Report.{Event, claimed, claims_by, claims_past, in_order}
-use Rattle.fz_check.specs.Report.Event.{Judged}
+use Rattle.fz_check.specs.Report.Event.{Claimed, Judged}
 
 -- ---- one more outcome
 
@@ -60,7 +63,7 @@ module _ (aim : Aim) (c : Claims) where
 pub verdicts_append : (os ks : List Outcome)
     → verdicts_of (os ++ ks) ≡ verdicts_of os ++ verdicts_of ks
 verdicts_append [] ks = refl
-verdicts_append (OfClaim kind bound shown ∷ os) ks = verdicts_append os ks
+verdicts_append (OfClaim kind bound r ∷ os) ks = verdicts_append os ks
 verdicts_append (OfBlock b ∷ os) ks = ap (λ vs. b.verdict ∷ vs) (verdicts_append os ks)
 
 module _ (o : Options) (m : Model) (ps : List StreamPart) (os : List Outcome) (before : Option SolutionBlock) (filled found : Option ℤ) (go : OutcomesGoOn o m ps os before filled found) where
@@ -82,7 +85,7 @@ pub outcomes_told : (o : Options) (m : Model) (before : Option SolutionBlock) (f
 outcomes_told o m before filled found [] [] are = NoneLeft
 outcomes_told o m before filled found (BlockPart block ∷ ps) (OfBlock b ∷ os) (is, are) = OneMore is.filling is.is_filled is.is_told
     (subst (λ f. AreTold o.completion m f b.found (blocks_in ps) (verdicts_of os)) is.filled_is (outcomes_told o m (Some block) b.filled b.found ps os are))
-outcomes_told o m before filled found (ClaimPart kind ∷ ps) (OfClaim k bound shown ∷ os) (is, bounded, shows, are) =
+outcomes_told o m before filled found (ClaimPart kind ∷ ps) (OfClaim k bound r ∷ os) (is, bounded, ruled, are) =
     outcomes_told o m (unasked kind before) filled found ps os are
 outcomes_told o m before filled found _ _ are = absurd are
 
@@ -93,7 +96,7 @@ have_each : (o : Options) (m : Model) (before : Option SolutionBlock) (filled fo
 have_each o m before filled found [] [] are = refl
 have_each o m before filled found (BlockPart block ∷ ps) (OfBlock b ∷ os) are =
     ap suc (have_each o m (Some block) b.filled b.found ps os are.1)
-have_each o m before filled found (ClaimPart kind ∷ ps) (OfClaim k bound shown ∷ os) (is, bounded, shows, are) =
+have_each o m before filled found (ClaimPart kind ∷ ps) (OfClaim k bound r ∷ os) (is, bounded, ruled, are) =
     have_each o m (unasked kind before) filled found ps os are
 have_each o m before filled found _ _ are = absurd are
 
@@ -118,7 +121,7 @@ Tallies a b vs = (b.blocks ≡ a.blocks + length vs)
 tallied : (aim : Aim) (c : Claims) (a : Account) (os : List Outcome)
     → Tallies a (account aim c a os) (verdicts_of os)
 tallied aim c a [] = (sym (add-zero a.blocks), or_none a.violated, or_none a.undecided)
-tallied aim c a (OfClaim kind bound shown ∷ os) = tallied aim c (behind_claim aim c (asked a bound) kind) os
+tallied aim c a (OfClaim kind bound r ∷ os) = tallied aim c (behind_claim aim c (asked a bound) kind r) os
 tallied aim c a (OfBlock o ∷ os) =
     let t = tallied aim c (behind_block aim a o) os in
     let n = a.blocks + 1 in
@@ -159,8 +162,8 @@ late_unjudged aim (Some s) is found none = absurd cc
 pub refuted_unjudged : (aim : Aim) (a : Account) (os : List Outcome) → a.waiting ≡ None
     → (account aim NotJudged a os).refuted ≡ a.refuted
 refuted_unjudged aim a [] none = refl
-refuted_unjudged aim a (OfClaim kind bound shown ∷ os) none =
-    refuted_unjudged aim (behind_claim aim NotJudged (asked a bound) kind) os none
+refuted_unjudged aim a (OfClaim kind bound r ∷ os) none =
+    refuted_unjudged aim (behind_claim aim NotJudged (asked a bound) kind r) os none
 refuted_unjudged aim a (OfBlock o ∷ os) none =
     let late = late_unjudged aim a.waiting (is_satisfied o.verdict) o.found none in
     refuted_unjudged aim (behind_block aim a o) os (ap (λ s. late_waiting s a.waiting) late ∙ none)
@@ -194,22 +197,24 @@ claim_first n (v ∷ vs) c cs le =
     let by = comes_by n c cs le in
     λ i. (by.0 i) ++ Judged (n + 1) v ∷ in_order (n + 1) vs (by.1 i)
 
-none_shown : (c : Claims) (m : Model) (s : Saying) (shown : Option ℕ) → c ≡ NotJudged
-    → IsShown c m s shown → shown ≡ None
-none_shown c m s None unasked shows = refl
-none_shown c m s (Some n) unasked shows = absurd (subst (λ d. IsShown d m s (Some n)) unasked shows)
+none_shown : (c : Claims) (m : Model) (s : Saying) (r : Ruling) → c ≡ NotJudged
+    → IsRuled c m s r → (t : Statement) → claim_event t None r ≡ Claimed t.kind
+none_shown c m s (rulings.Open why) unasked ruled = λ t. refl
+none_shown c m s (rulings.Found o) unasked ruled = λ t. refl
+none_shown c m s (rulings.Shown n) unasked ruled =
+    absurd (subst (λ d. IsRuled d m s (rulings.Shown n)) unasked ruled)
 
 pub told_unjudged : (o : Options) (m : Model) (a : Account) (before : Option SolutionBlock)
     (filled found : Option ℤ) (ps : List StreamPart) (os : List Outcome) → o.claims ≡ NotJudged
     → a.waiting ≡ None → AreOutcomes o m before filled found ps os
     → told m.aim NotJudged a os ≡ in_order a.blocks (verdicts_of os) (claims_in a.blocks ps)
 told_unjudged o m a before filled found [] [] no_claims none are = refl
-told_unjudged o m a before filled found (ClaimPart kind ∷ ps) (OfClaim k bound shown ∷ os) no_claims none (is, bounded, shows, are) =
+told_unjudged o m a before filled found (ClaimPart kind ∷ ps) (OfClaim k bound r ∷ os) no_claims none (is, bounded, ruled, are) =
     let n = a.blocks in
     let c : Claim = record { after = n; kind = kind } in
-    let rest = told_unjudged o m (behind_claim m.aim NotJudged (asked a bound) k) (unasked kind before) filled found ps os no_claims none are in
-    let no = none_shown o.claims m (saying k filled) shown no_claims shows in
-    (λ i. claim_event (statement (asked a bound) (is i)) None (no i) ∷ rest i)
+    let rest = told_unjudged o m (behind_claim m.aim NotJudged (asked a bound) k r) (unasked kind before) filled found ps os no_claims none are in
+    let no = none_shown o.claims m (saying k filled) r no_claims ruled (statement (asked a bound) k) in
+    (λ i. no i ∷ rest i) ∙ ap (λ k. Claimed k ∷ in_order n (verdicts_of os) (claims_in n ps)) is
     ∙ sym (claim_first n (verdicts_of os) c (claims_in n ps) (omega arith))
 told_unjudged o m a before filled found (BlockPart block ∷ ps) (OfBlock b ∷ os) no_claims none (is, are) =
     let n = a.blocks in
@@ -268,26 +273,34 @@ module _ (m : Model) where
   false_by s o (A, solution, is) e = (A, solution, ap (refutes m.aim s) is ∙ e)
 
   -- what is known of the stream is so
+  abbrev Solves : {A : Type 0} → A → Type 0
+  Solves x = (o : Option ℤ) × HasSolutionWith m o
+
   abbrev IsSound : Account → Type 0
-  IsSound a = IfSome a.satisfied (λ n. (o : Option ℤ) × HasSolutionWith m o)
+  IsSound a = IfSome a.satisfied Solves × IfSome a.best (λ b. HasSolutionWith m (Some b.objective))
 
-  no_solution : {A B : Type 0} (f : A → B) (x : Option A)
-      → IfSome x (λ n. (o : Option ℤ) × HasSolutionWith m o)
-      → IfSome (option_map f x) (λ _. IsFalse m NoSolution)
-  no_solution f None h = tt
-  no_solution f (Some n) (o, h) = false_by NoSolution o h refl
+  mapped : {A B : Type 0} (s : Saying) (f : A → B) (x : Option A)
+      → IfSome x (λ _. IsFalse m s) → IfSome (option_map f x) (λ _. IsFalse m s)
+  mapped s f None h = tt
+  mapped s f (Some n) h = h
 
-  same_solution : {A : Type 0} (x : Option A)
-      → IfSome x (λ n. (o : Option ℤ) × HasSolutionWith m o)
+  same_solution : {A : Type 0} (x : Option A) → IfSome x Solves
       → IfSome x (λ _. IsFalse m NoSolution)
   same_solution None h = tt
   same_solution (Some n) (o, h) = false_by NoSolution o h refl
 
+  best_own_false : (s : Saying) (best : Option Own)
+      → IfSome best (λ b. HasSolutionWith m (Some b.objective))
+      → IfSome (best_own m.aim s best) (λ _. IsFalse m s)
+  best_own_false s None h = tt
+  best_own_false s (Some b) h =
+      if_true (λ _. IsFalse m s) (refutes m.aim s (Some b.objective)) b.block (λ e. false_by s (Some b.objective) h e)
+
   own_false : (a : Account) (s : Saying) → IsSound a
-      → IfSome (own_refuter a s) (λ _. IsFalse m s)
-  own_false a NoSolution sound = no_solution refuters.Block a.satisfied sound
-  own_false a Nothing sound = tt
-  own_false a (NoneBetter last) sound = tt
+      → IfSome (own_refuter m.aim a s) (λ _. IsFalse m s)
+  own_false a NoSolution sound = same_solution a.satisfied sound.0
+  own_false a Nothing sound = best_own_false Nothing a.best sound.1
+  own_false a (NoneBetter last) sound = best_own_false (NoneBetter last) a.best sound.1
 
   best_false : (s : Saying) (best : Option Best) → IfSome best (λ b. HasSolutionWith m (Some b.objective))
       → IfSome (best_refuter m.aim s best) (λ _. IsFalse m s)
@@ -301,48 +314,78 @@ module _ (m : Model) where
   known_false k Nothing h = best_false Nothing k.best h.best
   known_false k (NoneBetter last) h = best_false (NoneBetter last) k.best h.best
 
-  either_false : (s : Saying) (own : Option Refuter) (known : Option Source)
-      → IfSome own (λ _. IsFalse m s) → IfSome known (λ _. IsFalse m s)
-      → IfSome (option_or own (option_map refuters.Known known)) (λ _. IsFalse m s)
-  either_false s (Some by) known h k = h
-  either_false s None (Some x) h k = k
-  either_false s None None h k = tt
+  either_false : {A : Type 0} (s : Saying) (x y : Option A)
+      → IfSome x (λ _. IsFalse m s) → IfSome y (λ _. IsFalse m s)
+      → IfSome (option_or x y) (λ _. IsFalse m s)
+  either_false s (Some by) y h k = h
+  either_false s None y h k = k
 
-  refuter_false : (c : Claims) (a : Account) (s : Saying) → KnowsOf m c → IsSound a
-      → IfSome (refuter m.aim c a s) (λ _. IsFalse m s)
-  refuter_false NotJudged a s knows sound = tt
-  refuter_false (ClaimsJudged k p) a s knows sound =
-      either_false s (own_refuter a s) (known_refuter m.aim k s) (own_false a s sound) (known_false k s knows)
+  -- what a search comes to is told behind an objective of a filling alone
+  same_saying : (k : ClaimKind) (filled bound : Option ℤ) (r : Ruling)
+      → IsRulingOn m (saying k filled) r → IsRulingOn m (saying k (option_or filled bound)) r
+  same_saying k filled bound (rulings.Open why) h = tt
+  same_saying Unsatisfiable filled bound r h = h
+  same_saying Complete (Some last) bound r h = h
+  same_saying Complete None bound (rulings.Shown n) h = absurd h
+  same_saying Complete None bound (rulings.Found o) h = absurd cc
+  same_saying _ filled bound (rulings.Shown n) h = absurd h
+  same_saying _ filled bound (rulings.Found o) h = absurd cc
 
-  shown_true : (c : Claims) (s : Saying) (nodes : ℕ) → IsShown c m s (Some nodes) → IsTrueClaim m s
-  shown_true NotJudged s nodes shows = absurd shows
-  shown_true (ClaimsJudged k proving.Off) s nodes shows = absurd shows
-  shown_true (ClaimsJudged k (proving.On t)) s nodes shows = shows
+  ruled_so : (c : Claims) (s : Saying) (r : Ruling) → IsRuled c m s r → IsRulingOn m s r
+  ruled_so c s (rulings.Open why) h = tt
+  ruled_so NotJudged s (rulings.Shown n) h = absurd h
+  ruled_so NotJudged s (rulings.Found o) h = absurd h
+  ruled_so (ClaimsJudged k proving.Off) s (rulings.Shown n) h = absurd h
+  ruled_so (ClaimsJudged k proving.Off) s (rulings.Found o) h = absurd h
+  ruled_so (ClaimsJudged k (proving.On t)) s r h = h
 
-  -- what is proved is told behind an objective of a filling alone
-  told_last : (k : ClaimKind) (filled bound : Option ℤ) → IsTrueClaim m (saying k filled)
-      → IsTrueClaim m (saying k (option_or filled bound))
-  told_last Unsatisfiable filled bound h = h
-  told_last Complete (Some last) bound h = h
-  told_last Complete None bound h = absurd h
-  told_last _ filled bound h = absurd h
+  found_false : (s : Saying) (r : Ruling) → IsRulingOn m s r
+      → IfSome (found_refuter r) (λ _. IsFalse m s)
+  found_false s (rulings.Open why) h = tt
+  found_false s (rulings.Shown n) h = tt
+  found_false s (rulings.Found o) (solved, e) = false_by s o solved e
 
-  claim_true : (c : Claims) (s : Statement) (says : Saying) (by : Option Refuter) (shown : Option ℕ)
-      → (IsTrueClaim m says → IsTrueClaim m s.says)
-      → IfSome by (λ _. IsFalse m s.says) → IsShown c m says shown
-      → IsTrueOf m (claim_event s (option_map (λ (r : Refuter). record { claim = s; by = r }) by) shown)
-  claim_true c s says (Some by) shown is h shows = h
-  claim_true c s says None (Some nodes) is h shows = is (shown_true c says nodes shows)
-  claim_true c s says None None is h shows = tt
+  refuter_false : (c : Claims) (a : Account) (s : Saying) (r : Ruling) → KnowsOf m c → IsSound a
+      → IsRulingOn m s r → IfSome (refuter m.aim c a s r) (λ _. IsFalse m s)
+  refuter_false NotJudged a s r knows sound ruled = tt
+  refuter_false (ClaimsJudged k p) a s r knows sound ruled =
+      let own = mapped s refuters.Block (own_refuter m.aim a s) (own_false a s sound) in
+      let known = mapped s refuters.Known (known_refuter m.aim k s) (known_false k s knows) in
+      either_false s _ (found_refuter r) (either_false s _ _ own known) (found_false s r ruled)
+
+  claim_true : (s : Statement) (by : Option Refuter) (r : Ruling)
+      → IfSome by (λ _. IsFalse m s.says) → IsRulingOn m s.says r
+      → IsTrueOf m (claim_event s (option_map (λ (r : Refuter). record { claim = s; by = r }) by) r)
+  claim_true s (Some by) r h ruled = h
+  claim_true s None (rulings.Shown nodes) h ruled = ruled
+  claim_true s None (rulings.Found o) h ruled = tt
+  claim_true s None (rulings.Open why) h ruled = tt
 
   -- it stays so
   one_more_sound : (before : Option ℕ) (v : Verdict) (found : Option ℤ) (number : ℕ)
-      → (v ≡ Satisfied → HasSolutionWith m found)
-      → IfSome before (λ n. (o : Option ℤ) × HasSolutionWith m o)
-      → IfSome (option_or before (cond (is_satisfied v) (Some number) None)) (λ n. (o : Option ℤ) × HasSolutionWith m o)
+      → (v ≡ Satisfied → HasSolutionWith m found) → IfSome before Solves
+      → IfSome (option_or before (cond (is_satisfied v) (Some number) None)) Solves
   one_more_sound (Some n) v found number solved h = h
   one_more_sound None v found number solved h =
-      if_true (λ n. (o : Option ℤ) × HasSolutionWith m o) (is_satisfied v) number (λ e. (found, solved (satisfied_is v e)))
+      if_true Solves (is_satisfied v) number (λ e. (found, solved (satisfied_is v e)))
+
+  better_sound : (best : Option Own) (now : ℤ) (number : ℕ)
+      → IfSome best (λ b. HasSolutionWith m (Some b.objective)) → HasSolutionWith m (Some now)
+      → HasSolutionWith m (Some (better_own m.aim best now number).objective)
+  better_sound None now number h solved = solved
+  better_sound (Some b) now number h solved =
+      elim (is_better m.aim b.objective now) as (λ t. HasSolutionWith m (Some (cond t (record { objective = now; block = number }) b).objective)) [
+        | true ↦ solved
+        | false ↦ h
+      ]
+
+  best_sound : (best : Option Own) (is : Bool) (found : Option ℤ) (number : ℕ)
+      → (is ≡ true → HasSolutionWith m found)
+      → IfSome best (λ b. HasSolutionWith m (Some b.objective))
+      → IfSome (cond is (own_with m.aim best found number) best) (λ b. HasSolutionWith m (Some b.objective))
+  best_sound best false found number solved h = h
+  best_sound best true None number solved h = h
+  best_sound best true (Some now) number solved h = better_sound best now number h (solved refl)
 
   late_false : (w : Option Statement) (is : Bool) (found : Option ℤ) → (is ≡ true → HasSolutionWith m found)
       → IfSome (late_refuted m.aim w is found) (λ s. IsFalse m s.says)
@@ -371,19 +414,24 @@ module _ (m : Model) where
       → AreOutcomes o m before filled found ps os
       → AllByRecursion (IsTrueOf m) (told m.aim o.claims a os)
   all_true o a before filled bound found [] [] last knows sound are = tt
-  all_true o a before filled bound found (ClaimPart kind ∷ ps) (OfClaim k more shown ∷ os) last knows sound (is, bounded, shows, are) =
+  all_true o a before filled bound found (ClaimPart kind ∷ ps) (OfClaim k more r ∷ os) last knows sound (is, bounded, ruled, are) =
       let b = asked a more in
       let last_now : b.objective ≡ option_or filled (option_or bound more) =
-      ap (λ l. option_or l more) last ∙ or_again filled bound more in (
-        claim_true o.claims (statement b k) (saying k filled) (refuter m.aim o.claims b (saying k b.objective)) shown
-            (λ h. subst (λ l. IsTrueClaim m (saying k l)) (sym last_now) (told_last k filled (option_or bound more) h))
-            (refuter_false o.claims b (saying k b.objective) knows sound) shows,
-        all_true o (behind_claim m.aim o.claims b k) (unasked kind before) filled (option_or bound more) found ps os last_now knows sound are,
+      ap (λ l. option_or l more) last ∙ or_again filled bound more in
+      let now : IsRulingOn m (saying k b.objective) r =
+      subst (λ l. IsRulingOn m (saying k l) r) (sym last_now)
+      (same_saying k filled (option_or bound more) r (ruled_so o.claims (saying k filled) r ruled)) in (
+        claim_true (statement b k) (refuter m.aim o.claims b (saying k b.objective) r) r
+            (refuter_false o.claims b (saying k b.objective) r knows sound now) now,
+        all_true o (behind_claim m.aim o.claims b k r) (unasked kind before) filled (option_or bound more) found ps os last_now knows sound are,
       )
   all_true o a before filled bound found (BlockPart block ∷ ps) (OfBlock b ∷ os) last knows sound (is, are) =
       let next = behind_block m.aim a b in
       let solved : b.verdict ≡ Satisfied → HasSolutionWith m b.found = λ e. has_solution m block b.found (is.solved e) in
-      let sound_next : IsSound next = one_more_sound a.satisfied b.verdict b.found (a.blocks + 1) solved sound in (
+      let sound_next : IsSound next = (
+        one_more_sound a.satisfied b.verdict b.found (a.blocks + 1) solved sound.0,
+        best_sound a.best (is_satisfied b.verdict) b.found (a.blocks + 1) (λ e. solved (satisfied_is b.verdict e)) sound.1,
+      ) in (
         tt,
         late_true (late_refuted m.aim a.waiting (is_satisfied b.verdict) b.found) (a.blocks + 1) _
             (late_false a.waiting (is_satisfied b.verdict) b.found (λ e. solved (satisfied_is b.verdict e)))

@@ -13,7 +13,7 @@ use Rattle.fz_check.specs.declared.error.CheckError.{CheckError}
 use Rattle.fz_check.specs.declared.error.CheckError.TheVariants as errors
 use Rattle.fz_check.specs.declared.jury.Jury.{Jury}
 use Rattle.fz_check.specs.declared.options.Options.{Options}
-use Rattle.fz_check.specs.Claims.{HaveOutcomes, IsBoundBehind, IsOutcome, IsShown, Outcome, account, answer_told, behind, block_told, no_account, outcome_told, saying, told_of, unasked}
+use Rattle.fz_check.specs.Claims.{HaveOutcomes, IsBoundBehind, IsOutcome, IsRuled, Outcome, account, answer_told, behind, block_told, no_account, outcome_told, saying, told_of, unasked}
 use Rattle.fz_check.specs.Claims.Outcome.{OfBlock, OfClaim}
 use Rattle.fz_check.specs.Report.{AreOf, Event}
 use Rattle.fz_check.specs.Telling.{HasJudged, HasTold, HearsOneMore, IsOpen, IsUnjudged, IsUntold, JudgesOneMore, OutcomesGoOn, TellsOneMore, kept, last_outcome}
@@ -96,25 +96,25 @@ module _ (o : Options) (m : Model) (j : Jury) (parts : List StreamPart) (os : Li
   was_open = subst₂ (λ c n. IsOpen c n h.judged.block (kept j)) (sym h.judged.same_completion) (sym h.judged.same_model) h.is_open
 
   heard_more : (j' : Jury) (kind : ClaimKind) (e : Event) (one : HearsOneMore j j' kind e)
-      → HasJudged o m j'.judge (parts ++ ClaimPart kind ∷ []) (os ++ OfClaim kind one.bound one.shown ∷ [])
+      → HasJudged o m j'.judge (parts ++ ClaimPart kind ∷ []) (os ++ OfClaim kind one.bound one.ruling ∷ [])
   heard_more j' kind e one =
-      let shows = subst₂ (λ c n. IsShown c n (saying kind j.judge.before) one.shown) h.claims_are h.judged.same_model one.is_shown in
+      let ruled = subst₂ (λ c n. IsRuled c n (saying kind j.judge.before) one.ruling) h.claims_are h.judged.same_model one.is_ruled in
       let bounded = subst₂ (λ c n. IsBoundBehind c n h.judged.block kind one.bound) h.judged.same_completion h.judged.same_model (one.bounded h.judged.block was_open) in
       let same = sym one.same_judge in
       record {
         same_model = subst (λ s. s.model ≡ m) same h.judged.same_model;
         same_completion = subst (λ s. s.completion ≡ o.completion) same h.judged.same_completion;
         block = unasked kind h.judged.block;
-        goes_on = subst (λ s. OutcomesGoOn o m (parts ++ ClaimPart kind ∷ []) (os ++ OfClaim kind one.bound one.shown ∷ []) (unasked kind h.judged.block) s.before s.found) same
-            (outcomes_more o m parts os h.judged.block j.judge.before j.judge.found h.judged.goes_on (ClaimPart kind) (OfClaim kind one.bound one.shown)
-            (unasked kind h.judged.block) j.judge.before j.judge.found (λ more others are. (refl, bounded, shows, are)));
+        goes_on = subst (λ s. OutcomesGoOn o m (parts ++ ClaimPart kind ∷ []) (os ++ OfClaim kind one.bound one.ruling ∷ []) (unasked kind h.judged.block) s.before s.found) same
+            (outcomes_more o m parts os h.judged.block j.judge.before j.judge.found h.judged.goes_on (ClaimPart kind) (OfClaim kind one.bound one.ruling)
+            (unasked kind h.judged.block) j.judge.before j.judge.found (λ more others are. (refl, bounded, ruled, are)));
       }
 
   pub tells_claim : (text : Event → List ℕ → Type 0) (j' : Jury) (kind : ClaimKind) (e : Event)
       (line : List ℕ) → HearsOneMore j j' kind e → AreOf text (e ∷ []) line
       → TellsOneMore o text m j' parts os (ClaimPart kind) line
   tells_claim text j' kind e line one is =
-      tells_outcome text j' (ClaimPart kind) (OfClaim kind one.bound one.shown) line (heard_more j' kind e one)
+      tells_outcome text j' (ClaimPart kind) (OfClaim kind one.bound one.ruling) line (heard_more j' kind e one)
       (subst₂ (λ c n. IsOpen c n (unasked kind h.judged.block) (kept j')) h.judged.same_completion h.judged.same_model (one.is_open h.judged.block was_open))
       one.same_claims one.account_is
       (subst (λ f. AreOf text (f ∷ []) line) one.event_is is)

@@ -25,6 +25,9 @@ use Rattle.fz_check.specs.declared.claims.Saying.TheVariants.{Nothing, NoSolutio
 use Rattle.fz_check.specs.declared.claims.Statement.{Statement}
 use Rattle.fz_check.specs.declared.claims.Source.{Source}
 use Rattle.fz_check.specs.declared.claims.Best.{Best}
+use Rattle.fz_check.specs.declared.claims.Own.{Own}
+use Rattle.fz_check.specs.declared.claims.Ruling.{Ruling}
+use Rattle.fz_check.specs.declared.claims.Ruling.TheVariants as rulings
 use Rattle.fz_check.specs.declared.claims.Refutation.{Refutation}
 use Rattle.fz_check.specs.declared.claims.Refuter.{Refuter}
 use Rattle.fz_check.specs.declared.claims.Refuter.TheVariants as refuters
@@ -64,11 +67,22 @@ IsTrueClaim m Nothing = ⊥
 IsTrueClaim m NoSolution = HasNoneBeyond m None
 IsTrueClaim m (NoneBetter last) = HasNoneBeyond m (Some last)
 
--- So many nodes of a search show that, where claims are to be proved; or none do.
-abbrev pub IsShown : Claims → Model → Saying → Option ℕ → Type 0
-IsShown c m s None = ⊤
-IsShown (ClaimsJudged k (proving.On t)) m s (Some nodes) = IsTrueClaim m s
-IsShown _ m s (Some nodes) = ⊥
+-- there is a solution with this objective
+abbrev pub HasSolutionWith : Model → Option ℤ → Type 0
+HasSolutionWith m o = (A : Assignment) × IsSolution m A × (objective m (whole A) ≡ o)
+
+-- What a search comes to is so: so many nodes show what is said, or it finds a solution with this
+-- objective that refutes it; or nothing.
+abbrev pub IsRulingOn : Model → Saying → Ruling → Type 0
+IsRulingOn m s (rulings.Shown nodes) = IsTrueClaim m s
+IsRulingOn m s (rulings.Found o) = HasSolutionWith m o × (refutes m.aim s o ≡ true)
+IsRulingOn m s (rulings.Open why) = ⊤
+
+-- where claims aren't to be proved, nothing
+abbrev pub IsRuled : Claims → Model → Saying → Ruling → Type 0
+IsRuled c m s (rulings.Open why) = ⊤
+IsRuled (ClaimsJudged k (proving.On t)) m s r = IsRulingOn m s r
+IsRuled _ m s r = ⊥
 
 -- ---- what is known of a part of the stream, and of other streams
 
@@ -80,14 +94,10 @@ pub record BlockOutcome : Type 0 where
   pub found : Option ℤ
 
 -- of a part: of a block, or of a claim, with the bound that it asks for on the objectives of the
--- block before it, and how many nodes show it
+-- block before it, and what a search comes to of it
 pub data Outcome : Type 0 where
   OfBlock : BlockOutcome → Outcome
-  OfClaim : ClaimKind → Option ℤ → Option ℕ → Outcome
-
--- there is a solution with this objective
-abbrev pub HasSolutionWith : Model → Option ℤ → Type 0
-HasSolutionWith m o = (A : Assignment) × IsSolution m A × (objective m (whole A) ≡ o)
+  OfClaim : ClaimKind → Option ℤ → Ruling → Outcome
 
 -- and it extends the block
 abbrev pub IsSolvedWith : Model → SolutionBlock → Option ℤ → Type 0
@@ -125,16 +135,16 @@ AreOutcomes o m before filled found [] [] = ⊤
 AreOutcomes o m before filled found (BlockPart block ∷ ps) (OfBlock b ∷ os) =
     IsOutcome o.completion m filled found block b
     × AreOutcomes o m (Some block) b.filled b.found ps os
-AreOutcomes o m before filled found (ClaimPart kind ∷ ps) (OfClaim claimed bound shown ∷ os) =
+AreOutcomes o m before filled found (ClaimPart kind ∷ ps) (OfClaim claimed bound ruling ∷ os) =
     (claimed ≡ kind) × IsBoundBehind o.completion m before kind bound
-    × IsShown o.claims m (saying claimed filled) shown
+    × IsRuled o.claims m (saying claimed filled) ruling
     × AreOutcomes o m (unasked kind before) filled found ps os
 AreOutcomes o m before filled found _ _ = ⊥
 
 abbrev pub verdicts_of : List Outcome → List Verdict
 verdicts_of [] = []
 verdicts_of (OfBlock b ∷ os) = b.verdict ∷ verdicts_of os
-verdicts_of (OfClaim kind bound shown ∷ os) = verdicts_of os
+verdicts_of (OfClaim kind bound ruling ∷ os) = verdicts_of os
 
 -- the parts have these outcomes; the first block is compared with nothing
 abbrev pub HaveOutcomes : Options → Model → List StreamPart → List Outcome → Type 0
@@ -173,18 +183,27 @@ abbrev pub known_refuter : Aim → Known → Saying → Option Source
 known_refuter aim k NoSolution = k.satisfied
 known_refuter aim k s = best_refuter aim s k.best
 
--- the first satisfied block of the stream so far, where it refutes
-abbrev pub own_refuter : Account → Saying → Option Refuter
-own_refuter a NoSolution = option_map refuters.Block a.satisfied
-own_refuter a s = None
+-- the first satisfied block of the stream so far, or the best one, where it refutes
+abbrev pub best_own : Aim → Saying → Option Own → Option ℕ
+best_own aim s None = None
+best_own aim s (Some b) = cond (refutes aim s (Some b.objective)) (Some b.block) None
+
+abbrev pub own_refuter : Aim → Account → Saying → Option ℕ
+own_refuter aim a NoSolution = a.satisfied
+own_refuter aim a s = best_own aim s a.best
 
 abbrev pub block_refuter : Aim → Known → Account → Saying → Option Refuter
-block_refuter aim k a s =
-    option_or (own_refuter a s) (option_map refuters.Known (known_refuter aim k s))
+block_refuter aim k a s = option_or (option_map refuters.Block (own_refuter aim a s))
+    (option_map refuters.Known (known_refuter aim k s))
 
-abbrev pub refuter : Aim → Claims → Account → Saying → Option Refuter
-refuter aim NotJudged a s = None
-refuter aim (ClaimsJudged k p) a s = block_refuter aim k a s
+-- a solution that a search found
+abbrev pub found_refuter : Ruling → Option Refuter
+found_refuter (rulings.Found o) = Some (refuters.Found o)
+found_refuter _ = None
+
+abbrev pub refuter : Aim → Claims → Account → Saying → Ruling → Option Refuter
+refuter aim NotJudged a s r = None
+refuter aim (ClaimsJudged k p) a s r = option_or (block_refuter aim k a s) (found_refuter r)
 
 -- where a claim asks for this bound: it takes the place of the objective that the last block leaves
 -- open
@@ -210,11 +229,11 @@ abbrev pub refuted_by : Option Refuter → ℕ → Option ℕ → Option ℕ
 refuted_by None after before = before
 refuted_by (Some by) after before = earliest before after
 
-abbrev pub behind_claim : Aim → Claims → Account → ClaimKind → Account
-behind_claim aim c a kind = record a {
-  waiting = waiting c (refuter aim c a (saying kind a.objective)) (saying kind a.objective)
+abbrev pub behind_claim : Aim → Claims → Account → ClaimKind → Ruling → Account
+behind_claim aim c a kind r = record a {
+  waiting = waiting c (refuter aim c a (saying kind a.objective) r) (saying kind a.objective)
       (statement a kind) a.waiting;
-  refuted = refuted_by (refuter aim c a (saying kind a.objective)) a.blocks a.refuted;
+  refuted = refuted_by (refuter aim c a (saying kind a.objective) r) a.blocks a.refuted;
 }
 
 abbrev pub is_satisfied : Verdict → Bool
@@ -242,11 +261,23 @@ first_of before is number = option_or before (cond is (Some number) None)
 abbrev pub late_by : Aim → Account → BlockOutcome → Option Statement
 late_by aim a b = late_refuted aim a.waiting (is_satisfied b.verdict) b.found
 
+-- The best objective of the satisfied blocks so far, where the next one has this, and the first
+-- block that has it.
+abbrev pub better_own : Aim → Option Own → ℤ → ℕ → Own
+better_own aim None now number = record { objective = now; block = number }
+better_own aim (Some b) now number =
+    cond (is_better aim b.objective now) (record { objective = now; block = number }) b
+
+abbrev pub own_with : Aim → Option Own → Option ℤ → ℕ → Option Own
+own_with aim best None number = best
+own_with aim best (Some now) number = Some (better_own aim best now number)
+
 -- behind the block that comes next
 abbrev pub behind_block : Aim → Account → BlockOutcome → Account
 behind_block aim a b = record {
   blocks = a.blocks + 1;
   satisfied = first_of a.satisfied (is_satisfied b.verdict) (a.blocks + 1);
+  best = cond (is_satisfied b.verdict) (own_with aim a.best b.found (a.blocks + 1)) a.best;
   violated = first_of a.violated (is_violated b.verdict) (a.blocks + 1);
   undecided = first_of a.undecided (is_undecided b.verdict) (a.blocks + 1);
   objective = b.filled;
@@ -259,6 +290,7 @@ abbrev pub no_account : Account
 no_account = record {
   blocks = 0;
   satisfied = None;
+  best = None;
   violated = None;
   undecided = None;
   objective = None;
@@ -268,36 +300,36 @@ no_account = record {
 
 -- ---- what is told
 
-abbrev pub claim_refutation : Aim → Claims → Account → ClaimKind → Option Refutation
-claim_refutation aim c a kind = option_map (λ by. record { claim = statement a kind; by = by })
-    (refuter aim c a (saying kind a.objective))
+abbrev pub claim_refutation : Aim → Claims → Account → ClaimKind → Ruling → Option Refutation
+claim_refutation aim c a kind r =
+    option_map (λ by. record { claim = statement a kind; by = by })
+    (refuter aim c a (saying kind a.objective) r)
 
--- of a claim, what refutes it, and how many nodes show it
-abbrev pub claim_event : Statement → Option Refutation → Option ℕ → Event
-claim_event s (Some r) shown = Refuted r
-claim_event s None (Some nodes) = Proved s nodes
-claim_event s None None = Claimed s.kind
+-- of a claim, what refutes it, and what a search comes to
+abbrev pub claim_event : Statement → Option Refutation → Ruling → Event
+claim_event s (Some refutation) r = Refuted refutation
+claim_event s None (rulings.Shown nodes) = Proved s nodes
+claim_event s None _ = Claimed s.kind
 
 abbrev pub late_events : Option Statement → ℕ → List Event
 late_events None number = []
 late_events (Some s) number =
     Refuted (record { claim = s; by = refuters.Behind number }) ∷ []
 
-abbrev pub claim_told : Aim → Claims → Account → ClaimKind → Option ℕ → Event
-claim_told aim c a kind shown =
-    claim_event (statement a kind) (claim_refutation aim c a kind) shown
+abbrev pub claim_told : Aim → Claims → Account → ClaimKind → Ruling → Event
+claim_told aim c a kind r =
+    claim_event (statement a kind) (claim_refutation aim c a kind r) r
 
 abbrev pub block_told : Aim → Account → BlockOutcome → List Event
 block_told aim a b = Judged (a.blocks + 1) b.verdict
     ∷ late_events (late_by aim a b) (a.blocks + 1)
 
 abbrev pub behind : Aim → Claims → Account → Outcome → Account
-behind aim c a (OfClaim kind bound shown) = behind_claim aim c (asked a bound) kind
+behind aim c a (OfClaim kind bound r) = behind_claim aim c (asked a bound) kind r
 behind aim c a (OfBlock b) = behind_block aim a b
 
 abbrev pub outcome_told : Aim → Claims → Account → Outcome → List Event
-outcome_told aim c a (OfClaim kind bound shown) =
-    claim_told aim c (asked a bound) kind shown ∷ []
+outcome_told aim c a (OfClaim kind bound r) = claim_told aim c (asked a bound) kind r ∷ []
 outcome_told aim c a (OfBlock b) = block_told aim a b
 
 -- the events of outcomes that come behind this account, and the account behind them

@@ -1,6 +1,6 @@
 -- What a check tells of a stream: the events of a report, and the line of each (this project's
 -- profile).
-use Rattle.std.specs.Prelude.{◌≡◌, ℕ, ◌+◌, List, [], ◌∷◌, ◌++◌, cond, map, nat_eq, nat_le, codes, decimal, flat_map}
+use Rattle.std.specs.Prelude.{◌≡◌, ℕ, ℤ, ◌+◌, List, [], ◌∷◌, ◌++◌, cond, map, nat_eq, nat_le, codes, decimal, flat_map, Option, Some, None}
 use Rattle.std.specs.Fmt.{signed_decimal}
 use Rattle.fz_filling.specs.of_syntax.Span.{Span}
 use Rattle.fz_filling.specs.of_stream.declared.line.ClaimKind.{ClaimKind}
@@ -91,10 +91,16 @@ abbrev pub source_text : Source → List ℕ
 source_text s = codes "known block " ++ decimal s.block
     ++ cond s.is_only [] (codes " of " ++ s.file.now)
 
+abbrev pub found_text : Option ℤ → List ℕ
+found_text None = codes "a solution"
+found_text (Some o) = codes "objective " ++ signed_decimal o
+
+-- by which block, or what a search found
 abbrev pub refuter_text : Refuter → List ℕ
-refuter_text (refuters.Block n) = codes "block " ++ decimal n
-refuter_text (refuters.Behind n) = codes "block " ++ decimal n
-refuter_text (refuters.Known s) = source_text s
+refuter_text (refuters.Block n) = codes " by block " ++ decimal n
+refuter_text (refuters.Behind n) = codes " by block " ++ decimal n
+refuter_text (refuters.Known s) = codes " by " ++ source_text s
+refuter_text (refuters.Found o) = codes ", " ++ found_text o ++ codes " was found"
 
 -- the claim is told in its place, or behind, and then with its place
 abbrev pub place_text : ℕ → Refuter → List ℕ
@@ -110,7 +116,7 @@ event_text (Claimed k) = codes "claim: " ++ claim_text k ++ codes " not judged"
 event_text (Proved s nodes) =
     codes "claim: " ++ claim_text s.kind ++ codes " proved, " ++ nodes_text nodes
 event_text (Refuted r) = place_text r.claim.after r.by ++ claim_text r.claim.kind
-    ++ codes " refuted by " ++ refuter_text r.by
+    ++ codes " refuted" ++ refuter_text r.by
 event_text (CutOff span) = codes "cut: " ++ decimal span.start ++ codes ".." ++ decimal span.end
 event_text (Answered a) = answer_text a
 

@@ -20,13 +20,14 @@ use Rattle.fz_filling.specs.of_syntax.Span.{Span}
 use Rattle.fz_check.specs.declared.options.Ending.{Ending}
 use Rattle.fz_check.specs.declared.options.Ending.TheVariants.{Whole, Cut}
 use Rattle.fz_check.specs.declared.options.Options.{Options}
+use Rattle.fz_check.specs.declared.claims.Ruling.{Ruling}
 use Rattle.fz_check.specs.declared.error.CheckError.{CheckError}
 use Rattle.fz_check.specs.declared.error.CheckError.TheVariants as errors
 use Rattle.fz_check.specs.declared.jury.Jury.{Jury}
 use Rattle.fz_check.specs.declared.reader.Step.{Step}
 use Rattle.fz_check.specs.declared.reader.Step.TheVariants.{End}
 use Rattle.fz_check.specs.Cutting.{HoldsOfJudged, IsCutOff}
-use Rattle.fz_check.specs.Claims.{AreOutcomes, BlockOutcome, HaveOutcomes, IsBoundBehind, IsOutcome, IsReportWith, IsShown, Outcome, account, answer_told, asked, behind_block, behind_claim, claim_told, no_account, saying, told_of, unasked}
+use Rattle.fz_check.specs.Claims.{AreOutcomes, BlockOutcome, HaveOutcomes, IsBoundBehind, IsOutcome, IsReportWith, IsRuled, Outcome, account, answer_told, asked, behind_block, behind_claim, claim_told, no_account, saying, told_of, unasked}
 use Rattle.fz_check.specs.Report.{AreOf, Event}
 use Rattle.fz_check.specs.Report.Event.{CutOff, Answered}
 use Rattle.fz_check.specs.Refused.{HasStreamFault, IsFirstFault}
@@ -106,13 +107,13 @@ pub record HearsOneMore (j j' : Jury) (kind : ClaimKind) (e : Event) : Type 0 wh
   pub is_open : (block : Option SolutionBlock)
       → IsOpen j.judge.completion j.judge.model block (kept j)
       → IsOpen j.judge.completion j.judge.model (unasked kind block) (kept j')
-  pub shown : Option ℕ
-  pub is_shown : IsShown j.claims j.judge.model (saying kind j.judge.before) shown
-  pub event_is : e ≡ claim_told j.judge.model.aim j.claims (asked j.account bound) kind shown
+  pub ruling : Ruling
+  pub is_ruled : IsRuled j.claims j.judge.model (saying kind j.judge.before) ruling
+  pub event_is : e ≡ claim_told j.judge.model.aim j.claims (asked j.account bound) kind ruling
   pub same_judge : j'.judge ≡ j.judge
   pub same_claims : j'.claims ≡ j.claims
   pub account_is : j'.account
-      ≡ behind_claim j.judge.model.aim j.claims (asked j.account bound) kind
+      ≡ behind_claim j.judge.model.aim j.claims (asked j.account bound) kind ruling
 
 -- the next block is refused, with its number, or memory ran out; the block is one that ends within
 -- so many bytes

@@ -6,10 +6,12 @@ ghost use Rattle.std.specs.Option.{option_or};
 ghost use Rattle.fz_search.specs.of_model.Parts.{goal_view};
 ghost use Rattle.fz_filling.specs.Verdict.{answer_by, is_undecided, is_violated};
 ghost use Rattle.fz_filling.specs.View.{verdict_view};
-ghost use Rattle.fz_check.specs.Claims.{answer_with, asked, behind_block, behind_claim, block_refuter, claim_refutation, earliest, is_satisfied, late_refuted, no_account, statement};
+ghost use Rattle.fz_check.specs.Claims.{answer_with, asked, behind_block, behind_claim, block_refuter, claim_refutation, earliest, is_satisfied, late_refuted, no_account, own_refuter, statement};
 ghost use Rattle.fz_check.specs.View.{answer_view};
 
-use crate::claims::{Claims, Known, Refutation, Refuter, Saying, Statement, refutes, said_by};
+use crate::claims::{
+    Claims, Known, Own, Refutation, Refuter, Ruling, Saying, Statement, own_with, refutes, said_by,
+};
 use fz_filling::Verdict;
 use fz_store::Goal;
 use fz_stream::ClaimKind;
@@ -55,6 +57,8 @@ pub(crate) struct Account {
     pub(crate) blocks: usize,
     /// The number of the first satisfied block, from 1.
     satisfied: Option<usize>,
+    /// The best objective of a satisfied block.
+    best: Option<Own>,
     /// The number of the first violated block, from 1.
     violated: Option<usize>,
     /// The number of the first undecided block, from 1.
@@ -117,6 +121,7 @@ impl Account {
         Account {
             blocks: 0,
             satisfied: None,
+            best: None,
             violated: None,
             undecided: None,
             objective: None,
@@ -136,14 +141,26 @@ impl Account {
         }
     }
 
-    /// The block that refutes what is said, where one does: the first satisfied one before it, or
-    /// else a known one.
+    /// The number of the satisfied block before it that refutes what is said, where one does.
+    fn own_refuter(&self, goal: &Goal, says: Saying) -> Option<usize>
+        ensures { result ≡ own_refuter (goal_view goal.now) self.now says }
+    {
+        if let Saying::NoSolution = says {
+            return self.satisfied;
+        }
+        let best = self.best?;
+        if refutes(goal, says, Some(best.objective)) {
+            Some(best.block)
+        } else {
+            None
+        }
+    }
+
+    /// The block that refutes what is said, where one does: one before it, or else a known one.
     fn refuter<'k>(&self, goal: &Goal, known: &Known<'k>, says: Saying) -> Option<Refuter<'k>>
         ensures { result ≡ block_refuter (goal_view goal.now) known.now self.now says }
     {
-        if let Saying::NoSolution = says
-            && let Some(number) = self.satisfied
-        {
+        if let Some(number) = self.own_refuter(goal, says) {
             return Some(Refuter::Block(number));
         }
         match known.refuter(goal, says) {
@@ -159,22 +176,33 @@ impl Account {
         self.objective = self.objective.or(bound);
     }
 
-    /// Judges the next claim. It gives the solution that refutes it, if there is one.
+    /// Whether a block refutes what is said.
+    pub(crate) fn is_refuted(&self, goal: &Goal, claims: &Claims<'_>, says: Saying) -> bool {
+        match claims {
+            Claims::Judged(known, _) => self.refuter(goal, known, says).is_some(),
+            Claims::NotJudged => false,
+        }
+    }
+
+    /// Judges the next claim, of which a search comes to this. It gives the solution that refutes
+    /// it, if there is one.
     pub(crate) fn hear_claim<'k>(
         &mut self,
         goal: &Goal,
         claims: &Claims<'k>,
         kind: ClaimKind,
+        ruling: Ruling,
     ) -> Option<Refutation<'k>>
         ensures refutation { result
-            ≡ claim_refutation (goal_view goal.now) claims.now self.old kind }
-        ensures heard { self.new ≡ behind_claim (goal_view goal.now) claims.now self.old kind }
+            ≡ claim_refutation (goal_view goal.now) claims.now self.old kind ruling }
+        ensures heard { self.new
+            ≡ behind_claim (goal_view goal.now) claims.now self.old kind ruling }
     {
         let Claims::Judged(known, _) = claims else {
             return None;
         };
         let claim = self.statement(kind);
-        match self.refuter(goal, known, claim.says) {
+        match self.refuter(goal, known, claim.says).or(ruling.refuter()) {
             Some(by) => {
                 self.refuted = earliest(self.refuted, claim.after);
                 Some(Refutation { claim, by })
@@ -213,6 +241,9 @@ impl Account {
         };
         self.blocks += 1;
         self.satisfied = first(self.satisfied, is_satisfied, self.blocks);
+        if is_satisfied {
+            self.best = own_with(self.best, goal, found, self.blocks);
+        }
         self.violated = first(self.violated, is_violated(verdict), self.blocks);
         self.undecided = first(self.undecided, is_undecided(verdict), self.blocks);
         self.objective = filled;

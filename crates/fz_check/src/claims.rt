@@ -3,9 +3,9 @@
 ghost use Rattle.std.specs.Prelude.{◌≡◌, None};
 ghost use Rattle.fz_search.specs.of_model.Parts.{goal_view};
 ghost use Rattle.fz_search.specs.Claims.{is_better};
-ghost use Rattle.fz_check.specs.Claims.{known_refuter, known_with, refutes, saying};
+ghost use Rattle.fz_check.specs.Claims.{found_refuter, known_refuter, known_with, own_with, refutes, saying};
 
-use fz_search::Branch;
+use fz_search::{Branch, Why};
 use fz_store::Goal;
 use fz_stream::ClaimKind;
 
@@ -36,7 +36,7 @@ pub struct Source<'k> {
     pub block: usize,
 }
 
-/// A satisfied block that refutes a claim.
+/// A solution that refutes a claim: that of a satisfied block, or one that a search found.
 #[derive(Clone, Copy)]
 pub enum Refuter<'k> {
     /// The block with this number, before the claim.
@@ -44,9 +44,34 @@ pub enum Refuter<'k> {
     /// The block with this number, behind the claim.
     Behind(usize),
     Known(Source<'k>),
+    /// It has this objective, where it has one.
+    Found(Option<i64>),
 }
 
-/// A claim with the block that refutes it.
+/// What a search comes to of a claim.
+#[derive(Clone, Copy)]
+pub enum Ruling {
+    /// So many nodes show the claim.
+    Shown(usize),
+    /// There is a solution that refutes it, with this objective, where it has one.
+    Found(Option<i64>),
+    /// Nothing; and why, where something was searched for.
+    Open(Option<Why>),
+}
+
+impl Ruling {
+    /// What refutes the claim, where something is found.
+    pub(crate) fn refuter<'k>(self) -> Option<Refuter<'k>>
+        ensures { result ≡ found_refuter self }
+    {
+        match self {
+            Ruling::Found(objective) => Some(Refuter::Found(objective)),
+            Ruling::Shown(_) | Ruling::Open(_) => None,
+        }
+    }
+}
+
+/// A claim with the solution that refutes it.
 #[derive(Clone, Copy)]
 pub struct Refutation<'k> {
     pub claim: Statement,
@@ -81,6 +106,35 @@ pub enum Proofs<'k> {
 pub enum Claims<'k> {
     NotJudged,
     Judged(Known<'k>, Proofs<'k>),
+}
+
+/// The best objective of a stream's own satisfied blocks, with the first block that has it.
+#[derive(Clone, Copy)]
+pub(crate) struct Own {
+    pub(crate) objective: i64,
+    pub(crate) block: usize,
+}
+
+/// The same, where a satisfied block of this number has this objective.
+pub(crate) fn own_with(
+    best: Option<Own>,
+    goal: &Goal,
+    objective: Option<i64>,
+    block: usize,
+) -> Option<Own>
+    ensures { result ≡ own_with (goal_view goal.now) best objective block }
+{
+    match (best, objective) {
+        (best, None) => best,
+        (None, Some(objective)) => Some(Own { objective, block }),
+        (Some(best), Some(objective)) => {
+            if is_better(goal, best.objective, objective) {
+                Some(Own { objective, block })
+            } else {
+                Some(best)
+            }
+        }
+    }
 }
 
 fn is_better(goal: &Goal, other: i64, now: i64) -> bool

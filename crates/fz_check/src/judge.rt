@@ -1,7 +1,7 @@
 //! A judge: blocks, one after another, against a model.
 
 ghost use Rattle.std.specs.Prelude.{◌≡◌, IfErr, IfOk, IfSome, None, Some, option_map};
-ghost use Rattle.fz_check.specs.Claims.{IsBoundBehind};
+ghost use Rattle.fz_check.specs.Claims.{IsBoundBehind, IsRulingOn, IsTrueClaim};
 ghost use Rattle.fz_filling.specs.of_stream.Parts.{SolutionBlock};
 ghost use Rattle.fz_filling.specs.of_stream.declared.line.ClaimKind.TheVariants.{Complete};
 ghost use Rattle.fz_search.specs.Claims.{HasNoneBeyond};
@@ -18,13 +18,14 @@ ghost use Rattle.fz_filling.specs.Judged.{IsBlockRefusal, IsJudged, IsOfPoint, T
 ghost use Rattle.fz_filling.specs.View.{fault_view, reason_view, verdict_view};
 ghost use Rattle.fz_filling.specs.Working.{IsFound, compared, not_shown_better, with_objective};
 
+use crate::claims::{Ruling, Saying, refutes};
 use fz_filling::{
     BlockError, Completion, Course, Fault, Reason, Verdict, fault_named, filled, objective,
     objective_fails, points_verdict, printed_fails,
 };
 use fz_index::{Refutation, Search};
 use fz_model::Overview;
-use fz_search::{Branch, Found, bound, prove, search};
+use fz_search::{Branch, Decision, Found, Why, bound, prove, search};
 use fz_store::{Model, Partial};
 use fz_stream::Block;
 use std::alloc::{AllocError, Global};
@@ -374,7 +375,7 @@ impl<'m, 'a> Judge<'m, 'a> {
         let steps = self.patience.steps();
         let known = &mut self.search;
         let found = search(alloc, self.model, filling, self.found, steps, known)?;
-        self.patience = self.patience.behind(matches!(found, Found::Nothing));
+        self.patience = self.patience.behind(matches!(found, Found::Nothing(_)));
         match found {
             Found::Values(values) => match self.satisfied(alloc, &values, block)? {
                 Some(found) => Ok((Verdict::Satisfied, found, None)),
@@ -384,7 +385,7 @@ impl<'m, 'a> Judge<'m, 'a> {
                 let fault = fault_named(self.model.point(found.point));
                 Ok((Verdict::Violated(fault), now, Some(found)))
             }
-            Found::Nothing => Ok((Verdict::Undecided(reason), now, None)),
+            Found::Nothing(_) => Ok((Verdict::Undecided(reason), now, None)),
         }
     }
 
@@ -410,26 +411,79 @@ impl<'m, 'a> Judge<'m, 'a> {
         }
     }
 
-    /// How many nodes show that no known-solution has an objective better than `last`, or where
-    /// that is none, that there is none at all. It gives nothing where the search for that doesn't
-    /// come to its end, or finds a solution.
+    /// What a search comes to that is asked whether a claim is true: how many nodes show it, or a
+    /// solution that refutes it.
     ///
     /// # Errors
     ///
     /// Out of memory.
-    pub fn shows(
+    pub(crate) fn ruling(
         &mut self,
         alloc: Global,
+        says: Saying,
+        tree: &[Branch<'_>],
+    ) -> Result<Ruling, AllocError>
+        ensures same { self.new ≡ self.old }
+        ensures ruled { IfOk result (IsRulingOn self.old.model says) }
+    {
+        match says {
+            Saying::Nothing => Ok(Ruling::Open(None)),
+            Saying::NoSolution => self.decided(alloc, says, None, tree),
+            Saying::NoneBetter(last) => self.decided(alloc, says, Some(last), tree),
+        }
+    }
+
+    /// The same of a claim that there is no solution with an objective better than `last`, or where
+    /// that is none, none at all.
+    fn decided(
+        &mut self,
+        alloc: Global,
+        says: Saying,
         last: Option<i64>,
         tree: &[Branch<'_>],
-    ) -> Result<Option<usize>, AllocError>
+    ) -> Result<Ruling, AllocError>
+        requires asks { HasNoneBeyond self.old.model last → IsTrueClaim self.old.model says }
         ensures same { self.new ≡ self.old }
-        ensures shown { IfOk result (λ o. IfSome o (λ _. HasNoneBeyond self.old.model last)) }
+        ensures ruled { IfOk result (IsRulingOn self.old.model says) }
     {
         let steps = self.patience.steps();
-        let shown = prove(alloc, self.model, last, tree, steps, &mut self.search)?;
-        self.patience = self.patience.behind(shown.is_none());
-        Ok(shown)
+        let decision = prove(alloc, self.model, last, tree, steps, &mut self.search)?;
+        self.patience = self.patience.behind(matches!(decision, Decision::Open(_)));
+        match decision {
+            Decision::Shown(nodes) => Ok(Ruling::Shown(nodes)),
+            Decision::Found(values) => self.refuted_by(alloc, &values, says),
+            Decision::Open(why) => Ok(Ruling::Open(Some(why))),
+        }
+    }
+
+    /// The ruling where a search found some values, which are judged as those of a block that prints
+    /// nothing. They refute the claim where they are a solution that is better.
+    fn refuted_by(
+        &mut self,
+        alloc: Global,
+        values: &Partial,
+        says: Saying,
+    ) -> Result<Ruling, AllocError>
+        requires kinds { IsPartial self.old.model values.now }
+        ensures same { self.new ≡ self.old }
+        ensures ruled { IfOk result (IsRulingOn self.old.model says) }
+    {
+        let nothing = Block {
+            offset: 0,
+            text: b"",
+            items: Vec::new(alloc),
+        };
+        let overview = &mut self.overview;
+        let (verdict, now) = verdict_over(alloc, self.model, overview, values, &nothing, None)?;
+        match verdict {
+            Verdict::Satisfied => {
+                if refutes(self.model.goal(), says, now) {
+                    return Ok(Ruling::Found(now));
+                }
+                Ok(Ruling::Open(Some(Why::Objective)))
+            }
+            Verdict::Violated(_) | Verdict::Undecided(_) => Ok(Ruling::Open(None)),
+        }
     }
 
     /// A number that no known-solution which extends a block with this filling has an objective

@@ -6,12 +6,12 @@ ghost use Rattle.fz_filling.specs.of_stream.Found.{block_of};
 ghost use Rattle.fz_filling.specs.of_stream.Parts.{SolutionBlock};
 ghost use Rattle.fz_search.specs.of_model.Meaning.{IsPartial};
 ghost use Rattle.fz_filling.specs.View.{verdict_view};
-ghost use Rattle.fz_check.specs.Claims.{IsBoundBehind, IsShown, answer_with, is_satisfied, late_refuted, no_account, unasked};
+ghost use Rattle.fz_check.specs.Claims.{IsBoundBehind, IsRuled, answer_with, is_satisfied, late_refuted, no_account, unasked};
 ghost use Rattle.fz_check.specs.Telling.{HearsOneMore, IsOpen, IsUnjudged, JudgesOneMore, kept};
 ghost use Rattle.fz_check.specs.View.{answer_view, event_view};
 
 use crate::account::{Account, Answer};
-use crate::claims::{Claims, Proofs, Saying, Statement, said_by};
+use crate::claims::{Claims, Proofs, Ruling, Saying, Statement, said_by};
 use crate::error::CheckError;
 use crate::event::Event;
 use crate::judge::Judge;
@@ -123,29 +123,23 @@ impl<'m, 'a, 'k> Jury<'m, 'a, 'k> {
         }
     }
 
-    /// How many nodes show what a claim says, where that is asked for, and some do.
-    fn shown(&mut self, alloc: Global, says: Saying) -> Result<Option<usize>, AllocError>
-        ensures shown { IfOk result (IsShown self.old.claims self.old.judge.model says) }
+    /// What a search comes to of what a claim says, where that is asked for.
+    fn ruling(&mut self, alloc: Global, says: Saying) -> Result<Ruling, AllocError>
+        ensures ruled { IfOk result (IsRuled self.old.claims self.old.judge.model says) }
         ensures same_judge { self.new.judge ≡ self.old.judge }
         ensures same_account { self.new.account ≡ self.old.account }
         ensures same_claims { self.new.claims ≡ self.old.claims }
         ensures same_open { kept self.new ≡ kept self.old }
     {
-        let Claims::Judged(_, proofs) = self.claims else {
-            return Ok(None);
-        };
-        let Proofs::On(tree) = proofs else {
-            return Ok(None);
-        };
-        match says {
-            Saying::Nothing => Ok(None),
-            Saying::NoSolution => self.judge.shows(alloc, None, tree),
-            Saying::NoneBetter(last) => self.judge.shows(alloc, Some(last), tree),
+        match self.claims {
+            Claims::Judged(_, Proofs::On(tree)) => self.judge.ruling(alloc, says, tree),
+            Claims::Judged(_, Proofs::Off) | Claims::NotJudged => Ok(Ruling::Open(None)),
         }
     }
 
     /// Judges the next claim of the stream, and gives what is told of it. Where no block refutes
-    /// it, it may be proved. A bound is sought only here: most blocks have no claim behind them.
+    /// it, a search may prove or refute it. A bound is sought only here: most blocks have no claim
+    /// behind them.
     pub(crate) fn hear_claim(
         &mut self,
         alloc: Global,
@@ -158,13 +152,17 @@ impl<'m, 'a, 'k> Jury<'m, 'a, 'k> {
         self.account.hear_bound(bound);
         let claim = self.account.statement(kind);
         let goal = self.judge.model().goal();
-        if let Some(refutation) = self.account.hear_claim(goal, &self.claims, kind) {
+        let ruling = if self.account.is_refuted(goal, &self.claims, claim.says) {
+            Ruling::Open(None)
+        } else {
+            self.ruling(alloc, said_by(kind, self.judge.filled_objective()))?
+        };
+        if let Some(refutation) = self.account.hear_claim(goal, &self.claims, kind, ruling) {
             return Ok(Event::Refuted(refutation));
         }
-        let says = said_by(kind, self.judge.filled_objective());
-        match self.shown(alloc, says)? {
-            Some(nodes) => Ok(Event::Proved(claim, nodes)),
-            None => Ok(Event::Claim(kind)),
+        match ruling {
+            Ruling::Shown(nodes) => Ok(Event::Proved(claim, nodes)),
+            Ruling::Found(_) | Ruling::Open(_) => Ok(Event::Claim(kind)),
         }
     }
 

@@ -30,12 +30,14 @@ ghost use Rattle.fz_check.specs.Cutting.{IsCutOnlyWhereOpen};
 
 pub use account::Answer;
 pub use checking::{check, read_model, show, show_printing_all, show_with};
-pub use claims::{Best, Claims, Known, Proofs, Refutation, Refuter, Saying, Source, Statement};
+pub use claims::{
+    Best, Claims, Known, Proofs, Refutation, Refuter, Ruling, Saying, Source, Statement,
+};
 pub use error::CheckError;
 pub use event::{Event, Judged, Taker, TextTaker};
 pub use fz_filling::{BlockError, Completion, Fault, Reason, Verdict, fill, fill_with_steps};
 pub use fz_index::Ends;
-pub use fz_search::Branch;
+pub use fz_search::{Branch, Why};
 pub use fz_store::{Model, ModelError};
 pub use fz_stream::{Claim, ClaimKind, Limits, Span, StreamError, SyntaxError};
 pub use judge::Judge;

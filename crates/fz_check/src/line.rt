@@ -1,14 +1,14 @@
 //! The lines of a report, one at a time.
 
 ghost use Rattle.std.specs.Prelude.{◌≡◌, ◌++◌, ◌∷◌, [], IfOk, OnOk, codes, decimal};
-ghost use Rattle.fz_check.specs.Report.{claim_text, event_line, nodes_text, place_text, refuter_text, verdict_text};
+ghost use Rattle.fz_check.specs.Report.{claim_text, event_line, found_text, nodes_text, place_text, refuter_text, verdict_text};
 ghost use Rattle.fz_check.specs.Report.Event.{Answered, Claimed, CutOff, Judged, Proved, Refuted};
 ghost use Rattle.fz_filling.specs.View.{verdict_view};
 ghost use Rattle.fz_check.specs.View.{answer_view};
 
 use crate::account::Answer;
 use crate::claims::{Refutation, Refuter, Statement};
-use crate::text::{push_bytes, push_count, push_fault, push_reason};
+use crate::text::{push_bytes, push_count, push_fault, push_number, push_reason};
 use fz_filling::Verdict;
 use fz_stream::{ClaimKind, Span};
 use std::alloc::{AllocError, Global};
@@ -66,18 +66,34 @@ pub(crate) fn push_proof(
     Ok(())
 }
 
-/// Adds the name of the block that refutes a claim.
+/// Adds what a search found.
+fn push_found(text: &mut Vec<u8>, objective: Option<i64>) -> Result<(), AllocError>
+    ensures { OnOk result (text.new.items
+        ≡ text.old.items ++ (codes ", " ++ found_text objective ++ codes " was found")) }
+{
+    match objective {
+        Some(objective) => {
+            push_bytes(text, b", objective ")?;
+            push_number(text, objective)?;
+        }
+        None => push_bytes(text, b", a solution")?,
+    }
+    push_bytes(text, b" was found")
+}
+
+/// Adds by which block a claim is refuted, or by what a search found.
 fn push_refuter(text: &mut Vec<u8>, refuter: &Refuter<'_>) -> Result<(), AllocError>
     ensures { OnOk result (text.new.items ≡ text.old.items ++ refuter_text refuter.now) }
 {
     let source = match *refuter {
         Refuter::Block(number) | Refuter::Behind(number) => {
-            push_bytes(text, b"block ")?;
+            push_bytes(text, b" by block ")?;
             return push_count(text, number);
         }
+        Refuter::Found(objective) => return push_found(text, objective),
         Refuter::Known(source) => source,
     };
-    push_bytes(text, b"known block ")?;
+    push_bytes(text, b" by known block ")?;
     push_count(text, source.block)?;
     if source.is_only {
         return Ok(());
@@ -98,7 +114,9 @@ fn push_place(text: &mut Vec<u8>, after: usize, refuter: &Refuter<'_>) -> Result
             push_bytes(text, b": ")?;
             Ok(())
         }
-        Refuter::Block(_) | Refuter::Known(_) => push_bytes(text, b"claim: "),
+        Refuter::Block(_) | Refuter::Known(_) | Refuter::Found(_) => {
+            push_bytes(text, b"claim: ")
+        }
     }
 }
 
@@ -112,7 +130,7 @@ pub(crate) fn push_refutation(
 {
     push_place(text, refutation.claim.after, &refutation.by)?;
     push_bytes(text, claim_text(refutation.claim.kind))?;
-    push_bytes(text, b" refuted by ")?;
+    push_bytes(text, b" refuted")?;
     push_refuter(text, &refutation.by)?;
     push_bytes(text, b"\n")?;
     Ok(())

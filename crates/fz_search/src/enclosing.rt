@@ -39,6 +39,7 @@ fn asked_numbers(task: &Task<'_, '_>, variable: usize) -> Range
 /// How many variables without bounds each point has. A point leaves bounds to a variable only where
 /// that is the only one, so other points needn't be looked at: a sum of many variables without
 /// bounds would be gone through for each of them.
+#[derive(Drop)]
 struct Counts {
     counts: Vec<usize>,
     /// of each point by which variable it was counted last, since one may stand there twice

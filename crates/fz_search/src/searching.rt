@@ -28,7 +28,7 @@ fn ended(tree: &Tree<'_, '_>, work: &mut Work<'_, '_>) -> Result<Found, AllocErr
 {
     match tree.refuted() {
         Some(point) => Ok(Found::Refuted(work.told(tree, point)?)),
-        None => Ok(Found::Nothing),
+        None => Ok(Found::Nothing(Why::Numbers)),
     }
 }
 
