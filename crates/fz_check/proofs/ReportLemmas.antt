@@ -48,7 +48,7 @@ module _ (o : Options) (model : List ℕ) (m : Model) (stream : List ℕ) (event
     holds = (
       r,
       subst (λ n. AreBorneOut n blocks verdicts) (sym loaded.is) (borne_out o.completion loaded.tree blocks verdicts loaded.no_fault are),
-      λ knows. subst (AllByRecursion (IsTrueOf m)) (sym r.events_are) (all_true m o no_account None None None None r.parts r.outcomes refl knows tt r.have_outcomes),
+      λ knows. subst (AllByRecursion (IsTrueOf m)) (sym r.events_are) (all_true m o no_account None None None None r.parts r.outcomes refl knows (tt, tt) r.have_outcomes),
     );
   }
 

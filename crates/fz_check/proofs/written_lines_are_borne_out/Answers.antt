@@ -9,5 +9,5 @@ use Rattle.fz_check.proofs.written_lines_are_borne_out.Goals as goal
 pub returns : goal.returns
 returns c = λ o t parts outcomes sound have. (
   borne_out o.completion t (blocks_in parts) (verdicts_of outcomes) sound (outcomes_told o (model_of t) None None None parts outcomes have),
-  λ knows. all_true (model_of t) o no_account None None None parts outcomes refl knows tt have,
+  λ knows. all_true (model_of t) o no_account None None None None parts outcomes refl knows (tt, tt) have,
 )
