@@ -19,7 +19,7 @@ answer_view (answers.ClaimRejected n) = plain.Answer.ClaimRejected n
 
 abbrev pub event_view : the_event.Event → Event
 event_view (events.Block j) = Judged j.number (verdict_view j.verdict)
-event_view (events.Claim k) = Claimed k
+event_view (events.Claim k why) = Claimed k
 event_view (events.Proved s nodes) = Proved s nodes
 event_view (events.Refuted r) = Refuted r
 event_view (events.Cut span) = CutOff span

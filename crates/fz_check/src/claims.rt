@@ -127,11 +127,11 @@ pub(crate) fn own_with(
     match (best, objective) {
         (best, None) => best,
         (None, Some(objective)) => Some(Own { objective, block }),
-        (Some(best), Some(objective)) => {
-            if is_better(goal, best.objective, objective) {
+        (Some(own), Some(objective)) => {
+            if is_better(goal, own.objective, objective) {
                 Some(Own { objective, block })
             } else {
-                Some(best)
+                Some(own)
             }
         }
     }

@@ -10,6 +10,7 @@ use crate::claims::{Refutation, Statement};
 use crate::line::{push_answer, push_block, push_claim, push_cut, push_proof, push_refutation};
 use fz_filling::Verdict;
 use fz_index::Refutation as BoundsRefutation;
+use fz_search::Why;
 use fz_store::Model;
 use fz_stream::{Block, ClaimKind, Span};
 use std::alloc::AllocError;
@@ -36,8 +37,8 @@ pub struct Judged<'e, 'a> {
 #[derive(Clone, Copy)]
 pub enum Event<'e, 'a> {
     Block(Judged<'e, 'a>),
-    /// A claim that is neither refuted nor proved, at its place.
-    Claim(ClaimKind),
+    /// A claim that is neither refuted nor proved, at its place, and why, where a search was made.
+    Claim(ClaimKind, Option<Why>),
     /// A claim that is proved, at its place, and by how many nodes of a search.
     Proved(Statement, usize),
     /// A claim that is refuted: at its place, or behind the block that refutes it.
@@ -71,7 +72,7 @@ impl Taker for TextTaker {
     fn take(&mut self, event: &Event<'_, '_>, line: &mut Vec<u8>) -> Result<(), AllocError> {
         match event {
             Event::Block(judged) => push_block(line, judged.number, &judged.verdict),
-            Event::Claim(kind) => push_claim(line, *kind),
+            Event::Claim(kind, _) => push_claim(line, *kind),
             Event::Proved(claim, nodes) => push_proof(line, claim, *nodes),
             Event::Refuted(refutation) => push_refutation(line, refutation),
             Event::Cut(span) => push_cut(line, *span),

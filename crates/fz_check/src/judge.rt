@@ -26,8 +26,8 @@ use fz_filling::{
 use fz_index::{Refutation, Search};
 use fz_model::Overview;
 use fz_search::{Branch, Decision, Found, Why, bound, prove, search};
-use fz_store::{Model, Partial};
-use fz_stream::Block;
+use fz_store::{Goal, Model, Partial};
+use fz_stream::{Block, ClaimKind};
 use std::alloc::{AllocError, Global};
 
 /// The verdict where the printed names and the points have this one, and the objective may fail.
@@ -118,6 +118,15 @@ fn compared<'a>(model: &Model<'a>, before: Option<i64>, now: Option<i64>) -> Ver
     match objective_fails(model.goal(), before, now) {
         None => Verdict::Satisfied,
         Some(fault) => not_shown_better(fault),
+    }
+}
+
+/// Why no search is made for a claim of this kind that says nothing of objectives.
+fn unsaid(kind: ClaimKind, goal: &Goal) -> Option<Why> {
+    match (kind, goal) {
+        (ClaimKind::Complete, Goal::Satisfy) => Some(Why::AllSolutions),
+        (ClaimKind::Complete, _) => Some(Why::Objective),
+        _ => None,
     }
 }
 
@@ -420,6 +429,7 @@ impl<'m, 'a> Judge<'m, 'a> {
     pub(crate) fn ruling(
         &mut self,
         alloc: Global,
+        kind: ClaimKind,
         says: Saying,
         tree: &[Branch<'_>],
     ) -> Result<Ruling, AllocError>
@@ -427,7 +437,7 @@ impl<'m, 'a> Judge<'m, 'a> {
         ensures ruled { IfOk result (IsRulingOn self.old.model says) }
     {
         match says {
-            Saying::Nothing => Ok(Ruling::Open(None)),
+            Saying::Nothing => Ok(Ruling::Open(unsaid(kind, self.model.goal()))),
             Saying::NoSolution => self.decided(alloc, says, None, tree),
             Saying::NoneBetter(last) => self.decided(alloc, says, Some(last), tree),
         }

@@ -124,7 +124,12 @@ impl<'m, 'a, 'k> Jury<'m, 'a, 'k> {
     }
 
     /// What a search comes to of what a claim says, where that is asked for.
-    fn ruling(&mut self, alloc: Global, says: Saying) -> Result<Ruling, AllocError>
+    fn ruling(
+        &mut self,
+        alloc: Global,
+        kind: ClaimKind,
+        says: Saying,
+    ) -> Result<Ruling, AllocError>
         ensures ruled { IfOk result (IsRuled self.old.claims self.old.judge.model says) }
         ensures same_judge { self.new.judge ≡ self.old.judge }
         ensures same_account { self.new.account ≡ self.old.account }
@@ -132,7 +137,7 @@ impl<'m, 'a, 'k> Jury<'m, 'a, 'k> {
         ensures same_open { kept self.new ≡ kept self.old }
     {
         match self.claims {
-            Claims::Judged(_, Proofs::On(tree)) => self.judge.ruling(alloc, says, tree),
+            Claims::Judged(_, Proofs::On(tree)) => self.judge.ruling(alloc, kind, says, tree),
             Claims::Judged(_, Proofs::Off) | Claims::NotJudged => Ok(Ruling::Open(None)),
         }
     }
@@ -155,14 +160,15 @@ impl<'m, 'a, 'k> Jury<'m, 'a, 'k> {
         let ruling = if self.account.is_refuted(goal, &self.claims, claim.says) {
             Ruling::Open(None)
         } else {
-            self.ruling(alloc, said_by(kind, self.judge.filled_objective()))?
+            self.ruling(alloc, kind, said_by(kind, self.judge.filled_objective()))?
         };
         if let Some(refutation) = self.account.hear_claim(goal, &self.claims, kind, ruling) {
             return Ok(Event::Refuted(refutation));
         }
         match ruling {
             Ruling::Shown(nodes) => Ok(Event::Proved(claim, nodes)),
-            Ruling::Found(_) | Ruling::Open(_) => Ok(Event::Claim(kind)),
+            Ruling::Open(why) => Ok(Event::Claim(kind, why)),
+            Ruling::Found(_) => Ok(Event::Claim(kind, None)),
         }
     }
 

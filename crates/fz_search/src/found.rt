@@ -58,4 +58,6 @@ pub enum Why {
     Constraint,
     /// an integer has no bounds, or a number leaves 128 bits
     Numbers,
+    /// it isn't made for a claim that these are all solutions
+    AllSolutions,
 }

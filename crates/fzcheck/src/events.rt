@@ -3,7 +3,8 @@
 use crate::reading::Unread;
 use crate::refusing::unread_text;
 use fz_check::{
-    CheckError, ClaimKind, Fault, Judged, Reason, Refutation, Refuter, Span, Verdict, claim_text,
+    CheckError, ClaimKind, Fault, Judged, Reason, Refutation, Refuter, Span, Statement, Verdict, Why,
+    claim_text,
 };
 use fz_files::Object;
 use std::alloc::{AllocError, Global};
@@ -122,18 +123,45 @@ pub fn block_line(
     object.line()
 }
 
-/// The line of a claim that comes after so many blocks, and is proved by so many nodes, or isn't.
+/// The line of a claim that is proved by so many nodes.
+pub fn proved_line(
+    alloc: Global,
+    claim: &Statement,
+    nodes: usize,
+) -> Result<Vec<u8>, AllocError> {
+    let mut object = Object::new(alloc);
+    object.word("claim", claim_text(claim.kind));
+    object.count("after", claim.after);
+    object.count("proved", nodes);
+    object.line()
+}
+
+/// Why a claim is neither proved nor refuted.
+pub fn why_text(alloc: Global, why: Why) -> Result<String, AllocError> {
+    match why {
+        Why::Steps(steps) => {
+            let more = steps.saturating_mul(10);
+            format!(in alloc; "{steps} steps weren't enough: try --complete-steps {more}")
+        }
+        Why::Objective => format!(in alloc; "objective has no bound"),
+        Why::Constraint => format!(in alloc; "a constraint that isn't known"),
+        Why::Numbers => format!(in alloc; "a variable has no bounds, or a sum is too large"),
+        Why::AllSolutions => format!(in alloc; "claims of all solutions aren't judged"),
+    }
+}
+
+/// The line of a claim that comes after so many blocks, and is neither proved nor refuted.
 pub fn claim_line(
     alloc: Global,
     kind: ClaimKind,
     after: usize,
-    nodes: Option<usize>,
+    why: Option<Why>,
 ) -> Result<Vec<u8>, AllocError> {
     let mut object = Object::new(alloc);
     object.word("claim", claim_text(kind));
     object.count("after", after);
-    if let Some(nodes) = nodes {
-        object.count("proved", nodes);
+    if let Some(why) = why {
+        object.text("why", &why_text(alloc, why)?);
     }
     object.line()
 }
@@ -144,14 +172,19 @@ pub fn refuted_line(alloc: Global, refutation: &Refutation<'_>) -> Result<Vec<u8
     object.word("claim", claim_text(refutation.claim.kind));
     object.count("after", refutation.claim.after);
     object.begin("refuted_by");
-    let number = match refutation.by {
-        Refuter::Block(number) | Refuter::Behind(number) => number,
+    match refutation.by {
+        Refuter::Block(number) | Refuter::Behind(number) => object.count("block", number),
         Refuter::Known(source) => {
             object.word("file", source.file);
-            source.block
+            object.count("block", source.block);
         }
-    };
-    object.count("block", number);
+        Refuter::Found(objective) => {
+            object.truth("found", true);
+            if let Some(objective) = objective {
+                object.number("objective", objective);
+            }
+        }
+    }
     object.end();
     object.line()
 }

@@ -6,10 +6,12 @@ ghost use Rattle.fz_check.specs.Report.{by, event_line};
 
 use crate::as_json::{answer_line, explanation_lines};
 use crate::check::name_of_stream;
-use crate::events::{Counts, block_line, claim_line, cut_line, refuted_line};
+use crate::events::{
+    Counts, block_line, claim_line, cut_line, proved_line, refuted_line, why_text,
+};
 use crate::reading::read_file;
 use crate::screen::Screen;
-use fz_check::{Answer, Event, Judged, Taker, TextTaker, Verdict};
+use fz_check::{Answer, Event, Judged, Taker, TextTaker, Verdict, Why};
 use fz_command::{Check, Explaining, Form};
 use fz_explain::{Case, Explainer, Faults, Remarks, Text, Unbound};
 use fz_files::{Passed, Recent};
@@ -92,6 +94,20 @@ impl<'s, 't, 'r, 'n> Teller<'s, 't, 'r, 'n> {
         }
     }
 
+    /// Adds why a claim is neither proved nor refuted, where explanations are asked for.
+    #[inline(never)]
+    fn add_why(&self, why: Why) {
+        if let (Form::Text, false) = (
+            self.asked.form,
+            matches!(self.asked.explains, Explaining::Nothing),
+        ) && let Ok(text) = why_text(self.rt.alloc(), why)
+            && let Ok(text) = format!(in self.rt.alloc(); "not judged: {text}\n")
+            && let Ok(mut screen) = self.screen.try_borrow_mut()
+        {
+            screen.add(&text);
+        }
+    }
+
     /// Finds them at the first block, where they are to be told. Without memory none are.
     #[inline(never)]
     fn find_unconstrained(&mut self, judged: &Judged<'_, '_>) {
@@ -113,8 +129,9 @@ impl<'s, 't, 'r, 'n> Teller<'s, 't, 'r, 'n> {
                 self.note(judged);
             }
             Event::Answer(Answer::ClaimRejected(_)) => self.forget(),
+            Event::Claim(_, Some(why)) => self.add_why(*why),
             Event::Answer(_)
-            | Event::Claim(_)
+            | Event::Claim(_, None)
             | Event::Proved(_, _)
             | Event::Refuted(_)
             | Event::Cut(_) => {}
@@ -190,10 +207,8 @@ impl<'s, 't, 'r, 'n> Teller<'s, 't, 'r, 'n> {
                 }
                 Ok(lines)
             }
-            Event::Claim(kind) => claim_line(alloc, *kind, self.counts.blocks(), None),
-            Event::Proved(claim, nodes) => {
-                claim_line(alloc, claim.kind, claim.after, Some(*nodes))
-            }
+            Event::Claim(kind, why) => claim_line(alloc, *kind, self.counts.blocks(), *why),
+            Event::Proved(claim, nodes) => proved_line(alloc, claim, *nodes),
             Event::Refuted(refutation) => refuted_line(alloc, refutation),
             Event::Cut(span) => cut_line(alloc, *span),
             Event::Answer(answer) => {
