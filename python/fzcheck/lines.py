@@ -48,6 +48,10 @@ def claim_line(it: Object, tells_file: bool = False) -> str:
         return f"{line} proved, {it['proved']} node{'s' * (it['proved'] != 1)}"
     if not refuted:
         return f"{line} not judged"
+    if "found" in refuted:
+        has_objective = "objective" in refuted
+        what = f"objective {refuted['objective']}" if has_objective else "a solution"
+        return f"{line} refuted, {what} was found"
     if "file" in refuted:
         of = f" of {refuted['file']}" if tells_file else ""
         return f"{line} refuted by known block {refuted['block']}{of}"

@@ -51,10 +51,12 @@ class Block(NamedTuple):
 
 
 class Refuter(NamedTuple):
-    """The block that shows that a claim is false, and the known stream that has it."""
+    """The block that shows that a claim is false, and the known stream that has it; or there is no
+    block, and a search found a solution that has this objective."""
 
-    block: int
+    block: Optional[int]
     file: Optional[str]
+    objective: Optional[int] = None
 
 
 class Claim(NamedTuple):
@@ -129,7 +131,7 @@ class Report:
 
 def refuter_of(it: Object) -> Optional[Refuter]:
     by = it.get("refuted_by")
-    return Refuter(by["block"], by.get("file")) if by else None
+    return Refuter(by.get("block"), by.get("file"), by.get("objective")) if by else None
 
 
 def objects_of(output: bytes) -> List[Object]:

@@ -30,7 +30,7 @@ fzcheck check [--large] [--complete] [--complete-steps N] [--cut] [--claims[=pro
                 the last one: a satisfied block can refute them
     --claims=prove
                 also searches for a proof of each claim that no block refutes, and reports how many
-                nodes the proof takes
+                nodes the proof takes, or for a solution that refutes the claim
     --tree FILE
                 with --claims=prove: follows the solver's own search tree as far as FILE has it;
                 each line is a branch, with its node, parent and literal, as in 7 2 x <= 5
