@@ -6,9 +6,10 @@
 Each of COUNT small random models has constraints of several assignments, so that many have few
 solutions or none, and mostly an objective. All solutions are found by trying all values, with the
 rows of slow.py. That there is none may be proved only where there is none, and that none is better
-only behind the best, also where it would take a power that isn't known. Behind a block without its
+only behind the best, also where it would take a power that isn't known. A claim that isn't so may be
+refuted by what is found: a solution, or an objective that a better one has. Behind a block without its
 objective the best solution, which is known, may refute it only where it is better than all that
-extend the block. Prints how many of the claims that are so are proved, or refuted there, and ends
+extend the block. Prints how many of the claims are proved, or refuted, that may be, and ends
 with 'N passed, M failed'; the files of a wrong answer are kept."""
 import os
 import random
@@ -23,10 +24,10 @@ import slow
 
 NO_SOLUTION, NONE_BETTER = "=====UNSATISFIABLE=====", "=========="
 PROVED, REFUTED, NOT_JUDGED = "proved", "refuted by block 1", "not judged"
-BEATEN = "refuted by known"
+BEATEN, FOUND = "refuted by known", "refuted by what is found"
 TOLD = re.compile(
     f"^claim: (=+[A-Z]*=+) (?:({NOT_JUDGED}|{REFUTED})|({BEATEN}) block [12]"
-    f"|({PROVED}), ([0-9]+) nodes?)$", re.M
+    f"|({PROVED}), ([0-9]+) nodes?|refuted, (?:objective (-?[0-9]+)|a solution) was found)$", re.M
 )
 FACTORS = (-2, -1, 1, 2, 3)
 MOST_TRIED = 200_000  # assignments of a model
@@ -69,6 +70,9 @@ class Contested(damaged.Small):
     def type_text(self, number: int) -> str:
         return "int" if number == self.without_domain else super().type_text(number)
 
+    def objective_of(self, values: slow.Values) -> Optional[int]:
+        return None if self.objective is None else int(values[self.objective])
+
     def cost(self, values: slow.Values) -> int:
         """The objective; less is better."""
         value = int(values[self.objective or 0])
@@ -100,12 +104,15 @@ class Claim(NamedTuple):
     block: str
     right: str
     known: str = ""
+    found: Tuple[Optional[int], ...] = ()  # the objectives of the solutions that refute it
 
 
 def claims(model: Contested) -> Iterator[Claim]:
     possible = list(model.extensions(slow.Values()))
     known = [values for values in possible if model.is_solution(values)]
-    yield Claim(NO_SOLUTION, "", NOT_JUDGED if possible else PROVED)
+    found = tuple(map(model.objective_of, known))
+    right = FOUND if known else NOT_JUDGED if possible else PROVED
+    yield Claim(NO_SOLUTION, "", right, found=found)
     if not known:
         return
     yield Claim(NO_SOLUTION, damaged.block_text(known[0]), REFUTED)
@@ -115,8 +122,9 @@ def claims(model: Contested) -> Iterator[Claim]:
     least = min(map(model.cost, possible))
     of_cost = {model.cost(values): values for values in known}
     for cost in sorted(of_cost)[:2]:
-        right = PROVED if cost == least else NOT_JUDGED
-        yield Claim(NONE_BETTER, model.block(of_cost[cost]), right)
+        found = tuple(map(model.objective_of, [it for it in known if model.cost(it) < cost]))
+        right = PROVED if cost == least else FOUND if found else NOT_JUDGED
+        yield Claim(NONE_BETTER, model.block(of_cost[cost]), right, found=found)
     yield model.open_claim(known)
 
 
@@ -125,7 +133,9 @@ def told_of(claim: Claim, report: str) -> Tuple[str, int]:
     found = TOLD.search(report)
     if not found or found[1] != claim.line:
         return report, 0
-    return found[2] or found[3] or found[4], int(found[5] or 0)
+    objective = int(found[6]) if found[6] else None
+    by_search = FOUND if objective in claim.found else report
+    return found[2] or found[3] or found[4] or by_search, int(found[5] or 0)
 
 
 class Tally:
@@ -145,7 +155,7 @@ class Tally:
         report = damaged.report(self.program, self.folder, ["--claims=prove", *options], *texts)
         told, nodes = told_of(claim, report)
         self.most_nodes = max(nodes, self.most_nodes)
-        decided = claim.right in (PROVED, BEATEN)
+        decided = claim.right in (PROVED, BEATEN, FOUND)
         self.so[claim.line, claim.right] += decided
         self.told[claim.line, claim.right] += decided and told == claim.right
         if told == claim.right or decided and told == NOT_JUDGED:

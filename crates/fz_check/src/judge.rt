@@ -523,8 +523,8 @@ impl<'m, 'a> Judge<'m, 'a> {
 
     /// Gives the next block the memory of a filling that isn't needed any more.
     pub(crate) fn reuse(&mut self, filling: Box<Partial>)
-        requires { IsPartial self.old.model filling.value }
-        ensures { self.new ≡ self.old }
+        requires kinds { IsPartial self.old.model filling.value }
+        ensures same { self.new ≡ self.old }
     {
         self.spare = Some(filling);
     }

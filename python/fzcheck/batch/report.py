@@ -186,11 +186,18 @@ class Reader:
         by = line.get("refuted_by")
         if by:
             claim.by_known = "file" in by
-            of = f" of {self.known.get(by['file'], by['file'])}" if claim.by_known else ""
-            claim.refuted_by = f"block {by['block']}{of}"
+            claim.refuted_by = self.refuter(by)
             self.first.setdefault("claim", claim_words(claim))
         if by or before or len(self.claims) < MOST_CLAIMS:
             self.claims[key] = claim
+
+    def refuter(self, by: Object) -> str:
+        if "found" in by:
+            has_objective = "objective" in by
+            what = f"objective {by['objective']}" if has_objective else "a solution"
+            return f"{what} that was found"
+        of = f" of {self.known.get(by['file'], by['file'])}" if "file" in by else ""
+        return f"block {by['block']}{of}"
 
     def rest(self, line: Object) -> None:
         if "cut" in line:

@@ -204,11 +204,13 @@ class Judgement:
         """A claim that a known solution refutes."""
         for it in self.told:
             by = it.get("refuted_by", {})
+            kind = Kind.OPTIMUM if self.stream.blocks else Kind.LOST
+            better = "a better solution" if self.stream.blocks else "a solution"
+            if "found" in by and self.case.truth is None:
+                return Wrong(kind, f"{it['claim']}, and fzcheck finds {better}")
             if "file" not in by:
                 continue
             values = self.case.known[by["block"] - 1]
-            kind = Kind.OPTIMUM if self.stream.blocks else Kind.LOST
-            better = "a better solution" if self.stream.blocks else "a solution"
             return Wrong(kind, f"{it['claim']}, and there is {better}: {in_words(values)}",
                          missing=(block_of(values),))
         return None
