@@ -1,10 +1,12 @@
 -- A block that lacks a value, where no known-solution has the values of its filling, or none with a
 -- better objective.
-use Rattle.std.proofs.Common.{◌≡◌, ℕ, ◌<◌, ℤ, List, length, Option, None, Some, IfSome, option_map, slice_get, sym, ap, subst, subst₂, ◌∙◌}
-use Rattle.fz_check.specs.Claims.{IsBoundBehind}
+use Rattle.std.proofs.Common.{◌≡◌, ℕ, ◌<◌, ℤ, List, length, Option, None, Some, IfSome, true, option_map, slice_get, sym, ap, subst, subst₂, ◌∙◌}
+use Rattle.fz_check.specs.Claims.{IsBoundBehind, IsRulingOn, refutes}
+use Rattle.fz_check.specs.declared.claims.Ruling.TheVariants as rulings
+use Rattle.fz_check.specs.declared.claims.Saying.{Saying}
 use Rattle.fz_check.specs.Telling.{IsOpen}
 use Rattle.fz_search.specs.Found.{HasNone}
-use Rattle.fz_search.specs.of_model.Meaning.{Assignment, Model, Partial, objective, points, whole}
+use Rattle.fz_search.specs.of_model.Meaning.{Assignment, IsPartial, Model, Partial, objective, points, whole}
 use Rattle.fz_search.specs.of_model.Openings.{HasEach}
 use Rattle.fz_search.specs.of_model.States.{IsKnownSolution, PointName, shown_point}
 use Rattle.fz_search.proofs.of_model.Lists.{there_is}
@@ -15,9 +17,10 @@ use Rattle.fz_filling.specs.declared.completion.Completion.TheVariants.{On}
 use Rattle.fz_filling.specs.Judged.{IsOfPoint}
 use Rattle.fz_filling.specs.of_stream.declared.line.ClaimKind.TheVariants.{Complete}
 use Rattle.fz_filling.specs.of_stream.Parts.{SolutionBlock}
-use Rattle.fz_filling.specs.Verdict.{Fault, IsFilled, Verdict, fault_named}
+use Rattle.fz_filling.specs.Verdict.{Fault, IsFilled, Verdict, fault_named, verdict}
 use Rattle.fz_filling.specs.Verdict.Reason.{NoValueFor}
-use Rattle.fz_filling.specs.Verdict.Verdict.{Undecided, Violated}
+use Rattle.fz_filling.specs.Verdict.Verdict.{Satisfied, Undecided, Violated}
+use Rattle.fz_filling.proofs.Accepted.{satisfied_solves}
 use Rattle.fz_filling.proofs.Chains.{filling_agrees}
 
 -- the fault of the point of a number
@@ -58,3 +61,11 @@ pub bound_behind : (c : Completion) (m : Model) (F : Partial) (o : Option ℤ)
     → IsBoundBehind c m block Complete o
 bound_behind c m F o h None kept_of = absurd kept_of
 bound_behind c m F o h (Some block) kept_of = h block kept_of
+
+-- values that satisfy a block are a solution with their objective
+pub found_by : (m : Model) (block : SolutionBlock) (K : Partial) (s : Saying) (o : Option ℤ)
+    → IsPartial m K → verdict m K block None ≡ Satisfied → o ≡ objective m K
+    → refutes m.aim s o ≡ true → IsRulingOn m s (rulings.Found o)
+found_by m block K s o partial satisfied is better =
+    let by = satisfied_solves m K block None partial satisfied in
+    ((by.assignment, by.solution, ap (objective m) by.is ∙ sym is), better)

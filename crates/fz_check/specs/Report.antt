@@ -86,21 +86,21 @@ answer_text (UndecidedAt n) = codes "undecided: block " ++ decimal n
 answer_text NoBlocks = codes "no blocks"
 answer_text (ClaimRejected n) = codes "rejected: claim after block " ++ decimal n
 
--- a known block; its file is named where there are several
+-- by a known block; its file is named where there are several
 abbrev pub source_text : Source → List ℕ
-source_text s = codes "known block " ++ decimal s.block
+source_text s = codes " by known block " ++ decimal s.block
     ++ cond s.is_only [] (codes " of " ++ s.file.now)
 
 abbrev pub found_text : Option ℤ → List ℕ
-found_text None = codes "a solution"
-found_text (Some o) = codes "objective " ++ signed_decimal o
+found_text None = codes ", a solution was found"
+found_text (Some o) = codes ", objective " ++ signed_decimal o ++ codes " was found"
 
 -- by which block, or what a search found
 abbrev pub refuter_text : Refuter → List ℕ
 refuter_text (refuters.Block n) = codes " by block " ++ decimal n
 refuter_text (refuters.Behind n) = codes " by block " ++ decimal n
-refuter_text (refuters.Known s) = codes " by " ++ source_text s
-refuter_text (refuters.Found o) = codes ", " ++ found_text o ++ codes " was found"
+refuter_text (refuters.Known s) = source_text s
+refuter_text (refuters.Found o) = found_text o
 
 -- the claim is told in its place, or behind, and then with its place
 abbrev pub place_text : ℕ → Refuter → List ℕ

@@ -6,12 +6,12 @@ ghost use Rattle.fz_filling.specs.of_stream.Found.{block_of};
 ghost use Rattle.fz_filling.specs.of_stream.Parts.{SolutionBlock};
 ghost use Rattle.fz_search.specs.of_model.Meaning.{IsPartial};
 ghost use Rattle.fz_filling.specs.View.{verdict_view};
-ghost use Rattle.fz_check.specs.Claims.{IsBoundBehind, IsRuled, answer_with, is_satisfied, late_refuted, no_account, unasked};
+ghost use Rattle.fz_check.specs.Claims.{IsBoundBehind, IsRuled, answer_with, is_satisfied, late_refuted, no_account, saying, unasked};
 ghost use Rattle.fz_check.specs.Telling.{HearsOneMore, IsOpen, IsUnjudged, JudgesOneMore, kept};
 ghost use Rattle.fz_check.specs.View.{answer_view, event_view};
 
 use crate::account::{Account, Answer};
-use crate::claims::{Claims, Proofs, Ruling, Saying, Statement, said_by};
+use crate::claims::{Claims, Proofs, Ruling, Statement, said_by};
 use crate::error::CheckError;
 use crate::event::Event;
 use crate::judge::Judge;
@@ -123,19 +123,22 @@ impl<'m, 'a, 'k> Jury<'m, 'a, 'k> {
         }
     }
 
-    /// What a search comes to of what a claim says, where that is asked for.
-    fn ruling(
-        &mut self,
-        alloc: Global,
-        kind: ClaimKind,
-        says: Saying,
-    ) -> Result<Ruling, AllocError>
-        ensures ruled { IfOk result (IsRuled self.old.claims self.old.judge.model says) }
+    /// What a search comes to of a claim that no block refutes, where that is asked for. It is one
+    /// for what the claim says behind the objective of a filling alone.
+    fn ruling(&mut self, alloc: Global, claim: Statement) -> Result<Ruling, AllocError>
+        ensures ruled { IfOk result (IsRuled self.old.claims self.old.judge.model
+            (saying claim.kind self.old.judge.before)) }
         ensures same_judge { self.new.judge ≡ self.old.judge }
         ensures same_account { self.new.account ≡ self.old.account }
         ensures same_claims { self.new.claims ≡ self.old.claims }
         ensures same_open { kept self.new ≡ kept self.old }
     {
+        let goal = self.judge.model().goal();
+        if self.account.is_refuted(goal, &self.claims, claim.says) {
+            return Ok(Ruling::Open(None));
+        }
+        let kind = claim.kind;
+        let says = said_by(kind, self.judge.filled_objective());
         match self.claims {
             Claims::Judged(_, Proofs::On(tree)) => self.judge.ruling(alloc, kind, says, tree),
             Claims::Judged(_, Proofs::Off) | Claims::NotJudged => Ok(Ruling::Open(None)),
@@ -156,12 +159,8 @@ impl<'m, 'a, 'k> Jury<'m, 'a, 'k> {
         let bound = self.bound(alloc, kind)?;
         self.account.hear_bound(bound);
         let claim = self.account.statement(kind);
+        let ruling = self.ruling(alloc, claim)?;
         let goal = self.judge.model().goal();
-        let ruling = if self.account.is_refuted(goal, &self.claims, claim.says) {
-            Ruling::Open(None)
-        } else {
-            self.ruling(alloc, kind, said_by(kind, self.judge.filled_objective()))?
-        };
         if let Some(refutation) = self.account.hear_claim(goal, &self.claims, kind, ruling) {
             return Ok(Event::Refuted(refutation));
         }

@@ -68,17 +68,17 @@ pub(crate) fn push_proof(
 
 /// Adds what a search found.
 fn push_found(text: &mut Vec<u8>, objective: Option<i64>) -> Result<(), AllocError>
-    ensures { OnOk result (text.new.items
-        ≡ text.old.items ++ (codes ", " ++ found_text objective ++ codes " was found")) }
+    ensures { OnOk result (text.new.items ≡ text.old.items ++ found_text objective) }
 {
     match objective {
         Some(objective) => {
             push_bytes(text, b", objective ")?;
             push_number(text, objective)?;
+            push_bytes(text, b" was found")?;
+            Ok(())
         }
-        None => push_bytes(text, b", a solution")?,
+        None => push_bytes(text, b", a solution was found"),
     }
-    push_bytes(text, b" was found")
 }
 
 /// Adds by which block a claim is refuted, or by what a search found.
