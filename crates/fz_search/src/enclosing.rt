@@ -124,25 +124,38 @@ pub(crate) fn enclose_all(task: &Task<'_, '_>, bounds: &mut Bounds) -> Result<()
     ensures { IfOk result (λ _. (A : Assignment) → IsSought (asked_of task.now) A
         → IsInside bounds.old A → IsInside bounds.new A) }
 {
-    let mut marks = Bounds::unknown(task.alloc, task.model)?;
-    enclose_each(task, bounds, &mut marks)
+    let mut counts = Counts::new(task, bounds)?;
+    enclose_counted(task, bounds, &mut counts)
 }
 
-/// The same, with marks that are borrowed, so that they are dropped in one place.
+/// The same, with counts that are borrowed, so that they are dropped in one place.
+fn enclose_counted(
+    task: &Task<'_, '_>,
+    bounds: &mut Bounds,
+    counts: &mut Counts,
+) -> Result<(), AllocError>
+    ensures { IfOk result (λ _. (A : Assignment) → IsSought (asked_of task.now) A
+        → IsInside bounds.old A → IsInside bounds.new A) }
+{
+    let mut marks = Bounds::unknown(task.alloc, task.model)?;
+    enclose_each(task, bounds, counts, &mut marks)
+}
+
+/// The same, with marks that are borrowed too.
 fn enclose_each(
     task: &Task<'_, '_>,
     bounds: &mut Bounds,
+    counts: &mut Counts,
     marks: &mut Bounds,
 ) -> Result<(), AllocError>
     requires unmarked { marks.old.lowest ≡ marks.old.highest }
     ensures { IfOk result (λ _. (A : Assignment) → IsSought (asked_of task.now) A
         → IsInside bounds.old A → IsInside bounds.new A) }
 {
-    let mut counts = Counts::new(task, bounds)?;
     'rounds: for _ in 0..ROUNDS {
         let mut finds = false;
         'variables: for variable in 0..task.model.variables().len() {
-            finds |= enclose(task, bounds, variable, &mut counts, marks)?;
+            finds |= enclose(task, bounds, variable, counts, marks)?;
         }
         if !finds {
             break;
