@@ -270,10 +270,7 @@ fn best_left(task: &Task<'_, '_>) -> Result<Option<i64>, AllocError> {
 }
 
 /// The same, in a tree of one node.
-fn best_in<'m, 'a>(
-    task: &Task<'m, 'a>,
-    tree: &mut Tree<'m, 'a>,
-) -> Result<Option<i64>, AllocError>
+fn best_in<'m, 'a>(task: &Task<'m, 'a>, tree: &mut Tree<'m, 'a>) -> Result<Option<i64>, AllocError>
     requires asked { tree.old.model ≡ task.now.model.now }
 {
     let Some((variable, is_cost)) = objective_of(task.model) else {

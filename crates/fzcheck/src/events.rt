@@ -3,8 +3,8 @@
 use crate::reading::Unread;
 use crate::refusing::unread_text;
 use fz_check::{
-    CheckError, ClaimKind, Fault, Judged, Reason, Refutation, Refuter, Span, Statement, Verdict, Why,
-    claim_text,
+    CheckError, ClaimKind, Fault, Judged, Reason, Refutation, Refuter, Span, Statement, Verdict,
+    Why, claim_text,
 };
 use fz_files::Object;
 use std::alloc::{AllocError, Global};
@@ -124,11 +124,7 @@ pub fn block_line(
 }
 
 /// The line of a claim that is proved by so many nodes.
-pub fn proved_line(
-    alloc: Global,
-    claim: &Statement,
-    nodes: usize,
-) -> Result<Vec<u8>, AllocError> {
+pub fn proved_line(alloc: Global, claim: &Statement, nodes: usize) -> Result<Vec<u8>, AllocError> {
     let mut object = Object::new(alloc);
     object.word("claim", claim_text(claim.kind));
     object.count("after", claim.after);

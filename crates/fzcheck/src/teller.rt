@@ -100,7 +100,8 @@ impl<'s, 't, 'r, 'n> Teller<'s, 't, 'r, 'n> {
         if let (Form::Text, false) = (
             self.asked.form,
             matches!(self.asked.explains, Explaining::Nothing),
-        ) && let Ok(text) = why_text(self.rt.alloc(), why)
+        )
+            && let Ok(text) = why_text(self.rt.alloc(), why)
             && let Ok(text) = format!(in self.rt.alloc(); "not judged: {text}\n")
             && let Ok(mut screen) = self.screen.try_borrow_mut()
         {
