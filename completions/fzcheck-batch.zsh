@@ -6,7 +6,7 @@ local -a both=('(- *)'{-h,--help}'[print a page on the words]' \
   '--results=[the folder of results]:folder:_files -/')
 _arguments -C '(- *)'{-h,--help}'[print a page on the words]' \
   '(- *)--version[print the version]' \
-  '1:command:((run\:"judge a season" report\:"tell who is wrong where" merge\:"take over results"))' \
+  '1:command:((run\:"judge a season" report\:"who is wrong where" merge\:"take over results"))' \
   '*::word:->words' && return
 case $line[1] in
   run)

@@ -42,7 +42,7 @@ def add_common(parser: Parser) -> None:
     add("--limit", type=int, default=10, help="seconds of a run, of the processor (10)")
     add("--all", default="-a", help="the solver's option for all solutions (-a)")
     add("--reference", metavar="SOLVER", help="another solver with its options, in quotes, whose "
-        "solutions are judged, and held against SOLVER where they hold")
+        "satisfied solutions are compared with SOLVER's claims")
     add("-V", "--version", action=Version, nargs=0, help="print the version")
 
 

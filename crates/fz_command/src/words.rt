@@ -21,51 +21,65 @@ pub enum Request<'a> {
 /// What `show` is asked for.
 #[derive(Clone, Copy)]
 pub struct Show<'a> {
+    /// The file of the model.
     pub model: &'a str,
+    /// By `--print-all`.
     pub printing: Printing,
+    /// By `--large`.
     pub size: Size,
 }
 
 /// Which variables the shown model marks as output.
 #[derive(Clone, Copy)]
 pub enum Printing {
+    /// Those that the model marks.
     AsWritten,
+    /// Each scalar variable.
     All,
 }
 
 /// How large a model, and a block of a stream, may be.
 #[derive(Clone, Copy, PartialEq, Eq)]
 pub enum Size {
+    /// Up to the standard limits of `fz_tree`.
     Standard,
+    /// Up to the large ones.
     Large,
 }
 
 /// What `check` is asked for.
 #[derive(Drop)]
 pub struct Check<'a> {
+    /// The file of the model.
     pub model: &'a str,
+    /// The file of the stream, or none for standard input.
     pub stream: Option<&'a str>,
-    /// The file of the table of names, where one is given.
+    /// The file of the table of names, if one is given.
     pub names: Option<&'a str>,
-    /// The file of a solver's search tree, where one is given.
+    /// The file of a solver's search tree, if one is given.
     pub tree: Option<&'a str>,
-    /// The files of the known streams.
+    /// The files of the known streams, each once.
     pub known: Vec<&'a str>,
-    /// Whether values that the solver left out are searched for.
+    /// Whether values that the solver didn't print are searched for.
     pub completes: bool,
-    /// The most steps of a search, where a number is asked for.
+    /// The most steps of a search, if a number is given.
     pub steps: Option<usize>,
     /// Whether a block is cut off in which the stream ends.
     pub cuts: bool,
+    /// By `--claims` and `--known`.
     pub judging: Judging,
+    /// By `--explain`.
     pub explains: Explaining,
+    /// By `--json`.
     pub form: Form,
+    /// By `--large`.
     pub size: Size,
 }
 
 /// Whether claims on the whole search are judged.
 #[derive(Clone, Copy, PartialEq, Eq)]
 pub enum Judging {
+    /// They aren't.
     Nothing,
     /// They are, by `--claims`.
     Asked,
@@ -95,6 +109,7 @@ impl Judging {
 /// What the report is written as.
 #[derive(Clone, Copy, PartialEq, Eq)]
 pub enum Form {
+    /// A line for each event.
     Text,
     /// A JSON object on each line.
     Json,
@@ -103,6 +118,7 @@ pub enum Form {
 /// What is explained.
 #[derive(Clone, Copy, PartialEq, Eq)]
 pub enum Explaining {
+    /// Nothing, but the place of a refusal on a terminal.
     Nothing,
     /// The block that the answer names, or a refusal.
     Answer,
@@ -133,6 +149,12 @@ impl From<AllocError> for Refused {
 
 /// What the words ask for; the first word is the program's own name. It isn't inlined, so that its
 /// large stack frame is gone once the words are read.
+///
+/// # Errors
+///
+/// - `Help` and `Version`: the words ask for these.
+/// - `Wrong`: the words are wrong; it says how and, if that can be seen, what was meant.
+/// - `Memory`: memory ran out.
 #[inline(never)]
 pub fn read_words<'a>(alloc: Global, words: &'a [String]) -> Result<Request<'a>, Refused> {
     match command(alloc)?.try_get_matches_from(words) {
@@ -181,7 +203,7 @@ fn is_first(words: &[String], message: &str) -> bool {
     }
 }
 
-/// What is told where no number of steps follows the option for it.
+/// What is added to an error if no number of steps follows the option for it.
 const WANTED_STEPS: &str = "--complete-steps wants a number, as --complete-steps 1000000";
 
 /// The word that `clap` knows for a wrong one, where its message has a tip such as
@@ -330,7 +352,7 @@ enum Kind {
     Called(&'static str),
     /// An option with a file, which goes with this other option.
     Beside(&'static str),
-    /// An option that may name one of the first words behind `=`; else it names the others.
+    /// An option that may name one of the first words after `=`; without it names the others.
     Choice(&'static [&'static str], &'static [&'static str]),
 }
 
@@ -366,7 +388,7 @@ const CHECK: [(&str, Kind); 12] = [
 /// The most known streams.
 const MOST_KNOWN: usize = 64;
 
-/// What is told where no claim is to be proved along a tree.
+/// The error if a tree is given and no claim is to be proved along it.
 const TREE_ALONE: &str = "error: --tree is given without --claims=prove";
 
 /// A word, as `clap` takes it.

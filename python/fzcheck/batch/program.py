@@ -4,7 +4,7 @@
     fzcheck-batch report --results DIR [--html FILE] [--csv FILE] [--scores FILE] [--junit FILE]
     fzcheck-batch merge --results DIR FOLDER..
 
-docs/ORGANISERS.md tells how they are used, on one machine and on several.
+docs/ORGANISERS.md shows how to use them, on one machine and on several.
 """
 import argparse
 import os
@@ -22,23 +22,23 @@ from fzcheck.calls import Error, version, version_words
 
 WRONG_WORDS, NOT_READ = 5, 6
 ALWAYS = ("--claims", "--explain", "--json")  # options of check
-RUN_TEXT = """Judges each stream against its model, and the claims. Words that aren't told here are
-options of `fzcheck check`, as --complete, --cut or --claims=prove."""
+RUN_TEXT = """Judges each stream against its model, and the claims. Other words are options of
+`fzcheck check`, such as --complete, --cut or --claims=prove."""
 RESULTS = ("--results", "DIR", "the folder of results")
 REQUIRED = ("--results", "--models", "--streams")
 # Of each command what it does, and its options, each with what it takes and what it is for.
 COMMANDS: Dict[str, Tuple[str, Tuple[Tuple[str, str, str], ...]]] = {
     "run": (RUN_TEXT, (
         RESULTS,
-        ("--models", "DIR", "has NAME.fzn, also in folders"),
+        ("--models", "DIR", "the folder of the models NAME.fzn"),
         ("--streams", "TEMPLATE", "where the streams are, with {solver} and {model}"),
-        ("--times", "TEMPLATE", "when blocks were printed, as `minizinc --output-time` tells"),
-        ("--status", "TEMPLATE", "what `time -v` or `runsolver -v` told of the solvers"),
+        ("--times", "TEMPLATE", "files with the times of blocks, as of `minizinc --output-time`"),
+        ("--status", "TEMPLATE", "files with what `time -v` or `runsolver -v` said"),
         ("--names", "TEMPLATE", "tables of names, with {model}"),
         ("--limit", "cpu=SECONDS,memory=BYTES,time=SECONDS",
          "what one job may take; 4G is 4 GiB (no limit)"),
         ("--shard", "I/N", "the I-th of N shares"))),
-    "report": ("Tells who is wrong where.", (
+    "report": ("Reports who is wrong where.", (
         RESULTS,
         ("--html", "FILE", "writes a page"),
         ("--title", "TEXT", "the page's title"),
@@ -61,7 +61,7 @@ def parser() -> argparse.ArgumentParser:
     """The words of the three commands."""
     whole = Parser(prog="fzcheck-batch", allow_abbrev=False,
                    description=(__doc__ or "").split("\n")[0])
-    whole.add_argument("--version", action="store_true", help="tells the version")
+    whole.add_argument("--version", action="store_true", help="print the version")
     commands = whole.add_subparsers(dest="command", metavar="|".join(COMMANDS))
     for name, (text, options) in COMMANDS.items():
         command = commands.add_parser(name, help=text.split(". ")[0].rstrip("."),

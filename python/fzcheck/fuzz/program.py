@@ -32,24 +32,25 @@ MOST_SHRINKING = 120.0  # seconds for each fault
 def parser() -> Parser:
     it = Parser(
         prog=PROGRAM, usage=f"{PROGRAM} [OPTION..] -- SOLVER [SOLVER'S OPTION..]",
-        description="Asks SOLVER what it takes, runs it on random models of that, judges what it "
-        "prints, and makes small what shows a fault. Status 0: no fault but known ones; 1: some; "
-        "3: SOLVER takes none of the names; 5: wrong words; 6: a program or a file is missing.")
+        description="Tries what SOLVER takes, runs it on random models of that, judges what it "
+        "prints, and makes the models with a fault small. Status 0: no fault except known ones; "
+        "1: there are faults; 3: SOLVER takes none of the names; 5: the command line is wrong; "
+        "6: a program or a file is missing.")
     add = it.add_argument
     add("--seconds", type=float, default=60, help="how long (60)")
     add("--models", type=int, help="end after so many models of each job")
     add("--faults", type=int, help="end after so many causes of faults")
     add("--seed", help="the same seed gives the same models (the time)")
-    add("--names", help="builtins: a list with commas, or a file of names (all that are known)")
+    add("--names", help="the builtins to try, as int_plus,int_le or a file of names (all known ones)")
     add("--names-from", metavar="FILE.mzn", nargs="+", default=[],
         help="the builtins that these files, or those of a folder, declare without a body")
     add("--from", dest="folder", metavar="FOLDER",
-        help="change the FlatZinc models in FOLDER, in the place of random ones")
+        help="change the FlatZinc models in FOLDER instead of making random ones")
     add("--known", metavar="FOLDER", action="append", default=[],
-        help="faults found before, an --output or a file `known`: counted, and not told")
+        help="faults found before, an --output or a file of causes: counted, not reported")
     add("--jobs", type=int, default=1, help="solvers at once (1)")
-    add("--numbers", help="LOW..HIGH: the solver's numbers, near which some are chosen")
-    add("--output", default="fzcheck-fuzz-found", help="the folder of what is found")
+    add("--numbers", help="LOW..HIGH: choose some numbers near these")
+    add("--output", default="fzcheck-fuzz-found", help="the folder for what is found (fzcheck-fuzz-found)")
     add("--json", action="store_true", help="the report as a JSON object")
     add("--junit", metavar="FILE", help="also a report in JUnit's form, a case for each name")
     add_common(it)

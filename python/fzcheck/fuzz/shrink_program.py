@@ -19,13 +19,13 @@ def parser() -> Parser:
     it = Parser(
         prog=PROGRAM, usage=f"{PROGRAM} [OPTION..] MODEL.fzn -- SOLVER [SOLVER'S OPTION..]",
         description="Prints the smallest model that it finds on which SOLVER still has the fault "
-        "that it has on MODEL. Status 0: one is printed; 1: there is no fault; 4: MODEL isn't one; "
-        "5: wrong words; 6: a program or a file isn't there.")
+        "that it has on MODEL. Status 0: a model is printed; 1: there is no fault; 4: MODEL is no "
+        "FlatZinc; 5: the command line is wrong; 6: a program or a file is missing.")
     add = it.add_argument
     add("model", metavar="MODEL.fzn")
     add("--seconds", type=float, default=600, help="how long (600)")
     add("--known", metavar="STREAM", action="append", default=[],
-        help="what another solver printed: its solutions are held against SOLVER's claims")
+        help="what another solver printed: compared with SOLVER's claims")
     add("--output", metavar="FOLDER", help="also a new folder with the stream, a report, a script")
     add_common(it)
     return it

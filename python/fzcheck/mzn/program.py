@@ -7,16 +7,15 @@
 
 PLAN, or standard input, is what `minizinc` prints: by the default output of a model without an
 output item, with --output-mode dzn or json, or with --json-stream; or a FlatZinc stream. The model
-is compiled, the plan turned into a stream, and `fzcheck check` judges that with --complete, --cut
-and --explain=every. The report and what fails are in the words of the model, and the status is that
-of the check.
+is compiled, and the plan becomes a stream, which `fzcheck check` judges with --complete, --cut and
+--explain=every. The report is in the words of the model, and the exit status is that of the check.
 
   -o, --output PLAN   the plan's file, or - for standard input
   --known PLAN        another plan, which may show that a claim of this one is wrong
-  --strict            status 2 where a solution doesn't print all names of the model
+  --strict            status 2 if a solution doesn't print all names that the model prints
   --first             stops at the first constraint that fails
-  --flatzinc          shows the FlatZinc behind each constraint that fails
-  --html FILE         writes a page of the plan
+  --flatzinc          shows the FlatZinc of each constraint that fails
+  --html FILE         writes a page of the plan, with the clashing values marked
   --keep FOLDER       leaves the model, the stream and the table of names in FOLDER
 
 An example: minizinc roster.mzn roster.dzn | fzcheck-mzn roster.mzn roster.dzn

@@ -1,4 +1,4 @@
-"""Tells MiniZinc of a solver that is checked while it runs.
+"""Adds a solver to MiniZinc that is checked while it runs.
 
     fzcheck-configure [--library] [--strict] SOLVER
     fzcheck-configure --remove SOLVER
@@ -6,8 +6,8 @@
 
 SOLVER is what `minizinc --solver` takes: for `gecode` the solver `gecode-checked` is added to the
 user's own, and with --library also `gecode-checked-library`, which is checked against what our
-library makes of a model. With --strict they end with status 1 where what is printed isn't accepted,
-as with FZCHECK_STRICT. Only files of these names are written, and --remove takes only them away.
+library makes of a model. With --strict they end with status 1 if the output isn't accepted, as with
+FZCHECK_STRICT. Only files of these names are written, and --remove removes only them.
 """
 import json
 import os

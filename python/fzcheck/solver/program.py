@@ -1,15 +1,15 @@
-"""Takes the place of a FlatZinc solver: runs it, passes on what it prints, checks that meanwhile.
+"""Takes the place of a FlatZinc solver: runs it, passes its output on, and checks it meanwhile.
 
     FZCHECK_SOLVER=PROGRAM fzcheck-solver [OPTION..] MODEL.fzn
 
-All words are the solver's own, except where FZCHECK_SOLVER names none: then --help prints this, and
---version the version. Its output is passed on as it comes, and its status is kept; where a
-block is violated the status is 1, and a comment in the output says so. Standard error tells what
-isn't satisfied, and at last the answer, or what wasn't checked and why; with FZCHECK_STRICT the
-status is then 1 for all but `accepted`. docs/MINIZINC.md says what FZCHECK_OPTIONS,
-FZCHECK_VERBOSE, FZCHECK_HOLD and FZCHECK_LIBRARY change. FZCHECK_FOLDER is one run's word to the
-next: the model to check against and its table of names are there, and files `ran` and `violated`
-are put there. With FZCHECK_PATHS the solver wants the table of names that MiniZinc gives."""
+All words are the solver's own. Without FZCHECK_SOLVER --help prints this page, and --version the
+version. The output is passed on as it comes, and the status is the solver's, but 1 if a block is
+violated; a comment in the output then says so. Standard error has what isn't satisfied, and at last
+the answer, or what wasn't checked and why; with FZCHECK_STRICT the status is 1 for all but
+`accepted`. docs/MINIZINC.md says what FZCHECK_OPTIONS, FZCHECK_VERBOSE, FZCHECK_HOLD and
+FZCHECK_LIBRARY change. One run hands FZCHECK_FOLDER to the next: a folder with the model to check
+against and its table of names, in which files `ran` and `violated` are left. With FZCHECK_PATHS the
+solver needs the table of names that MiniZinc gives."""
 import os
 import signal
 import subprocess
