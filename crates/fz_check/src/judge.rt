@@ -468,6 +468,7 @@ impl<'m, 'a> Judge<'m, 'a> {
 
     /// The ruling where a search found some values, which are judged as those of a block that prints
     /// nothing. They refute the claim where they are a solution that is better.
+    #[tactic(auto, using(crate::proofs::Refuting::found_by))]
     fn refuted_by(
         &mut self,
         alloc: Global,
