@@ -1,24 +1,20 @@
 //! The command `check`.
 
-use crate::as_json::refusal_line;
 use crate::detail::{Detail, refuse_fault};
-use crate::events::unread_line;
-use crate::explain::explanation;
 use crate::known::claims_of;
 use crate::names::{read_table, table_of};
 use crate::options::{completion_of, limits_of, options_of};
 use crate::reading::{Unread, most_bytes, open_file, read_whole};
-use crate::refusing::{refuse, refuse_file};
+use crate::refusing::{refuse, refuse_file, unread_text};
 use crate::screen::{Report, Screen};
-use crate::teller::{JsonTeller, Teller};
 use crate::tree::{branches_of, read_tree};
-use fz_check::{
-    Answer, CheckError, Claims, MOST_READS, Model, Taker, check_loaded, read_model, status,
-};
-use fz_command::{Check, Explaining, Form, Size};
+use fz_check::{Answer, CheckError, Claims, Model, read_model, status};
+use fz_command::{Check, Explaining, Form};
 use fz_explain::{Explainer, Message, NameTable, Text};
 use fz_files::{NOTHING, Recent, Recorder, find_input};
-use std::alloc::Global;
+use fz_told::{
+    Teller, Telling, check_told, explanation, recent_explanation, refusal_line, unread_line,
+};
 use std::cell::RefCell;
 use std::fs::File;
 use std::io::{IsTerminal, Read, Write};
@@ -30,8 +26,18 @@ const STANDARD_INPUT: &str = "(standard input)";
 const AWAITED: &str = "fzcheck: waits for the stream on this terminal; Ctrl-D ends it";
 
 /// The name of the stream in messages.
-pub fn name_of_stream<'a>(asked: &Check<'a>) -> &'a str {
+fn name_of_stream<'a>(asked: &Check<'a>) -> &'a str {
     asked.stream.unwrap_or(STANDARD_INPUT)
+}
+
+/// What is told of the check, and how.
+fn telling_of<'a>(asked: &Check<'a>) -> Telling<'a> {
+    Telling {
+        stream: name_of_stream(asked),
+        explains: asked.explains,
+        form: asked.form,
+        size: asked.size,
+    }
 }
 
 /// Checks the file of a stream, or standard input, against the file of a model.
@@ -115,9 +121,9 @@ fn check_stream<S: Read + Drop>(
         _ => Some(&recent),
     };
     let explainer = Explainer::new(text, names, completion_of(asked.completes));
-    let teller = Teller::new(rt, &*asked, explainer, &recent, &screen);
+    let teller = Teller::new(rt.alloc(), telling_of(asked), explainer, &recent, &screen);
     let mut stream = Recorder::new(stream, stored);
-    match check_and_tell(rt, asked, model, claims, &mut stream, &screen, teller) {
+    match check_to(rt, asked, model, claims, &mut stream, &screen, teller) {
         Ok(answer) => status(&Ok(answer)),
         Err(CheckError::Read) => {
             let name = name_of_stream(asked);
@@ -125,59 +131,38 @@ fn check_stream<S: Read + Drop>(
             refuse_reading(rt, asked.form, &unread)
         }
         Err(error) => {
-            let message = stored.and_then(|recent| stream_message(rt, asked, recent, &error));
-            refuse_check(rt, asked, &error, name_of_stream(asked), message.as_ref())
-        }
-    }
-}
-
-/// Checks a stream, and tells what belongs to the answer.
-fn check_and_tell<S: Read>(
-    rt: &HostRuntime,
-    asked: &Check<'_>,
-    model: &Model<'_>,
-    claims: Claims<'_>,
-    stream: &mut S,
-    screen: &RefCell<Screen<'_>>,
-    mut teller: Teller<'_, '_, '_, '_>,
-) -> Result<Answer, CheckError> {
-    match asked.form {
-        Form::Text => {
-            let outcome = check_to(rt, asked, model, claims, stream, screen, &mut teller);
-            teller.end(outcome.is_ok());
-            outcome
-        }
-        Form::Json => {
-            let mut taker = JsonTeller { teller };
-            let outcome = check_to(rt, asked, model, claims, stream, screen, &mut taker);
-            taker.teller.end(outcome.is_ok());
-            outcome
+            let name = name_of_stream(asked);
+            let message = match stored {
+                Some(recent) => recent_explanation(rt.alloc(), recent, name, &error, asked.size),
+                None => None,
+            };
+            refuse_check(rt, asked, &error, name, message.as_ref())
         }
     }
 }
 
 /// Checks a stream, and writes the report to standard output.
-fn check_to<S: Read, T: Taker>(
+fn check_to<S: Read>(
     rt: &HostRuntime,
     asked: &Check<'_>,
     model: &Model<'_>,
     claims: Claims<'_>,
     stream: &mut S,
     screen: &RefCell<Screen<'_>>,
-    taker: &mut T,
+    teller: Teller<'_, '_, '_, Screen<'_>>,
 ) -> Result<Answer, CheckError> {
     let mut report = Report {
         out: rt.stdout(),
         screen,
     };
     let options = options_of(asked, claims);
-    check_loaded(
+    check_told(
         rt.alloc(),
         model,
         stream,
         &mut report,
-        taker,
-        MOST_READS,
+        asked.form,
+        teller,
         options,
     )
 }
@@ -190,7 +175,8 @@ fn detail_of(rt: &HostRuntime, asked: &Check<'_>) -> Detail {
 /// Refuses the check since a file can't be read.
 pub fn refuse_reading(rt: &HostRuntime, form: Form, unread: &Unread<'_>) -> u8 {
     if let Form::Json = form
-        && let Ok(line) = unread_line(rt.alloc(), unread)
+        && let Ok(why) = unread_text(rt.alloc(), unread)
+        && let Ok(line) = unread_line(rt.alloc(), &unread.error, unread.name, &why)
     {
         let _ = rt.stdout().write_all(&line);
     }
@@ -201,7 +187,7 @@ pub fn refuse_reading(rt: &HostRuntime, form: Form, unread: &Unread<'_>) -> u8 {
 fn refuse_model(rt: &HostRuntime, asked: &Check<'_>, text: &Text<'_>, error: &CheckError) -> u8 {
     let message = match (detail_of(rt, asked), asked.form) {
         (Detail::Nothing, Form::Text) => None,
-        _ => message_in(rt.alloc(), text, error, asked.size),
+        _ => explanation(rt.alloc(), text, error, asked.size),
     };
     refuse_check(rt, asked, error, asked.model, message.as_ref())
 }
@@ -222,29 +208,6 @@ fn refuse_check(
             refuse(rt, error)
         }
     }
-}
-
-/// The message on the fault of a refusal in a text; none where it has no byte range, or memory runs
-/// out.
-fn message_in(alloc: Global, text: &Text<'_>, error: &CheckError, size: Size) -> Option<Message> {
-    explanation(alloc, text, error, size).ok()?
-}
-
-/// The message on a fault of the stream, of which the last is stored.
-fn stream_message(
-    rt: &HostRuntime,
-    asked: &Check<'_>,
-    recent: &RefCell<Recent>,
-    error: &CheckError,
-) -> Option<Message> {
-    let recent = recent.try_borrow().ok()?;
-    let (bytes, passed) = recent.kept()?;
-    let stream = Text {
-        name: name_of_stream(asked),
-        bytes,
-        passed,
-    };
-    message_in(rt.alloc(), &stream, error, asked.size)
 }
 
 /// Writes the refusal in the place of the answer, unless it was a write that failed.

@@ -1,11 +1,11 @@
 //! How much is told of the place of a refusal.
 
-use crate::explain::{LARGER, has_larger, meaning};
 use crate::refusing::{is_told, refuse};
 use crate::screen::show_message;
 use fz_check::CheckError;
 use fz_command::Size;
 use fz_explain::Message;
+use fz_told::fault_text;
 use std::io::IsTerminal;
 
 /// How much is told of the place of a refusal.
@@ -42,26 +42,21 @@ pub fn refuse_fault(
     size: Size,
 ) -> u8 {
     let told = refuse(rt, error);
-    if detail == Detail::Nothing || !is_told(told, error) {
-        return told;
-    }
-    if let Some(message) = message {
-        tell_message(rt, message, detail);
-    } else if has_larger(error, size) {
-        let _ = eprintln!(rt; "{name}: {}, {LARGER}", meaning(error));
+    if detail != Detail::Nothing
+        && is_told(told, error)
+        && let Ok(Some(text)) = fault_text(rt.alloc(), error, name, message, size)
+    {
+        tell_fault(rt, &text, detail);
     }
     told
 }
 
-fn tell_message(rt: &HostRuntime, message: &Message, detail: Detail) {
-    let Ok(text) = message.text(rt.alloc()) else {
-        return;
-    };
+fn tell_fault(rt: &HostRuntime, text: &str, detail: Detail) {
     match text.split_once('\n') {
         Some((line, _)) if detail == Detail::Line => {
             show_message(rt, line);
             let _ = eprintln!(rt; "");
         }
-        _ => show_message(rt, &text),
+        _ => show_message(rt, text),
     }
 }

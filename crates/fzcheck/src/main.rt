@@ -1,14 +1,12 @@
 //! The program `fzcheck`: what its commands do, its refusals and exit status. The verdicts and the
-//! texts that it shows are by `fz_check`; what stands behind a verdict is by `fz_explain`.
+//! texts that it shows are by `fz_check`; what stands behind a verdict is by `fz_explain`, and what is
+//! told of it by `fz_told`.
 //!
 //! Tests are in `tests/program`, `tests/as_json.py` and `tests/explained`.
 #![tactic(auto)]
 
-mod as_json;
 mod check;
 mod detail;
-mod events;
-mod explain;
 mod known;
 mod names;
 mod options;
@@ -16,7 +14,6 @@ mod reading;
 mod refusing;
 mod screen;
 mod show;
-mod teller;
 mod tree;
 
 use check::check_files;

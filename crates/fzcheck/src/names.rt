@@ -1,6 +1,5 @@
 //! The table of names of a model, in a file.
 
-use crate::as_json::names_line;
 use crate::check::refuse_reading;
 use crate::reading::{Unread, read_file};
 use crate::refusing::refuse;
@@ -9,6 +8,7 @@ use fz_check::{CheckError, Span};
 use fz_command::{Check, Form};
 use fz_explain::{Message, NameTable, TableError, Text, message_at};
 use fz_files::NOTHING;
+use fz_told::names_line;
 use std::alloc::{AllocError, Global};
 use std::io::Write;
 

@@ -1,10 +1,16 @@
 //! What a person sees beside the report, on standard error: messages, and how far the check is. The
 //! report is on standard output.
 
+use crate::reading::read_file;
+use fz_explain::Remarks;
 use fz_files::{Progress, coloured, has_colours};
+use fz_told::Audience;
 use std::cell::RefCell;
 use std::io;
 use std::io::{Stdout, Write};
+
+/// The most bytes of a MiniZinc model of which a line is quoted.
+const MOST_QUOTED: u32 = 16_777_216;
 
 /// Shows a message, in colours where standard error is a terminal that has them.
 pub fn show_message(rt: &HostRuntime, text: &str) {
@@ -35,27 +41,41 @@ impl<'r> Screen<'r> {
         }
     }
 
-    /// Counts a block.
-    pub fn count(&mut self, is_satisfied: bool) {
-        self.progress.note(is_satisfied);
-    }
-
-    /// Adds an explanation. Without memory for it there is none.
-    pub fn add(&mut self, text: &str) {
-        let _ = self.waiting.push_str(text);
-    }
-
     /// Shows the explanations that wait.
-    pub fn show(&mut self) {
+    fn show(&mut self) {
         if !self.waiting.is_empty() {
             self.progress.clear();
             show_message(self.rt, &self.waiting);
             self.waiting.clear();
         }
     }
+}
 
-    /// Removes the line of progress.
-    pub fn clear(&mut self) {
+impl Audience for Screen<'_> {
+    fn count(&mut self, is_satisfied: bool) {
+        self.progress.note(is_satisfied);
+    }
+
+    /// Without memory for the explanation there is none.
+    fn add(&mut self, text: &str) {
+        let _ = self.waiting.push_str(text);
+    }
+
+    fn quote(&mut self, remarks: &mut Remarks) {
+        let Some(source) = &remarks.source else {
+            return;
+        };
+        let text = read_file(self.rt, &source.file, MOST_QUOTED).ok();
+        if let Some(text) = text
+            && text.len() <= MOST_QUOTED as usize
+        {
+            // Without memory for it there is no quote.
+            let _ = remarks.read(self.rt.alloc(), &text);
+        }
+    }
+
+    fn end(&mut self) {
+        self.show();
         self.progress.clear();
     }
 }

@@ -2,7 +2,6 @@
 
 use crate::SHOWN;
 use crate::detail::{Detail, refuse_fault};
-use crate::explain::explanation;
 use crate::options::limits_of;
 use crate::reading::{most_bytes, read_file};
 use crate::refusing::{refuse, refuse_file};
@@ -10,6 +9,7 @@ use fz_check::{CheckError, show_printing_all, show_with};
 use fz_command::{Printing, Show};
 use fz_explain::Text;
 use fz_files::NOTHING;
+use fz_told::explanation;
 use std::io;
 use std::io::Write;
 
@@ -48,10 +48,8 @@ fn refuse_model(rt: &HostRuntime, asked: Show<'_>, model: &[u8], error: &CheckEr
         bytes: model,
         passed: NOTHING,
     };
-    match explanation(rt.alloc(), &text, error, size) {
-        Ok(message) => refuse_fault(rt, error, name, message.as_ref(), detail, size),
-        Err(_) => refuse(rt, error),
-    }
+    let message = explanation(rt.alloc(), &text, error, size);
+    refuse_fault(rt, error, name, message.as_ref(), detail, size)
 }
 
 fn print_text(rt: &HostRuntime, text: &[u8]) -> u8 {

@@ -1,7 +1,5 @@
 //! The lines of JSON of the report that need no explanation, and of a file that can't be read.
 
-use crate::reading::Unread;
-use crate::refusing::unread_text;
 use fz_check::{
     CheckError, ClaimKind, Fault, Judged, Reason, Refutation, Refuter, Span, Verdict, claim_text,
 };
@@ -163,13 +161,18 @@ pub fn cut_line(alloc: Global, span: Span) -> Result<Vec<u8>, AllocError> {
     object.line()
 }
 
-/// The line of a refusal for a file that can't be read.
-pub fn unread_line(alloc: Global, unread: &Unread<'_>) -> Result<Vec<u8>, AllocError> {
+/// The line of a refusal for the file of this name, which can't be read, and why.
+pub fn unread_line(
+    alloc: Global,
+    error: &CheckError,
+    name: &str,
+    why: &str,
+) -> Result<Vec<u8>, AllocError> {
     let mut object = Object::new(alloc);
-    object.text("refused", refused_word(&unread.error));
-    if let CheckError::Read = unread.error {
-        object.text("file", unread.name);
-        object.text("message", &unread_text(alloc, unread)?);
+    object.text("refused", refused_word(error));
+    if let CheckError::Read = error {
+        object.text("file", name);
+        object.text("message", why);
     }
     object.line()
 }

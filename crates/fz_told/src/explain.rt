@@ -4,15 +4,16 @@
 use fz_check::{BlockError, CheckError, ModelError, StreamError, SyntaxError, Told, refusal_fault};
 use fz_command::Size;
 use fz_explain::{Message, Phrase, Text, message_at};
-use fz_files::Passed;
+use fz_files::{Passed, Recent};
 use fz_words::{Given, Refused, meaning as syntax_meaning};
 use std::alloc::{AllocError, Global};
+use std::cell::RefCell;
 
 /// What helps against a limit that is larger with an option.
-pub const LARGER: &str = "try --large";
+const LARGER: &str = "try --large";
 
 /// Whether a limit refuses that is larger with that option, which isn't given.
-pub fn has_larger(error: &CheckError, size: Size) -> bool {
+fn has_larger(error: &CheckError, size: Size) -> bool {
     let syntax = match error {
         CheckError::Model(inner) => inner,
         CheckError::Stream(StreamError::Item(inner)) => inner,
@@ -25,12 +26,36 @@ pub fn has_larger(error: &CheckError, size: Size) -> bool {
     }
 }
 
-/// The message of a refusal in a text. There is none where the refusal has no byte range.
-///
-/// # Errors
-///
-/// Out of memory.
+/// The message on the fault of a refusal in a text; none where it has no byte range, or memory runs
+/// out.
 pub fn explanation(
+    alloc: Global,
+    text: &Text<'_>,
+    error: &CheckError,
+    size: Size,
+) -> Option<Message> {
+    message_on(alloc, text, error, size).ok()?
+}
+
+/// The message on a fault of the stream of this name, of which the last is stored.
+pub fn recent_explanation(
+    alloc: Global,
+    recent: &RefCell<Recent>,
+    name: &str,
+    error: &CheckError,
+    size: Size,
+) -> Option<Message> {
+    let recent = recent.try_borrow().ok()?;
+    let (bytes, passed) = recent.kept()?;
+    let stream = Text {
+        name,
+        bytes,
+        passed,
+    };
+    explanation(alloc, &stream, error, size)
+}
+
+fn message_on(
     alloc: Global,
     text: &Text<'_>,
     error: &CheckError,
@@ -64,6 +89,25 @@ pub fn explanation(
         message.note(Phrase::of_words(alloc, LARGER)?)?;
     }
     Ok(message)
+}
+
+/// What is told of a fault of the file of this name: the message on it, where there is one, or else
+/// that there is a larger limit.
+pub fn fault_text(
+    alloc: Global,
+    error: &CheckError,
+    name: &str,
+    message: Option<&Message>,
+    size: Size,
+) -> Result<Option<String>, AllocError> {
+    if let Some(message) = message {
+        return Ok(Some(message.text(alloc)?));
+    }
+    if !has_larger(error, size) {
+        return Ok(None);
+    }
+    let wrong = meaning(error);
+    Ok(Some(format!(in alloc; "{name}: {wrong}, {LARGER}\n")?))
 }
 
 /// The text that was refused at this offset, where it is one of another form than it should have.
@@ -107,7 +151,7 @@ fn block_number(passed: Passed, error: &CheckError) -> Option<usize> {
 }
 
 /// What is wrong, in words.
-pub fn meaning(error: &CheckError) -> &'static str {
+fn meaning(error: &CheckError) -> &'static str {
     match error {
         CheckError::Model(inner) => syntax_meaning(inner),
         CheckError::Names(inner) => names_meaning(inner),

@@ -5,31 +5,41 @@ ghost use Rattle.std.specs.Prelude.{⊤};
 ghost use Rattle.fz_check.specs.Report.{by, event_line};
 
 use crate::as_json::{answer_line, explanation_lines};
-use crate::check::name_of_stream;
 use crate::events::{Counts, block_line, claim_line, cut_line, refuted_line};
-use crate::reading::read_file;
-use crate::screen::Screen;
+use crate::telling::Telling;
 use fz_check::{Answer, Event, Judged, Taker, TextTaker, Verdict};
-use fz_command::{Check, Explaining, Form};
+use fz_command::{Explaining, Form};
 use fz_explain::{Case, Explainer, Faults, Remarks, Text, Unbound};
 use fz_files::{Passed, Recent};
-use std::alloc::AllocError;
+use std::alloc::{AllocError, Global};
 use std::cell::RefCell;
 
 /// The most points of a block that are explained.
 const MOST_POINTS: usize = 100;
 
-/// The most bytes of a MiniZinc model of which a line is quoted.
-const MOST_QUOTED: u32 = 16_777_216;
+/// Who hears what is told beside the report.
+pub trait Audience {
+    /// Hears of a block.
+    fn count(&mut self, is_satisfied: bool);
 
-/// Takes the events of a check whose report is text. Explanations go to standard error.
+    /// Hears an explanation, which comes behind the lines that are written next.
+    fn add(&mut self, text: &str);
+
+    /// Looks up the line of the MiniZinc model that remarks tell of, where its file may be read.
+    fn quote(&mut self, remarks: &mut Remarks);
+
+    /// Hears that the check has ended.
+    fn end(&mut self);
+}
+
+/// Takes the events of a check whose report is text. Explanations go to the audience.
 #[derive(Drop)]
-pub struct Teller<'s, 't, 'r, 'n> {
-    rt: &'r HostRuntime,
-    asked: &'s Check<'s>,
+pub struct Teller<'s, 't, 'n, A> {
+    alloc: Global,
+    telling: Telling<'s>,
     explainer: Explainer<'t, 'n>,
     recent: &'s RefCell<Recent>,
-    screen: &'s RefCell<Screen<'r>>,
+    audience: &'s RefCell<A>,
     counts: Counts,
     /// The number and the explanation of the block that the answer so far names.
     told: Option<(usize, Faults)>,
@@ -37,21 +47,21 @@ pub struct Teller<'s, 't, 'r, 'n> {
     unconstrained: Option<Unbound>,
 }
 
-impl<'s, 't, 'r, 'n> Teller<'s, 't, 'r, 'n> {
+impl<'s, 't, 'n, A: Audience> Teller<'s, 't, 'n, A> {
     /// Before the first block. What is stored of the stream is in the cell.
     pub fn new(
-        rt: &'r HostRuntime,
-        asked: &'s Check<'s>,
+        alloc: Global,
+        telling: Telling<'s>,
         explainer: Explainer<'t, 'n>,
         recent: &'s RefCell<Recent>,
-        screen: &'s RefCell<Screen<'r>>,
-    ) -> Teller<'s, 't, 'r, 'n> {
+        audience: &'s RefCell<A>,
+    ) -> Teller<'s, 't, 'n, A> {
         Teller {
-            rt,
-            asked,
+            alloc,
+            telling,
             explainer,
             recent,
-            screen,
+            audience,
             counts: Counts::new(),
             told: None,
             unconstrained: None,
@@ -60,14 +70,13 @@ impl<'s, 't, 'r, 'n> Teller<'s, 't, 'r, 'n> {
 
     /// Ends the check. Where it has an answer, tells why the block isn't satisfied that this names,
     /// where that wasn't told before, and which printed variables nothing binds.
-    pub fn end(&mut self, has_answer: bool) {
+    pub(crate) fn end(&mut self, has_answer: bool) {
         if has_answer {
             self.add_told();
             self.add_unconstrained();
         }
-        if let Ok(mut screen) = self.screen.try_borrow_mut() {
-            screen.show();
-            screen.clear();
+        if let Ok(mut audience) = self.audience.try_borrow_mut() {
+            audience.end();
         }
     }
 
@@ -75,30 +84,30 @@ impl<'s, 't, 'r, 'n> Teller<'s, 't, 'r, 'n> {
     fn add_told(&mut self) {
         // Without memory for an explanation there is none.
         if let Some((_, faults)) = self.told.take()
-            && let Ok(text) = faults.text(self.rt.alloc())
-            && let Ok(mut screen) = self.screen.try_borrow_mut()
+            && let Ok(text) = faults.text(self.alloc)
+            && let Ok(mut audience) = self.audience.try_borrow_mut()
         {
-            screen.add(&text);
+            audience.add(&text);
         }
     }
 
     fn add_unconstrained(&self) {
-        if let Form::Text = self.asked.form
+        if let Form::Text = self.telling.form
             && let Some(printed) = &self.unconstrained
-            && let Ok(text) = printed.text(self.rt.alloc())
-            && let Ok(mut screen) = self.screen.try_borrow_mut()
+            && let Ok(text) = printed.text(self.alloc)
+            && let Ok(mut audience) = self.audience.try_borrow_mut()
         {
-            screen.add(&text);
+            audience.add(&text);
         }
     }
 
     /// Finds them at the first block, where they are to be told. Without memory none are.
     #[inline(never)]
     fn find_unconstrained(&mut self, judged: &Judged<'_, '_>) {
-        if let (Explaining::Nothing, Form::Text) = (self.asked.explains, self.asked.form) {
+        if let (Explaining::Nothing, Form::Text) = (self.telling.explains, self.telling.form) {
             return;
         }
-        if let Ok(found) = self.explainer.unconstrained(self.rt.alloc(), judged.model) {
+        if let Ok(found) = self.explainer.unconstrained(self.alloc, judged.model) {
             self.unconstrained = found;
         }
     }
@@ -133,10 +142,10 @@ impl<'s, 't, 'r, 'n> Teller<'s, 't, 'r, 'n> {
             Verdict::Violated(_) => violated == 0,
         };
         self.counts.add(&judged.verdict);
-        if let Ok(mut screen) = self.screen.try_borrow_mut() {
-            screen.count(matches!(judged.verdict, Verdict::Satisfied));
+        if let Ok(mut audience) = self.audience.try_borrow_mut() {
+            audience.count(matches!(judged.verdict, Verdict::Satisfied));
         }
-        let is_explained = match self.asked.explains {
+        let is_explained = match self.telling.explains {
             Explaining::Nothing => false,
             Explaining::Answer | Explaining::Every => is_named,
             Explaining::All => true,
@@ -155,17 +164,19 @@ impl<'s, 't, 'r, 'n> Teller<'s, 't, 'r, 'n> {
     #[inline(never)]
     fn explain(&mut self, judged: &Judged<'_, '_>) {
         self.told = None;
-        let alloc = self.rt.alloc();
-        let most = match self.asked.explains {
+        let alloc = self.alloc;
+        let most = match self.telling.explains {
             Explaining::Every => MOST_POINTS,
             Explaining::Nothing | Explaining::Answer | Explaining::All => 1,
         };
-        if let Ok(case) = case_of(name_of_stream(self.asked), self.recent, judged)
+        if let Ok(case) = case_of(self.telling.stream, self.recent, judged)
             && let Ok(Some(mut faults)) = self.explainer.faults(alloc, judged.model, &case, most)
         {
             for place in 0..faults.messages.len() {
-                if let Some(message) = faults.messages.get_mut(place) {
-                    quote(self.rt, &mut message.remarks);
+                if let Some(message) = faults.messages.get_mut(place)
+                    && let Ok(mut audience) = self.audience.try_borrow_mut()
+                {
+                    audience.quote(&mut message.remarks);
                 }
             }
             self.told = Some((judged.number, faults));
@@ -181,11 +192,11 @@ impl<'s, 't, 'r, 'n> Teller<'s, 't, 'r, 'n> {
     /// The lines of JSON of an event: with that of its explanation for a block, where each block's
     /// is told, and before the answer for the block that it names.
     fn lines(&mut self, event: &Event<'_, '_>) -> Result<Vec<u8>, AllocError> {
-        let alloc = self.rt.alloc();
+        let alloc = self.alloc;
         match event {
             Event::Block(judged) => {
                 let mut lines = self.block_line(judged)?;
-                if let Explaining::All = self.asked.explains {
+                if let Explaining::All = self.telling.explains {
                     self.add_explanation(&mut lines);
                 }
                 Ok(lines)
@@ -210,18 +221,18 @@ impl<'s, 't, 'r, 'n> Teller<'s, 't, 'r, 'n> {
     fn add_explanation(&mut self, lines: &mut Vec<u8>) {
         // Without memory for an explanation there is none.
         if let Some((number, faults)) = self.told.take()
-            && let Ok(told) = explanation_lines(self.rt.alloc(), number, &faults)
+            && let Ok(told) = explanation_lines(self.alloc, number, &faults)
         {
             let _ = lines.extend_from_slice(&told);
         }
     }
 
     fn block_line(&mut self, judged: &Judged<'_, '_>) -> Result<Vec<u8>, AllocError> {
-        let alloc = self.rt.alloc();
+        let alloc = self.alloc;
         if let Verdict::Satisfied = judged.verdict {
             return block_line(alloc, judged, None);
         }
-        let case = case_of(name_of_stream(self.asked), self.recent, judged)?;
+        let case = case_of(self.telling.stream, self.recent, judged)?;
         block_line(alloc, judged, self.explainer.place(alloc, &case)?)
     }
 }
@@ -255,27 +266,13 @@ fn case_of<'e, 'a>(
     })
 }
 
-/// Quotes the line of the MiniZinc model, where its file is there.
-fn quote(rt: &HostRuntime, remarks: &mut Remarks) {
-    let Some(source) = &remarks.source else {
-        return;
-    };
-    let text = read_file(rt, &source.file, MOST_QUOTED).ok();
-    if let Some(text) = text
-        && text.len() <= MOST_QUOTED as usize
-    {
-        // Without memory for it there is no quote.
-        let _ = remarks.read(rt.alloc(), &text);
-    }
-}
-
-impl Taker for Teller<'_, '_, '_, '_> {
+impl<A: Audience> Taker for Teller<'_, '_, '_, A> {
     ghost text = { by event_line };
 
     fn take(&mut self, event: &Event<'_, '_>, line: &mut Vec<u8>) -> Result<(), AllocError> {
         TextTaker.take(event, line)?;
         self.hear(event);
-        if let Explaining::All = self.asked.explains {
+        if let Explaining::All = self.telling.explains {
             self.add_told();
         }
         Ok(())
@@ -284,11 +281,11 @@ impl Taker for Teller<'_, '_, '_, '_> {
 
 /// Takes the events of a check whose report is JSON, explanations included.
 #[derive(Drop)]
-pub struct JsonTeller<'s, 't, 'r, 'n> {
-    pub teller: Teller<'s, 't, 'r, 'n>,
+pub(crate) struct JsonTeller<'s, 't, 'n, A> {
+    pub(crate) teller: Teller<'s, 't, 'n, A>,
 }
 
-impl Taker for JsonTeller<'_, '_, '_, '_> {
+impl<A: Audience> Taker for JsonTeller<'_, '_, '_, A> {
     ghost text = { λ _ _. ⊤ };
 
     fn take(&mut self, event: &Event<'_, '_>, line: &mut Vec<u8>) -> Result<(), AllocError> {
