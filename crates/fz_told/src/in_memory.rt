@@ -43,12 +43,18 @@ impl Audience for Notes {
 }
 
 impl Notes {
+    pub fn new(alloc: Global) -> Notes {
+        Notes {
+            text: Vec::new(alloc),
+        }
+    }
+
     /// Adds the line of a refusal and, where the place of a fault is told, the message on it.
     ///
     /// # Errors
     ///
     /// Out of memory.
-    pub fn add_refusal(
+    fn add_refusal(
         &mut self,
         alloc: Global,
         error: &CheckError,
@@ -92,11 +98,7 @@ pub fn check_in_memory(
     ensures refused { IfErr result (IsRefusedInMemory options.entry telling.entry.form model.now
         stream.now report.old.items report.new.items) }
 {
-    let text = Text {
-        name: MODEL,
-        bytes: model,
-        passed: NOTHING,
-    };
+    let text = text_of(model);
     match read_model(alloc, model, options.limits) {
         Ok(loaded) => check_model(
             alloc, &loaded, text, stream, options, telling, report, notes,
@@ -118,6 +120,42 @@ pub fn check_in_memory(
             );
             Err(error)
         }
+    }
+}
+
+/// Tells why a model isn't shown.
+pub fn refuse_model(
+    alloc: Global,
+    model: &[u8],
+    error: &CheckError,
+    telling: Telling<'_>,
+    notes: &RefCell<Notes>,
+) {
+    let text = text_of(model);
+    let message = model_message(alloc, &text, error, telling);
+    note_refusal(alloc, error, MODEL, message.as_ref(), telling, notes);
+}
+
+/// A model's text, by its name in messages.
+fn text_of(model: &[u8]) -> Text<'_> {
+    Text {
+        name: MODEL,
+        bytes: model,
+        passed: NOTHING,
+    }
+}
+
+/// The message on a fault of the model, where the place of one is told.
+fn model_message(
+    alloc: Global,
+    text: &Text<'_>,
+    error: &CheckError,
+    telling: Telling<'_>,
+) -> Option<Message> {
+    if is_explained(telling) {
+        explanation(alloc, text, error, telling.size)
+    } else {
+        None
     }
 }
 
@@ -249,8 +287,19 @@ fn tell_refusal(
     {
         let _ = report.extend_from_slice(&line);
     }
+    note_refusal(alloc, error, name, message, telling, notes);
+}
+
+/// Tells of a refusal in the notes. Without memory for it there is none.
+fn note_refusal(
+    alloc: Global,
+    error: &CheckError,
+    name: &str,
+    message: Option<&Message>,
+    telling: Telling<'_>,
+    notes: &RefCell<Notes>,
+) {
     if let Ok(mut notes) = notes.try_borrow_mut() {
-        // Without memory for it there is no note.
         let _ = notes.add_refusal(alloc, error, name, message, telling);
     }
 }

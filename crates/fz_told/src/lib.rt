@@ -15,6 +15,6 @@ mod telling;
 pub use as_json::{names_line, refusal_line};
 pub use events::unread_line;
 pub use explain::{explanation, fault_text, recent_explanation};
-pub use in_memory::{Notes, check_in_memory};
+pub use in_memory::{Notes, check_in_memory, refuse_model};
 pub use teller::{Audience, Teller};
 pub use telling::{Telling, check_told};

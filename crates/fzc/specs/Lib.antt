@@ -1,0 +1,3 @@
+pub mod Asked
+pub mod Filled
+pub mod Judged
