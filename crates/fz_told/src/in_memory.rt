@@ -98,7 +98,7 @@ pub fn check_in_memory(
     ensures refused { IfErr result (IsRefusedInMemory options.entry telling.entry.form model.now
         stream.now report.old.items report.new.items) }
 {
-    let text = text_of(model);
+    let text = model_text(model);
     match read_model(alloc, model, options.limits) {
         Ok(loaded) => check_model(
             alloc, &loaded, text, stream, options, telling, report, notes,
@@ -131,13 +131,13 @@ pub fn refuse_model(
     telling: Telling<'_>,
     notes: &RefCell<Notes>,
 ) {
-    let text = text_of(model);
+    let text = model_text(model);
     let message = model_message(alloc, &text, error, telling);
     note_refusal(alloc, error, MODEL, message.as_ref(), telling, notes);
 }
 
 /// A model's text, by its name in messages.
-fn text_of(model: &[u8]) -> Text<'_> {
+fn model_text(model: &[u8]) -> Text<'_> {
     Text {
         name: MODEL,
         bytes: model,

@@ -5,6 +5,7 @@ use fz_command::{
     Check, Explaining, Form, Judging, Refused, Request, Size, USAGE, read_words as read_command,
 };
 use std::alloc::{AllocError, Global};
+use std::io::Write;
 
 /// What is asked of a check. C has the same struct.
 #[repr(C)]
@@ -51,12 +52,12 @@ pub fn read_words(alloc: Global, words: &[u8], asked: &mut Asked, notes: &mut Ve
 
 /// Tells what is wrong as the program does, and gives the status.
 fn tell(refused: &Refused, notes: &mut Vec<u8>) -> u8 {
-    let wrong = match refused {
-        Refused::Wrong(wrong) => wrong.as_str(),
-        Refused::Help | Refused::Version => "",
+    let outcome = match refused {
+        Refused::Wrong(wrong) => writeln!(notes, "{USAGE}\n{wrong}"),
+        Refused::Help | Refused::Version => writeln!(notes, "{USAGE}"),
         Refused::Memory => return NO_MEMORY,
     };
-    match writeln!(notes, "{USAGE}\n{wrong}") {
+    match outcome {
         Ok(()) => WRONG,
         Err(_) => NO_MEMORY,
     }

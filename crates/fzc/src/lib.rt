@@ -23,6 +23,7 @@ use std::cell::RefCell;
 
 /// How many bytes there are to tell. Where there is less room, none are written.
 #[repr(C)]
+#[derive(Clone, Copy)]
 pub struct Sizes {
     pub report: usize,
     pub notes: usize,
