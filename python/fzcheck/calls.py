@@ -1,4 +1,4 @@
-"""Runs the program `fzcheck`, and gives what it reports as values."""
+"""Runs the program `fzcheck`, or calls it as a library, and gives what it reports as values."""
 import contextlib
 import os
 import re
@@ -6,7 +6,7 @@ import signal
 import subprocess
 from typing import Dict, Iterable, Iterator, List, NamedTuple, Optional, Sequence, Type, Union
 
-from fzcheck import lines
+from fzcheck import library, lines
 from fzcheck.common import NotInstalled, needed_program
 from fzcheck.lines import Object
 from fzcheck.report import Report, Status, objects_of
@@ -142,8 +142,9 @@ def version_words(companion: str) -> str:
 def reported(model: Source, stream: Source, words: Sequence[Word] = (),
              timeout: Optional[float] = None) -> Report:
     """What a check with these words reports, whatever its status is."""
-    ran = _ran(["check", "--json", *words, "--", word_of(model, "<model>"),
-                word_of(stream, "<stream>")], timeout)
+    texts = word_of(model, "<model>"), word_of(stream, "<stream>")
+    ran = _called(words, *texts) if timeout is None else None
+    ran = ran or _ran(["check", "--json", *words, "--", *texts], timeout)
     try:
         objects = objects_of(ran.output)
     except ValueError:
@@ -195,8 +196,19 @@ def in_memory(text: bytes) -> Iterator[int]:
         os.close(number)
 
 
+def _called(words: Sequence[Word], model: Word, stream: Word) -> Optional[Ran]:
+    """What the library tells of a check, where it is installed and no file is named."""
+    options = [it for it in words if isinstance(it, str)]
+    if isinstance(model, str) or isinstance(stream, str) or len(options) < len(words):
+        return None
+    told = library.checked(["--json", *options], model.data, stream.data)
+    if told is None or told[0] == Status.WRONG_WORDS:  # the program takes words that name files
+        return None
+    return Ran(told[0], told[1], told[2].decode(errors="replace"))
+
+
 def _ran(words: Sequence[Word], timeout: Optional[float]) -> Ran:
-    """Runs the program. All is asked of it here, so that another way can take its place."""
+    """Runs the program."""
     names: Dict[bytes, bytes] = {}
     with contextlib.ExitStack() as files:
         told = [needed_program()]

@@ -51,6 +51,17 @@ def program_places() -> Iterator[str]:
     yield os.environ.get("PATH", "")
 
 
+def library_path() -> Optional[str]:
+    """The library `libfzcheck.so`: what FZCHECK_LIBRARY names, or the one that was installed with
+    this module; none where FZCHECK names a program."""
+    if "FZCHECK_LIBRARY" in os.environ or "FZCHECK" in os.environ:
+        return os.environ.get("FZCHECK_LIBRARY") or None
+    prefix = os.path.dirname(os.path.dirname(MODULES))
+    places = (os.path.join(MODULES, "fzcheck"), os.path.join(prefix, "lib"))
+    paths = (os.path.join(place, "libfzcheck.so") for place in places)
+    return next(filter(os.path.exists, paths), None)
+
+
 def companion(name: str) -> str:
     """The path of a companion."""
     places = [MODULES, *(os.path.join(folder, "bin") for folder in BY_PIP)]
