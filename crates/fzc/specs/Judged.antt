@@ -13,7 +13,7 @@ use Rattle.fz_check.specs.View.{answer_view}
 use Rattle.fz_told.specs.InMemory.{IsRefusedInMemory}
 use Rattle.fz_told.specs.Telling.{text_of}
 use Rattle.fzc.specs.declared.asking.Asked.{Asked}
-use Rattle.fzc.specs.Asked.{AreAsked, form_of, large_limits}
+use Rattle.fzc.specs.Asked.{AreAsked, asked_form, large_limits}
 
 -- The blocks of the stream, but for one that is cut off, have solutions, each better than the one
 -- before.
@@ -32,7 +32,7 @@ pub record IsAnswered (a : Asked) (model stream : List ℕ) (status : ℕ) (byte
   pub answer : Answer
   pub status_is : status ≡ status_of (Ok answer)
   pub report : HoldsOfJudged options.limits options.ending stream
-      (λ front cut. IsReportedWith options cut (text_of (form_of a)) model front (Some [])
+      (λ front cut. IsReportedWith options cut (text_of (asked_form a)) model front (Some [])
       (Some bytes) (answer_view answer))
 
 -- The check ended with an error of this status, and these bytes were told before it.
@@ -42,7 +42,7 @@ pub record IsEnded (a : Asked) (model stream : List ℕ) (status : ℕ) (bytes :
   pub asked : AreAsked a options
   pub error : CheckError
   pub status_is : status ≡ status_of (Err error)
-  pub refused : IsRefusedInMemory options (form_of a) model stream [] bytes error
+  pub refused : IsRefusedInMemory options (asked_form a) model stream [] bytes error
 
 -- The bytes are the canonical text of the model, or that in which all variables are printed.
 abbrev pub IsTextOf : Bool → List ℕ → List ℕ → Type 0

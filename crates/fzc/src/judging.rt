@@ -1,7 +1,11 @@
 //! Checks and shows what is in memory.
 
-ghost use Rattle.std.specs.Prelude.{◌≡◌, ◌≢◌, ◌≤◌, ◌<◌, []};
-ghost use Rattle.fzc.specs.Asked.{AreAsked, form_of};
+ghost use Rattle.std.specs.Prelude.{◌≡◌, ◌≢◌, ◌≤◌, ◌<◌, [], cond};
+ghost use Rattle.fz_tree.specs.Spanned.{standard_limits};
+ghost use Rattle.fz_filling.specs.declared.completion.Completion.TheVariants.{On, Off};
+ghost use Rattle.fz_check.specs.declared.options.Ending.TheVariants.{Whole, Cut};
+ghost use Rattle.fz_command.specs.declared.words.Form.TheVariants.{Text, Json};
+ghost use Rattle.fzc.specs.Asked.{AreAsked, AreJudgedAs, asked_form, large_limits};
 ghost use Rattle.fzc.specs.Judged.{IsAccepted, IsAnswered, IsEnded, IsNotShown, IsTextOf};
 
 use crate::asking::Asked;
@@ -79,50 +83,77 @@ fn options_of(asked: &Asked) -> Options<'static>
     ensures { AreAsked asked.now result }
 {
     Options {
-        completion: if asked.completes {
-            Completion::On
-        } else {
-            Completion::Off
-        },
+        completion: completion_of(asked.completes),
         steps: asked.steps,
-        ending: if asked.cuts {
-            Ending::Cut
-        } else {
-            Ending::Whole
-        },
-        claims: match asked.claims {
-            0 => Claims::NotJudged,
-            1 => Claims::Judged(Known::nothing(), Proofs::Off),
-            _ => Claims::Judged(Known::nothing(), Proofs::On(&[])),
-        },
-        limits: if asked.is_large {
-            Limits::LARGE
-        } else {
-            Limits::STANDARD
-        },
+        ending: ending_of(asked.cuts),
+        claims: claims_of(asked.claims),
+        limits: limits_of(asked.is_large),
+    }
+}
+
+fn completion_of(completes: bool) -> Completion
+    ensures { result ≡ cond completes On Off }
+{
+    if completes {
+        Completion::On
+    } else {
+        Completion::Off
+    }
+}
+
+fn ending_of(cuts: bool) -> Ending
+    ensures { result ≡ cond cuts Cut Whole }
+{
+    if cuts { Ending::Cut } else { Ending::Whole }
+}
+
+fn limits_of(is_large: bool) -> Limits
+    ensures { result ≡ cond is_large large_limits standard_limits }
+{
+    if is_large {
+        Limits::LARGE
+    } else {
+        Limits::STANDARD
+    }
+}
+
+/// Whether claims are judged, by no other stream, and whether they are proved too.
+fn claims_of(claims: u8) -> Claims<'static>
+    ensures { AreJudgedAs claims result }
+{
+    match claims {
+        0 => Claims::NotJudged,
+        1 => Claims::Judged(Known::nothing(), Proofs::Off),
+        _ => Claims::Judged(Known::nothing(), Proofs::On(&[])),
     }
 }
 
 fn telling_of(asked: &Asked) -> Telling<'static>
-    ensures { result.form ≡ form_of asked.now }
+    ensures { result.form ≡ asked_form asked.now }
 {
     Telling {
         stream: STREAM,
-        explains: match asked.explains {
-            0 => Explaining::Nothing,
-            1 => Explaining::Answer,
-            2 => Explaining::Every,
-            _ => Explaining::All,
-        },
-        form: if asked.is_json {
-            Form::Json
-        } else {
-            Form::Text
-        },
+        explains: explaining_of(asked.explains),
+        form: form_of(asked.is_json),
         size: if asked.is_large {
             Size::Large
         } else {
             Size::Standard
         },
     }
+}
+
+fn explaining_of(explains: u8) -> Explaining {
+    match explains {
+        0 => Explaining::Nothing,
+        1 => Explaining::Answer,
+        2 => Explaining::Every,
+        _ => Explaining::All,
+    }
+}
+
+fn form_of(is_json: bool) -> Form
+    ensures { result ≡ cond is_json Json Text }
+{
+    if is_json { Form::Json } else { Form::Text }
 }
