@@ -17,11 +17,14 @@
 #                  20,000 damaged blocks and the claims of 10,000 random models, by SEED
 # make wrong       tries the wrong bodies of tests/wrong, of the crates in ONLY (all): the prover
 #                  has to refuse each. It begins with what make kept
+# make library     proves and builds the C library: build/libfzcheck.a and .so, for fzcheck.h in
+#                  library/
 # make bench       measures the built program beside the plain program in plain/ (some minutes), or
 #                  with SIZE=500 on models of 500 MB
 # make install     puts the program, its companions, manual pages, completions, minizinc/, documents
-#                  and examples in place, below PREFIX (/usr/local). It builds nothing. With
-#                  PYTHON_MODULES=FOLDER Python finds the module fzcheck in that folder
+#                  and examples in place, below PREFIX (/usr/local), and the C library, where make
+#                  library or make gate made it. It builds nothing. With PYTHON_MODULES=FOLDER Python
+#                  finds the module fzcheck in that folder
 # make dist        packs all that, with a receipt of what was proved, as a tar, as a package for
 #                  Debian 12 and as one for Python's pip, in build/
 # make fmt         lays out the sources
@@ -40,7 +43,7 @@ SEED ?= $(shell date +%s)
 NEEDS_RT = command -v rt >/dev/null || { echo "This needs the Rattle toolchain:" \
   "put its folder bin, which has rt, on the PATH." >&2; exit 1; }
 
-.PHONY: all quick test gate prove corpus fuzz wrong bench install dist fmt clean
+.PHONY: all quick test gate prove corpus fuzz wrong library bench install dist fmt clean
 
 all: build/fzcheck
 
@@ -65,7 +68,20 @@ gate:
 	@tail -n 1 build/log | grep -q "^proved by"
 	cp crates/fzcheck/out/fzcheck crates/fz_hostile/out/fz_hostile build
 	sha256sum build/fzcheck build/fz_hostile >>build/log
+	cd crates/fzc && rt lib
+	cp build/log build/log.library
+	tools/library.py crates/fzc/out/libfzc.a build
+	sha256sum build/libfzcheck.a build/libfzcheck.so >>build/log.library
 	tests/run.py gate --jobs $(JOBS)
+
+library: build/libfzcheck.so
+
+build/libfzcheck.so: $(SOURCES) $(wildcard library/*)
+	@$(NEEDS_RT)
+	@mkdir -p build
+	tools/prove.py fzc build/log.library $(JOBS)
+	tools/library.py crates/fzc/out/libfzc.a build
+	sha256sum build/libfzcheck.a build/libfzcheck.so >>build/log.library
 
 test corpus:
 	@tests/run.py $@ --jobs $(JOBS) --only "$(ONLY)"
@@ -105,6 +121,10 @@ install:
 	@tools/sources.py fzcheck || { echo "Nothing is installed: run make first, or install a" \
 	  "package, which make dist makes" >&2; exit 1; }
 	install -D -t $(DESTDIR)$(PREFIX)/bin build/fzcheck
+	if tools/sources.py libfzcheck.so; then \
+	  install -D -m 644 -t $(DESTDIR)$(PREFIX)/include library/fzcheck.h; \
+	  install -D -m 644 -t $(DESTDIR)$(PREFIX)/lib build/libfzcheck.a build/libfzcheck.so; \
+	  install -D -m 644 -t $(DESTDIR)$(PREFIX)/lib/pkgconfig build/fzcheck.pc; fi
 	install -D -t $(SHARE)/fzcheck $(COMPANIONS)
 	cd python && find fzcheck -name '*.py' -o -name '*.html' -o -name py.typed | \
 	  xargs -I{} install -D -m 644 {} $(SHARE)/fzcheck/{}

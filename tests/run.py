@@ -22,7 +22,7 @@ from typing import Dict, List, NamedTuple, Optional, Tuple
 
 ROOT = os.path.dirname(os.path.dirname(os.path.abspath(__file__)))
 sys.path.insert(0, f"{ROOT}/tools")
-from sources import why_unproved
+from sources import LIBRARY, why_unproved
 from unproved import build_all
 
 PROGRAMS = ("fzcheck", "fz_hostile")
@@ -33,7 +33,8 @@ COUNT = re.compile(r"^(\d+) passed, (\d+) failed\n?\Z", re.M)
 class Test(NamedTuple):
     """A script with its words, and its seconds of one processor, more or less. Words in braces are
     paths; {log} tells what was proved, and is left out if nothing was. Of what a test needs, `log`
-    is that proof, `root` the superuser, and each other a program on the path."""
+    is that proof, `library` the C library, `root` the superuser, and each other a program on the
+    path."""
 
     name: str
     words: str
@@ -61,6 +62,7 @@ TESTS = [
     Test("package", "tests/package.py {fzcheck} {log}", 10),
     Test("as_json", "tests/as_json.py {fzcheck}", 10),
     Test("module", "tests/module.py {fzcheck}", 10),
+    Test("library", "tests/library.py {fzcheck} build", 60, "cc library"),
     Test("broken", "tests/broken/run.py {fzcheck}", 5),
     Test("completions", "tests/completions.py {fzcheck}", 2),
     Test("typed", "tests/typed.py", 30, "mypy"),
@@ -132,6 +134,9 @@ def lacking(test: Test, is_proved: bool) -> Optional[str]:
         if need == "log":
             if not is_proved:
                 return "nothing was proved"
+        elif need == "library":
+            if why_unproved(LIBRARY):
+                return "make library didn't make it of these sources"
         elif need == "root":
             if os.geteuid() != 0:
                 return "this isn't root"

@@ -18,7 +18,7 @@ TYPED = (
     "tools/*.py",
     """tests/as_json.py tests/batch.py tests/completions.py tests/debian.py tests/documented.py
     tests/documents.py tests/expecting.py tests/fuzz.py tests/headline.py tests/hosts.py
-    tests/inside.py tests/minizinc.py tests/module.py tests/package.py tests/run.py
+    tests/inside.py tests/library.py tests/minizinc.py tests/module.py tests/package.py tests/run.py
     tests/season.py tests/solver.py tests/transcripts.py tests/typed.py tests/wrong.py""",
     "tests/program/run.py",
     "tests/cases/*.py",

@@ -20,8 +20,8 @@ import time
 import zipfile
 from typing import Dict, List, NoReturn, Tuple
 
-from receipt import Receipt, git, proved_crates
-from sources import ROOT, sum_of_file, text_of, why_unproved
+from receipt import Crate, Receipt, git, proved_crates
+from sources import LIBRARY, LIBRARY_LOG, ROOT, sum_of_file, text_of, why_unproved
 
 BUILD = f"{ROOT}/build"
 PROGRAM = f"{BUILD}/fzcheck"
@@ -73,7 +73,7 @@ OF_WHEEL = (("bin/fzcheck", "scripts/fzcheck"), ("share/fzcheck/fzcheck-", "scri
             ("share/man/", "data/share/man/"),
             (f"{DOCUMENTS}/RECEIPT", f"data/{DOCUMENTS}/RECEIPT"),
             (f"{DOCUMENTS}/LICENSE", f"data/{DOCUMENTS}/LICENSE"))
-MODULES = "share/fzcheck/fzcheck/"
+MODULES, OF_LIBRARY = "share/fzcheck/fzcheck/", f"lib/{LIBRARY}"
 
 
 def fail(why: str) -> NoReturn:
@@ -97,7 +97,16 @@ def receipt_of(log: str) -> Receipt:
     status = git("status", "--porcelain", "--untracked-files=no") or ""
     return Receipt(version, git("rev-parse", "HEAD") or "unknown",
                    [line[3:] for line in status.splitlines()], one_line(log, "toolchain"),
-                   one_line(log, "proved by"), sum_of_file(PROGRAM), proved_crates(log))
+                   one_line(log, "proved by"), sum_of_file(PROGRAM), *of_library(log))
+
+
+def of_library(log: str) -> Tuple[str, Dict[str, Crate]]:
+    """The sum of the library, where it is packed, and what was proved of all that is packed."""
+    crates = proved_crates(log, "fzcheck")
+    if why_unproved(LIBRARY):
+        return "", crates
+    others = proved_crates(text_of(LIBRARY_LOG), "fzc")
+    return sum_of_file(f"{BUILD}/{LIBRARY}"), {**others, **crates}
 
 
 def read(path: str) -> bytes:
@@ -205,6 +214,8 @@ class Wheel:
         """A file that `make install` puts below its prefix."""
         if path.startswith(MODULES):
             self.add(path.replace(MODULES, "fzcheck/"), data)
+        if path == OF_LIBRARY:
+            self.add(f"fzcheck/{LIBRARY}", data)
         for start, place in OF_WHEEL:
             if path.startswith(start):
                 is_program = place.startswith("scripts/")

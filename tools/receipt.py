@@ -52,12 +52,14 @@ class Receipt(NamedTuple):
     toolchain: str
     proved_by: str
     program: str
+    library: str  # the sum of libfzcheck.so, or empty where it isn't packed
     crates: Dict[str, Crate]
 
     def text(self) -> str:
         fields = [("version", self.version), ("commit", self.commit),
                   *(("changed", path) for path in self.changed), ("toolchain", self.toolchain),
-                  ("proved-by", self.proved_by), ("program", self.program)]
+                  ("proved-by", self.proved_by), ("program", self.program),
+                  *(("library", it) for it in (self.library,) if it)]
         head = "".join(f"{name}: {value}\n" for name, value in fields)
         return f"{HEAD}\n{head}" + "".join(
             f"\ncrate: {line}\nsources: {sources}\nverdict: {verdict}\n"
@@ -74,12 +76,13 @@ def read_receipt(text: str) -> Receipt:
         raise ValueError("it isn't a receipt")
     version, commit, made_with, proved_by, program = (found[0] for found in one)
     return Receipt(version, commit, fields("changed"), made_with, proved_by, program,
-                   {crate[0].split(":")[0]: Crate(*crate) for crate in crates})
+                   "".join(fields("library")),
+                   {re.split("[ :]", crate[0])[0]: Crate(*crate) for crate in crates})
 
 
-def proved_crates(log: str) -> Dict[str, Crate]:
+def proved_crates(log: str, top: str) -> Dict[str, Crate]:
     """What a log of tools/prove.py, or of `rt ci` behind tools/sources.py, tells of each crate that
-    the program stands on."""
+    a program stands on."""
     sums = dict(re.findall(r"^sources (\w+) (\w{64})$", log, re.M))
     said = dict(re.findall(r"^== (\w+)\n(.*?)(?=^== |\Z)", log, re.M | re.S))
     kept = dict(KEPT.findall(log))
@@ -90,7 +93,12 @@ def proved_crates(log: str) -> Dict[str, Crate]:
         return found[-1] if found else kept.get(name, SILENT)
 
     return {name: Crate(line, sums.get(name, ""), verdict(name))
-            for name, line in crates_below("fzcheck").items()}
+            for name, line in crates_below(top).items()}
+
+
+def packed_crates(receipt: Receipt) -> Dict[str, str]:
+    """The lines of crates.txt here of the crates that are in such a package."""
+    return {**crates_below("fzcheck"), **(crates_below("fzc") if receipt.library else {})}
 
 
 def git(*words: str) -> Optional[str]:
@@ -135,7 +143,7 @@ def changed_files(commit: str, name: str) -> List[str]:
 
 def differing(receipt: Receipt) -> Iterator[str]:
     """The crates that aren't here what they are in the receipt."""
-    here = crates_below("fzcheck")
+    here = packed_crates(receipt)
     for name in [*receipt.crates, *(it for it in here if it not in receipt.crates)]:
         crate = receipt.crates.get(name)
         if crate is None:
@@ -161,7 +169,7 @@ def told_of_verdicts(receipt: Receipt) -> Iterator[str]:
 
 
 def told_of_sources(receipt: Receipt, differ: List[str]) -> Iterator[str]:
-    count = len({*receipt.crates, *crates_below("fzcheck")})
+    count = len({*receipt.crates, *packed_crates(receipt)})
     yield f"sources: {count - len(differ)} of {count} crates agree"
     yield from (f"  {line}" for line in differ)
 

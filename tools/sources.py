@@ -20,6 +20,7 @@ from typing import Dict, List, Optional
 
 ROOT = os.path.dirname(os.path.dirname(os.path.abspath(__file__)))
 PARTS = ("src", "specs", "proofs")
+LIBRARY, LIBRARY_LOG = "libfzcheck.so", f"{ROOT}/build/log.library"
 
 
 def text_of(path: str) -> str:
@@ -46,8 +47,8 @@ def sum_of_sources(folder: str) -> str:
 
 def crate_lines() -> Dict[str, str]:
     """The lines of crates.txt, by their crates."""
-    lines: List[str] = re.findall(r"^\w+:.*$", text_of(f"{ROOT}/crates.txt"), re.M)
-    return {line.split(":")[0]: line for line in lines}
+    lines: List[str] = re.findall(r"^\w+(?: staticlib)?:.*$", text_of(f"{ROOT}/crates.txt"), re.M)
+    return {re.split("[ :]", line)[0]: line for line in lines}
 
 
 def crates_below(program: str) -> Dict[str, str]:
@@ -71,15 +72,17 @@ def toolchain() -> str:
 
 
 def why_unproved(program: str) -> Optional[str]:
-    """Why build/log doesn't tell that a program in build/ was proved of these sources, if so."""
-    path, log = f"{ROOT}/build/{program}", f"{ROOT}/build/log"
+    """Why the log in build/ doesn't tell that a program in build/, or the library, was proved of
+    these sources, if so."""
+    top, log = ("fzc", LIBRARY_LOG) if program == LIBRARY else (program, f"{ROOT}/build/log")
+    path = f"{ROOT}/build/{program}"
     if not os.path.exists(path) or not os.path.exists(log):
         return f"there is no build/{program}, with its log"
     told = text_of(log)
     if not re.search("^proved by ", told, re.M):
         return "the log doesn't tell what was proved"
     sums = dict(re.findall(r"^sources (\w+) (\w{64})$", told, re.M))
-    changed = [name for name in crates_below(program)
+    changed = [name for name in crates_below(top)
                if sums.get(name) != sum_of_sources(f"{ROOT}/crates/{name}")]
     if changed:
         return f"the sources of {' '.join(changed)} aren't those that were proved"
