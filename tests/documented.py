@@ -5,6 +5,8 @@
 
 Each name in back quotes of PAGES has to stand somewhere outside the documents, and each number that
 COUNTS describes has to be what is counted. With --mend the numbers are written into the documents.
+Each function that docs/WORKED.md names has to be in the file beside it, and each definition that it
+quotes in the file named before it.
 """
 import os
 import pathlib
@@ -13,16 +15,21 @@ import sys
 from typing import Callable, Iterator, List, NamedTuple, Set
 
 ROOT = pathlib.Path(os.path.abspath(__file__)).parent.parent
-PAGES = ("docs/PROOFS.md", "docs/ARCHITECTURE.md", "docs/THEOREM.md", "docs/CONTRIBUTING.md",
-         "docs/WORKED.md", "CONTRIBUTING.md")
+PAGES = ("docs/PROOFS.md", "docs/ARCHITECTURE.md", "docs/THEOREM.md", "docs/WORKED.md",
+         "docs/DECISIONS.md", "docs/TESTING.md", "docs/GUIDE.md", "docs/FILLING.md",
+         "docs/LIMITATIONS.md", "docs/PERFORMANCE.md", "CONTRIBUTING.md")
 QUOTED = re.compile(r"`([^`\n]+)`")
 WORD = re.compile(r"[^\W\d]\w*")
+STEP = re.compile(r"^\| .* \| `(\w+/src/[\w/]+\.rt)` \| (.*) \|$", re.M)
+DEFINITION = re.compile(r"`(crates/[\w/]+\.antt)`(?:(?!\n\n)[^$])*:\n\n((?:    .*\n)+)")
 SOURCES = ("crates", "tests", "tools", "python", "examples", "bench", "minizinc", "completions",
            "plain", "Makefile", "crates.txt", ".ci")
 BUILT = {"out", "build", "target", "__pycache__"}
 # Words of the toolchain and of the system, which the tree needn't have.
-OUTSIDE = set("""antt apt cc debootstrap git rlib sshd subst strace ttt trace PID tidy plant
-fz_x of_x PERFORMANCE PROOFS FUNCTION DECISIONS""".split())
+OUTSIDE = set("""antt apt cc debootstrap git rlib sshd subst strace ttt trace tidy plant
+fz_x of_x""".split())
+# What a reader puts a word of his own in place of, and the documents themselves.
+PLACEHOLDER = re.compile(r"[A-Z]+(_imp|_reif)?")
 
 
 class Count(NamedTuple):
@@ -84,7 +91,8 @@ def words_of_tree() -> Set[str]:
 
 def unknown_names(page: str, known: Set[str]) -> Iterator[str]:
     for quoted in sorted(set(QUOTED.findall(text(page)))):
-        missing = sorted(set(WORD.findall(quoted)) - known - OUTSIDE)
+        missing = sorted(word for word in set(WORD.findall(quoted)) - known - OUTSIDE
+                         if not PLACEHOLDER.fullmatch(word))
         if missing:
             yield f"{page}: `{quoted}`: {', '.join(missing)} isn't in the tree"
 
@@ -100,14 +108,23 @@ def wrong_counts(mends: bool) -> Iterator[str]:
             (ROOT / count.page).write_text(page, encoding="utf-8")
 
 
+def wrong_steps(page: str) -> Iterator[str]:
+    for path, functions in STEP.findall(text(page)):
+        for name in QUOTED.findall(functions):
+            if not re.search(rf"\bfn {name}\b", text(f"crates/{path}")):
+                yield f"{page}: {path} has no function {name}"
+    for path, quoted in DEFINITION.findall(text(page)):
+        if re.sub("^    ", "", quoted, flags=re.M) not in text(path):
+            yield f"{page}: {path} hasn't the definition that is quoted"
+
+
 def main(words: List[str]) -> int:
     known = words_of_tree()
-    faults = list(wrong_counts("--mend" in words))
-    pages = [page for page in PAGES if (ROOT / page).exists()]
-    faults += [fault for page in pages for fault in unknown_names(page, known)]
+    faults = [*wrong_counts("--mend" in words), *wrong_steps("docs/WORKED.md")]
+    faults += [fault for page in PAGES for fault in unknown_names(page, known)]
     for fault in faults:
         print(f"failed: {fault}")
-    checked = len(COUNTS) + sum(len(set(QUOTED.findall(text(page)))) for page in pages)
+    checked = len(COUNTS) + sum(len(set(QUOTED.findall(text(page)))) for page in PAGES)
     print(f"{checked - len(faults)} passed, {len(faults)} failed")
     return int(bool(faults))
 

@@ -16,7 +16,8 @@ import tempfile
 from typing import Dict, Iterator, NamedTuple
 
 ROOT = os.path.dirname(os.path.dirname(os.path.abspath(__file__)))
-PAGES = {"README.md": "examples/plan", "docs/GUIDE.md": "examples/jobs"}
+PAGES = {"README.md": "examples/plan", "docs/GUIDE.md": "examples/jobs",
+         "docs/WORKED.md": "examples"}
 BLOCK = re.compile(r"^    \$ (.*)\n((?:    (?!\$ ).*\n|\n(?=    (?!\$ )))*)", re.M)
 
 

@@ -6,7 +6,7 @@ use crate::names::{read_table, table_of};
 use crate::options::{completion_of, limits_of, options_of};
 use crate::reading::{Unread, most_bytes, open_file, read_whole};
 use crate::refusing::{refuse, refuse_file, unread_text};
-use crate::screen::{Report, Screen};
+use crate::screen::{Counted, Report, Screen};
 use crate::tree::{branches_of, read_tree};
 use fz_check::{Answer, CheckError, Claims, Model, read_model, status};
 use fz_command::{Check, Explaining, Form};
@@ -122,7 +122,12 @@ fn check_stream<S: Read + Drop>(
     };
     let explainer = Explainer::new(text, names, completion_of(asked.completes));
     let teller = Teller::new(rt.alloc(), telling_of(asked), explainer, &recent, &screen);
-    let mut stream = Recorder::new(stream, stored);
+    let reader = stream;
+    let counted = Counted {
+        reader,
+        screen: &screen,
+    };
+    let mut stream = Recorder::new(counted, stored);
     match check_to(rt, asked, model, claims, &mut stream, &screen, teller) {
         Ok(answer) => status(&Ok(answer)),
         Err(CheckError::Read) => {

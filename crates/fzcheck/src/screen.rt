@@ -1,13 +1,16 @@
 //! What a person sees beside the report, on standard error: messages, and how far the check is. The
 //! report is on standard output.
 
+ghost use Rattle.std.specs.Io.{ReadsAtMost};
+ghost use Rattle.std.specs.Io.KnownBytes.{ReadConsumes};
+
 use crate::reading::read_file;
 use fz_explain::Remarks;
 use fz_files::{Progress, coloured, has_colours};
 use fz_told::Audience;
 use std::cell::RefCell;
 use std::io;
-use std::io::{Stdout, Write};
+use std::io::{Read, Stdout, Write};
 
 /// The most bytes of a MiniZinc model of which a line is quoted.
 const MOST_QUOTED: u32 = 16_777_216;
@@ -39,6 +42,11 @@ impl<'r> Screen<'r> {
             progress: Progress::new(rt),
             waiting: String::new(rt.alloc()),
         }
+    }
+
+    /// Counts bytes that were read of the stream.
+    pub fn count_read(&mut self, count: usize) {
+        self.progress.note_read(count);
     }
 
     /// Shows the explanations that wait.
@@ -100,5 +108,28 @@ impl Write for Report<'_, '_> {
 
     fn flush(&mut self) -> io::Result<()> {
         self.out.flush()
+    }
+}
+
+/// A reader that gives what another one gives, and counts it on the line of progress.
+#[derive(Drop)]
+pub struct Counted<'s, 'r, R> {
+    pub reader: R,
+    pub screen: &'s RefCell<Screen<'r>>,
+}
+
+impl<R: Read> Read for Counted<'_, '_, R> {
+    ghost remaining = { λ r. R.remaining r.reader };
+
+    fn read(&mut self, buf: &mut [u8]) -> io::Result<usize>
+        ensures bound { ReadsAtMost result buf.new }
+        ensures bytes { ReadConsumes (R.remaining self.old.reader)
+            (R.remaining self.new.reader) result buf.new }
+    {
+        let count = self.reader.read(buf)?;
+        if let Ok(mut screen) = self.screen.try_borrow_mut() {
+            screen.count_read(count);
+        }
+        Ok(count)
     }
 }
