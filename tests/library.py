@@ -44,7 +44,8 @@ WRONG: Tuple[Tuple[str, ...], ...] = (
     ("--compleet",), ("--complete-steps",), ("--claims=what",), ("--help",), ("more",),
     ("--explain", "--explain=all"),
 )
-PROGRAMS = re.compile(r"```(\w+)\n(.*?)```\n(?:\n    .*\n)?\nIt prints\n\n```\n(.*?)```", re.S)
+PROGRAMS = re.compile(r"```(\w+)\n(.*?)```\n(?:\n    [^\n]*\n)?\nIt prints\n\n```\n(.*?)```",
+                      re.S)
 Told = Tuple[int, bytes, bytes]
 
 
@@ -204,8 +205,8 @@ def of_page(compiled: Compiled) -> None:
 
 def small_stack(compiled: Compiled, is_proved: bool) -> None:
     """A thread with little stack, on a model with the deepest annotations that there may be."""
-    deep = "".join(["var 1..9: x", " :: f(" * 1, "a(" * 30, "1", ")" * 31, " :: output_var;\n",
-                    "constraint int_le(x, 7);\nsolve minimize x;\n"])
+    deep = f"var 1..9: x :: {'a(' * 30}1{')' * 30} :: output_var;\n" \
+           "constraint int_le(x, 7);\nsolve minimize x;\n"
     program = compiled.compile("cc", f"{ROOT}/tests/library/stack.c")
     stream = compiled.write("stream", STREAM.decode())
     bytes_of_stack = str(STACK if is_proved else STACK_UNPROVED)
