@@ -1,7 +1,5 @@
 -- What is known of a check of bytes in memory.
 use Rattle.std.proofs.Common.{◌≡◌, ℕ, List, [], ◌++◌, Option, Some, ◌⊎◌, inl, inr, refl, sym, ap, ◌∙◌, subst, append-nil}
-use Rattle.std.specs.Prelude.{IfOk, IfErr, Result, Ok, Err}
-use Rattle.std.proofs.lemmas.Result.{IfErr-weaker, IfOk-weaker}
 use Rattle.fz_check.specs.declared.options.Options.{Options}
 use Rattle.fz_check.specs.declared.error.CheckError.{CheckError}
 use Rattle.fz_check.specs.declared.error.CheckError.TheVariants as errors
@@ -36,34 +34,38 @@ memory_of_write o text model left left' w w' (inr h) =
     stopped (inl (u, front)) = inl (u, front)
     stopped (inr stops) = absurd stops.why
 
-module _ (o : Options) (text : Event → List ℕ → Type 0) (model bytes rest : List ℕ) (w w' : Option (List ℕ)) where
-  pub accepted_of : (r : Result Answer CheckError)
-      → IfOk r (λ a. (count : ℕ) → a ≡ answers.Accepted count
-      → HoldsOfStream (Some bytes) (Some rest) (λ given. HoldsOfJudged o.limits o.ending given
-      (λ front _. HasSolutionsWithin o.limits model front count)))
-      → IfOk r (λ a. (count : ℕ) → a ≡ answers.Accepted count
-      → HoldsOfJudged o.limits o.ending bytes (λ front _. HasSolutionsWithin o.limits model front count))
-  accepted_of r h = IfOk-weaker r _ _ (λ a told count is. of_all bytes rest
-      (λ given. HoldsOfJudged o.limits o.ending given
-      (λ front _. HasSolutionsWithin o.limits model front count)) (told count is)) h
+pub accepted_of : (o : Options) (model bytes rest : List ℕ) (a : Answer)
+    → ((count : ℕ) → a ≡ answers.Accepted count → HoldsOfStream (Some bytes) (Some rest)
+    (λ given. HoldsOfJudged o.limits o.ending given (λ front _. HasSolutionsWithin o.limits model front count)))
+    → (count : ℕ) → a ≡ answers.Accepted count
+    → HoldsOfJudged o.limits o.ending bytes (λ front _. HasSolutionsWithin o.limits model front count)
+accepted_of o model bytes rest a h count is = of_all bytes rest
+    (λ given. HoldsOfJudged o.limits o.ending given
+    (λ front _. HasSolutionsWithin o.limits model front count)) (h count is)
 
-  pub reported_of : (r : Result Answer CheckError)
-      → IfOk r (λ a. HoldsOfStream (Some bytes) (Some rest) (λ given. HoldsOfJudged o.limits o.ending given
-      (λ front cut. IsReportedWith o cut text model front w w' (answer_view a))))
-      → IfOk r (λ a. HoldsOfJudged o.limits o.ending bytes
-      (λ front cut. IsReportedWith o cut text model front w w' (answer_view a)))
-  reported_of r h = IfOk-weaker r _ _ (λ a told. of_all bytes rest
-      (λ given. HoldsOfJudged o.limits o.ending given
-      (λ front cut. IsReportedWith o cut text model front w w' (answer_view a))) told) h
+pub reported_of : (o : Options) (text : Event → List ℕ → Type 0) (model bytes rest : List ℕ)
+    (w w' : Option (List ℕ)) (a : Answer)
+    → HoldsOfStream (Some bytes) (Some rest) (λ given. HoldsOfJudged o.limits o.ending given
+    (λ front cut. IsReportedWith o cut text model front w w' (answer_view a)))
+    → HoldsOfJudged o.limits o.ending bytes
+    (λ front cut. IsReportedWith o cut text model front w w' (answer_view a))
+reported_of o text model bytes rest w w' a h = of_all bytes rest
+    (λ given. HoldsOfJudged o.limits o.ending given
+    (λ front cut. IsReportedWith o cut text model front w w' (answer_view a))) h
 
-  pub unwritten_of : IsEndedWith o text model (Some bytes) (Some rest) w w' errors.Write
-      → (left : List ℕ) × IsEndedWith o text model (Some bytes) (Some left) w w' errors.Memory
-  unwritten_of h = (rest, memory_of_write o text model (Some bytes) (Some rest) w w' h)
-
-  pub ended_of : (r : Result Answer CheckError)
-      → IfErr r (IsEndedWith o text model (Some bytes) (Some rest) w w')
-      → IfErr r (λ e. (left : List ℕ) × IsEndedWith o text model (Some bytes) (Some left) w w' e)
-  ended_of r h = IfErr-weaker r _ _ (λ e ended. (rest, ended)) h
+pub ended_as : (o : Options) (text : Event → List ℕ → Type 0) (model bytes rest : List ℕ)
+    (w w' : Option (List ℕ)) (e told : CheckError)
+    → IsEndedWith o text model (Some bytes) (Some rest) w w' e
+    → ((told ≡ e) ⊎ ((e ≡ errors.Write) × (told ≡ errors.Memory)))
+    → (left : List ℕ) × IsEndedWith o text model (Some bytes) (Some left) w w' told
+ended_as o text model bytes rest w w' e told ended (inl is) =
+    (rest, subst (IsEndedWith o text model (Some bytes) (Some rest) w w') (sym is) ended)
+ended_as o text model bytes rest w w' e told ended (inr (write, memory)) = (
+  rest,
+  subst (IsEndedWith o text model (Some bytes) (Some rest) w w') (sym memory)
+      (memory_of_write o text model (Some bytes) (Some rest) w w'
+      (subst (IsEndedWith o text model (Some bytes) (Some rest) w w') write ended)),
+)
 
 -- behind what was told comes the line of the refusal
 pub refused_of : (o : Options) (form : Form) (model stream told before told' : List ℕ) (e : CheckError)

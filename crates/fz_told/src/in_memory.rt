@@ -1,7 +1,8 @@
 //! The check of a stream against a model, where both are in memory, and so is what is told.
 
-ghost use Rattle.std.specs.Prelude.{◌≡◌, ◌++◌, ℕ, List, [], Some, IfOk, IfErr};
+ghost use Rattle.std.specs.Prelude.{◌≡◌, ◌++◌, ◌⊎◌, ℕ, List, [], Some, IfOk, IfErr};
 ghost use Rattle.fz_search.specs.of_model.Texts.{IsLoadedFromWithin};
+ghost use Rattle.fz_check.specs.declared.error.CheckError.TheVariants.{Memory, Write};
 ghost use Rattle.fz_check.specs.Cutting.{HoldsOfJudged};
 ghost use Rattle.fz_check.specs.Headline.{HasSolutionsWithin};
 ghost use Rattle.fz_check.specs.Streaming.{IsEndedWith, IsReportedWith};
@@ -263,9 +264,18 @@ fn check_recorded(
         teller,
         options,
     ) {
-        // A list takes each write for which there is memory.
-        Err(CheckError::Write) => Err(CheckError::Memory),
-        outcome => outcome,
+        Ok(answer) => Ok(answer),
+        Err(error) => Err(in_memory(error)),
+    }
+}
+
+/// The error where it is a list that is written to: that takes each write for which there is memory.
+fn in_memory(error: CheckError) -> CheckError
+    ensures { (result ≡ error) ⊎ ((error ≡ Write) × (result ≡ Memory)) }
+{
+    match error {
+        CheckError::Write => CheckError::Memory,
+        other => other,
     }
 }
 
