@@ -142,7 +142,9 @@ pub struct Recorder<'c, R> {
 
 impl<'c, R: Read> Recorder<'c, R> {
     /// Before the first read.
-    pub fn new(reader: R, recent: Option<&'c RefCell<Recent>>) -> Recorder<'c, R> {
+    pub fn new(reader: R, recent: Option<&'c RefCell<Recent>>) -> Recorder<'c, R>
+        ensures { result.reader ≡ reader }
+    {
         Recorder {
             reader,
             recent,

@@ -6,5 +6,5 @@ pub returns-in-Err-clause-refused : goal.returns-in-Err-clause-refused
 returns-in-Err-clause-refused g c =
     refused_of c.args.options c.args.telling.form c.args.model.now c.args.stream.now
     c.args.report.now.items c.args.report.now.items c.tell_refusal.new.report.items
-    c.in-Err.error (c.args.stream.now, inl (c.in-Err.ensures.refused, refl, refl))
+    c.in-Err.error (c.args.stream.now, inl (c.in-Err.ensures.refused, (refl, refl)))
     c.tell_refusal.ensures
