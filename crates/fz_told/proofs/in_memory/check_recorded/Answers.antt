@@ -1,4 +1,4 @@
-use Rattle.std.proofs.Common.{ap}
+use Rattle.std.proofs.Common.{Some, ap}
 use Rattle.fz_told.specs.Telling.{text_of}
 use Rattle.fz_told.proofs.MemoryLemmas.{accepted_of, ended_as, reported_of}
 use Rattle.fz_told.proofs.in_memory.check_recorded.Goals as goal
