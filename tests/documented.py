@@ -56,7 +56,7 @@ def forms() -> int:
 
 
 def crates() -> int:
-    return len(re.findall(r"^\w+:", text("crates.txt"), re.M))
+    return len(re.findall(r"^\w+(?: staticlib)?:", text("crates.txt"), re.M))
 
 
 def edits() -> int:

@@ -17,15 +17,16 @@ import sys
 from typing import Iterator, List, Set, Tuple
 
 ROOT = pathlib.Path(os.path.abspath(__file__)).parent.parent
-CALL = re.compile(r"^(?:impl(?:<.*?>)? (\w+)|( *)pub (?:const )?fn (\w+)\b(.*?)^\2\{)", re.M | re.S)
+CALL = re.compile(r"^(?:impl(?:<.*?>)? (\w+)|( *)pub (?:const |extern \"C\" )?fn (\w+)\b(.*?)^\2\{)",
+                  re.M | re.S)
 NAMES = re.compile(r"`([\w:]+)`")
-FOLDERS = r"crates|tests|tools|docs|python|examples|bench|minizinc|fz_\w+"
+FOLDERS = r"crates|tests|tools|docs|python|examples|bench|minizinc|library|fz_\w+"
 PATH = re.compile(rf"`((?:{FOLDERS})/[\w./-]+\.\w+)`")
 Row = Tuple[Set[str], List[str], Set[str]]
 EXAMPLE = re.compile(r"FznAllEqualInt|fzn_all_equal_int|\ball_equal\b")
 HOLDS_BUILTINS = ("crates/*/src", "crates/*/specs", "crates/*/proofs", "python", "docs",
                   "minizinc", "tests/cases", "tests/minizinc")
-BELOW = dict(re.findall(r"^(fz\w+):(.*)$", (ROOT / "crates.txt").read_text(), re.M))
+BELOW = dict(re.findall(r"^(fz\w+)(?: staticlib)?:(.*)$", (ROOT / "crates.txt").read_text(), re.M))
 
 
 def with_all_below(crate: str) -> Set[str]:

@@ -222,7 +222,8 @@ def each_allocation(compiled: Compiled) -> None:
     wraps = [f"-Wl,--wrap={name}" for name in ("malloc", "realloc", "free")]
     program = compiled.compile("cc", f"{ROOT}/tests/library/failing.c", *wraps, "-static-libgcc",
                                f"{compiled.library}/libfzcheck.a")
-    model, stream = compiled.write("model", MODEL.decode()), compiled.write("stream", STREAM.decode())
+    model = compiled.write("model", MODEL.decode())
+    stream = compiled.write("stream", STREAM.decode())
     for options in WAYS:
         expect(f"each allocation, {options}", True, bool(re.match(
             r"0 of [1-9]\d+ wrong, status 1\n", compiled.run(program, model, stream, "check",
