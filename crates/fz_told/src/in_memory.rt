@@ -12,67 +12,19 @@ ghost use Rattle.fz_told.specs.InMemory.{IsRefusedInMemory};
 ghost use Rattle.fz_told.specs.Telling.{text_of};
 
 use crate::as_json::refusal_line;
-use crate::explain::{explanation, fault_text, recent_explanation};
-use crate::teller::{Audience, Teller};
+use crate::explain::{explanation, recent_explanation};
+use crate::notes::{Notes, note_refusal};
+use crate::teller::Teller;
 use crate::telling::{Telling, check_told};
-use fz_check::{Answer, CheckError, Model, Options, read_model, refusal_text};
+use fz_check::{Answer, CheckError, Model, Options, read_model};
 use fz_command::{Explaining, Form};
-use fz_explain::{Explainer, Message, NameTable, Remarks, Text};
+use fz_explain::{Explainer, Message, NameTable, Text};
 use fz_files::{NOTHING, Recent, Recorder};
-use std::alloc::{AllocError, Global};
+use std::alloc::Global;
 use std::cell::RefCell;
 
 /// The name of a model in messages.
 const MODEL: &str = "<model>";
-
-/// Explanations, one behind another. Without memory for one there is none.
-#[derive(Drop)]
-pub struct Notes {
-    pub text: Vec<u8>,
-}
-
-impl Audience for Notes {
-    fn count(&mut self, _is_satisfied: bool) {}
-
-    fn add(&mut self, text: &str) {
-        let _ = self.text.extend_from_slice(text.as_bytes());
-    }
-
-    fn quote(&mut self, _remarks: &mut Remarks) {}
-
-    fn end(&mut self) {}
-}
-
-impl Notes {
-    pub fn new(alloc: Global) -> Notes {
-        Notes {
-            text: Vec::new(alloc),
-        }
-    }
-
-    /// Adds the line of a refusal and, where the place of a fault is told, the message on it.
-    ///
-    /// # Errors
-    ///
-    /// Out of memory.
-    fn add_refusal(
-        &mut self,
-        alloc: Global,
-        error: &CheckError,
-        name: &str,
-        message: Option<&Message>,
-        telling: Telling<'_>,
-    ) -> Result<(), AllocError> {
-        self.text.extend_from_slice(&refusal_text(alloc, error)?)?;
-        if telling.form == Form::Text
-            && telling.explains != Explaining::Nothing
-            && let Some(text) = fault_text(alloc, error, name, message, telling.size)?
-        {
-            self.text.extend_from_slice(text.as_bytes())?;
-        }
-        Ok(())
-    }
-}
 
 /// Checks a stream against a model. The report is added to `report`, and what the program tells on
 /// standard error to `notes`.
@@ -298,18 +250,4 @@ fn tell_refusal(
         let _ = report.extend_from_slice(&line);
     }
     note_refusal(alloc, error, name, message, telling, notes);
-}
-
-/// Tells of a refusal in the notes. Without memory for it there is none.
-fn note_refusal(
-    alloc: Global,
-    error: &CheckError,
-    name: &str,
-    message: Option<&Message>,
-    telling: Telling<'_>,
-    notes: &RefCell<Notes>,
-) {
-    if let Ok(mut notes) = notes.try_borrow_mut() {
-        let _ = notes.add_refusal(alloc, error, name, message, telling);
-    }
 }

@@ -9,12 +9,14 @@ mod as_json;
 mod events;
 mod explain;
 mod in_memory;
+mod notes;
 mod teller;
 mod telling;
 
 pub use as_json::{names_line, refusal_line};
 pub use events::unread_line;
 pub use explain::{explanation, fault_text, recent_explanation};
-pub use in_memory::{Notes, check_in_memory, refuse_model};
+pub use in_memory::{check_in_memory, refuse_model};
+pub use notes::Notes;
 pub use teller::{Audience, Teller};
 pub use telling::{Telling, check_told};

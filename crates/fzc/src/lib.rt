@@ -29,22 +29,6 @@ pub struct Sizes {
     pub notes: usize,
 }
 
-/// Reads options of `fzcheck check`, each with a NUL behind it: 0, or 5 where they are wrong, which
-/// the notes tell, or 7 without memory.
-#[unsafe(no_mangle)]
-pub extern "C" fn fzcheck_words(
-    alloc: Global,
-    words: &[u8],
-    asked: &mut Asked,
-    notes: &mut [u8],
-    sizes: &mut Sizes,
-) -> u8 {
-    let mut told = Vec::new(alloc);
-    let status = read_words(alloc, words, asked, &mut told);
-    sizes.notes = fill(&told, notes);
-    status
-}
-
 /// Checks a stream against a model. The status is the program's.
 #[unsafe(no_mangle)]
 pub extern "C" fn fzcheck_judge(
@@ -93,5 +77,21 @@ pub extern "C" fn fzcheck_canonical(
     let status = show(alloc, model, prints_all, &mut shown, &noted);
     sizes.report = fill(&shown, text);
     sizes.notes = fill(&noted.into_inner().text, notes);
+    status
+}
+
+/// Reads options of `fzcheck check`, each with a NUL behind it: 0, or 5 where they are wrong, which
+/// the notes tell, or 7 without memory.
+#[unsafe(no_mangle)]
+pub extern "C" fn fzcheck_words(
+    alloc: Global,
+    words: &[u8],
+    asked: &mut Asked,
+    notes: &mut [u8],
+    sizes: &mut Sizes,
+) -> u8 {
+    let mut told = Vec::new(alloc);
+    let status = read_words(alloc, words, asked, &mut told);
+    sizes.notes = fill(&told, notes);
     status
 }
