@@ -48,12 +48,12 @@ module _ (a : Asked) (o : Options) (asked : AreAsked a o) (model stream bytes : 
   accepted_by (Err e) h is = absurd (omega (arith, is, ended e))
 
   -- as check_in_memory tells it, in this form and behind these bytes
-  Answers : Form → List ℕ → Result Answer CheckError → Type 0
+  abbrev pub Answers : Form → List ℕ → Result Answer CheckError → Type 0
   Answers form told r = IfOk r (λ it. HoldsOfJudged o.limits o.ending stream
       (λ front cut. IsReportedWith o cut (text_of form) model front (Some told)
       (Some bytes) (answer_view it)))
 
-  Ends : Form → List ℕ → Result Answer CheckError → Type 0
+  abbrev pub Ends : Form → List ℕ → Result Answer CheckError → Type 0
   Ends form told r = IfErr r (IsRefusedInMemory o form model stream told bytes)
 
   answered_by : (r : Result Answer CheckError) → Answers (asked_form a) [] r
