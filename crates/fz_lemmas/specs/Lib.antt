@@ -1,0 +1,3 @@
+pub use Rattle.fz_bounds.specs.of_model
+pub mod Boxes
+pub mod Known
