@@ -24,9 +24,10 @@ pub(crate) fn impose(bounds: &mut Bounds, literal: Literal)
     ensures { (A : Assignment) → IsInside bounds.old A → Keeps (numbers A) literal
         → IsInside bounds.new A }
 {
-    if let Some(ends) = bounds.ends(literal.variable()) {
+    let variable = literal.variable();
+    if let Some(ends) = bounds.ends(variable) {
         let (low, high) = literal.part_of(ends);
-        bounds.narrow(literal.variable(), ends.kind, low, high);
+        bounds.narrow(variable, ends.kind, low, high);
     }
 }
 
@@ -71,8 +72,8 @@ fn impose_all(
         → LiesIn (numbers A) literals.now → IsInside bounds.new A) }
 {
     for literal in literals {
-        if let Some(was) = bounds.ends(literal.variable()) {
-            let variable = literal.variable();
+        let variable = literal.variable();
+        if let Some(was) = bounds.ends(variable) {
             taken.push(Taken { variable, was })?;
             let (low, high) = literal.part_of(was);
             bounds.narrow(variable, was.kind, low, high);

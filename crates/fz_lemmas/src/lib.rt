@@ -10,6 +10,8 @@ mod boxes;
 mod imposing;
 mod lemmas;
 mod literal;
+mod log;
 
 pub use lemmas::Lemmas;
 pub use literal::Literal;
+pub use log::{Followed, follow};
