@@ -5,6 +5,7 @@ use Rattle.fz_bounds.specs.Bounds.{IsInside, Ranges, narrowed, number_as}
 use Rattle.fz_bounds.specs.Ends.{AreEndsAt, IsTold, put_in}
 use Rattle.fz_bounds.specs.declared.ends.KindEnds.{KindEnds}
 use Rattle.fz_bounds.specs.of_model.Meaning.{Assignment, value_at, whole}
+use Rattle.fz_bounds.specs.of_model.of_base.declared.value.Value.{Value}
 use Rattle.fz_bounds.specs.of_model.declared.Kind.{Kind}
 use Rattle.fz_bounds.specs.of_model.declared.Kind.TheVariants.{Int as IntKind, Bool as BoolKind, Set as SetKind}
 use Rattle.fz_bounds.proofs.Numbers.{restored, still_inside, value_between}
@@ -39,7 +40,7 @@ module _ (B : Ranges) (n : ℕ) (e : KindEnds) (at : AreEndsAt B n e) (A : Assig
       (is ∙ ap (λ x. Some (number_as e.kind x)) (sym same), subst (λ x. e.low ≤ℤ x) (sym same) from, subst (λ x. x ≤ℤ e.high) (sym same) to)
 
   -- it stays between others that it lies between
-  pub narrowed_so : (C : Ranges) (l h : ℤ)
+  narrowed_so : (C : Ranges) (l h : ℤ)
       → C ≡ narrowed B n (number_as e.kind l) (number_as e.kind h)
       → (e.low ≤ℤ numbers A n → numbers A n ≤ℤ e.high → (l ≤ℤ numbers A n) × (numbers A n ≤ℤ h))
       → IsInside C A
@@ -56,39 +57,45 @@ module _ (B : Ranges) (n : ℕ) (e : KindEnds) (at : AreEndsAt B n e) (A : Assig
       let (is, from, to) = number_inside in
       all (numbers A) (subst (λ k. e.low ≤ℤ numbers A k) same from) (subst (λ k. numbers A k ≤ℤ e.high) same to)
 
-  -- bounds in the place of others
-  pub copied_so : (C D : Ranges) → D ≡ put_in C n e → IsInside C A → IsInside D A
-  copied_so C D d there =
+  -- the same bounds in the place of others
+  pub copied_so : (C D : Ranges) (l h : ℤ)
+      → D ≡ narrowed C n (number_as e.kind l) (number_as e.kind h) → l ≡ e.low → h ≡ e.high
+      → IsInside C A → IsInside D A
+  copied_so C D l h d low high there =
       let (is, from, to) = number_inside in
-      still_inside C D A n e.kind (numbers A n) e.low e.high d is from to there
+      still_inside C D A n e.kind (numbers A n) l h d is (subst (λ x. x ≤ℤ numbers A n) (sym low) from) (subst (λ x. numbers A n ≤ℤ x) (sym high) to) there
 
 -- bounds that a literal is imposed on
-pub imposed_so : (B C : Ranges) (n : ℕ) (l : Literal) (e : KindEnds) (low high : ℤ)
+pub imposed_so : (B C : Ranges) (n : ℕ) (l : Literal) (e : KindEnds) (low high from to : ℤ)
     → AreEndsAt B n e → n ≡ variable_of l
-    → C ≡ narrowed B n (number_as e.kind low) (number_as e.kind high)
+    → C ≡ narrowed B n (number_as e.kind low) (number_as e.kind high) → low ≡ from → high ≡ to
     → ((N : ℕ → ℤ) → Keeps N l → e.low ≤ℤ N (variable_of l) → N (variable_of l) ≤ℤ e.high
-    → (low ≤ℤ N (variable_of l)) × (N (variable_of l) ≤ℤ high))
+    → (from ≤ℤ N (variable_of l)) × (N (variable_of l) ≤ℤ to))
     → (A : Assignment) → IsInside B A → Keeps (numbers A) l → IsInside C A
-imposed_so B C n l e low high at same c part A inside kept =
+imposed_so B C n l e low high from to at same c least most part A inside kept =
     let there : AreEndsAt B (variable_of l) e = subst (λ k. AreEndsAt B k e) same at in
-    narrowed_so B (variable_of l) e there A inside C low high (subst (λ k. C ≡ narrowed B k (number_as e.kind low) (number_as e.kind high)) same c) (part (numbers A) kept)
+    narrowed_so B (variable_of l) e there A inside C from to (c ∙ (λ i. narrowed B (same i) (number_as e.kind (least i)) (number_as e.kind (most i)))) (part (numbers A) kept)
 
 -- ---- bounds that are put back
 
+last_back : (B : Ranges) (ts : List Taken) (t : Taken)
+    → put_back B (ts ++ t ∷ []) ≡ put_back (put_in B t.variable t.was) ts
+last_back B [] t = refl
+last_back B (s ∷ ts) t = ap (λ D. put_in D s.variable s.was) (last_back B ts t)
+
 -- the last that were noted are put back first
-pub put_back_last : (B : Ranges) (ts us : List Taken) (t : Taken) → us ≡ ts ++ t ∷ []
-    → put_back B us ≡ put_back (put_in B t.variable t.was) ts
-put_back_last B ts us t more = ap (put_back B) more ∙ last ts
-  where
-    last : (ts : List Taken) → put_back B (ts ++ t ∷ []) ≡ put_back (put_in B t.variable t.was) ts
-    last [] = refl
-    last (s ∷ ts) = ap (λ D. put_in D s.variable s.was) (last ts)
+pub put_back_so : (B C : Ranges) (ts us : List Taken) (t : Taken) (l h : ℤ) → us ≡ ts ++ t ∷ []
+    → C ≡ narrowed B t.variable (number_as t.was.kind l) (number_as t.was.kind h) → l ≡ t.was.low
+    → h ≡ t.was.high → put_back C ts ≡ put_back B us
+put_back_so B C ts us t l h more c low high =
+    ap (λ R. put_back R ts) (c ∙ (λ i. narrowed B t.variable (number_as t.was.kind (low i)) (number_as t.was.kind (high i))))
+    ∙ sym (last_back B ts t) ∙ ap (put_back B) (sym more)
 
 -- bounds that were noted before they were narrowed
-pub noted_so : (B C D : Ranges) (ts us : List Taken) (n : ℕ) (e : KindEnds) (low high : ℤ)
-    → AreEndsAt B n e → C ≡ narrowed B n (number_as e.kind low) (number_as e.kind high)
-    → us ≡ ts ++ record { variable = n; was = e } ∷ [] → put_back B ts ≡ D → put_back C us ≡ D
-noted_so B C D ts us n e low high at c more before =
-    put_back_last C ts us (record { variable = n; was = e }) more
-    ∙ ap (λ R. put_back R ts) (restored B n e at C (put_in C n e) (number_as e.kind low) (number_as e.kind high) e.kind e.low e.high c refl refl refl refl)
+pub noted_so : (B C D : Ranges) (ts us : List Taken) (n : ℕ) (e : KindEnds) (v w : Value)
+    → AreEndsAt B n e → C ≡ narrowed B n v w → us ≡ ts ++ record { variable = n; was = e } ∷ []
+    → put_back B ts ≡ D → put_back C us ≡ D
+noted_so B C D ts us n e v w at c more before =
+    ap (put_back C) more ∙ last_back C ts (record { variable = n; was = e })
+    ∙ ap (λ R. put_back R ts) (restored B n e at C (put_in C n e) v w e.kind e.low e.high c refl refl refl refl)
     ∙ before

@@ -1,6 +1,7 @@
 -- What is known of a model's known-solutions inside some bounds (this project's profile).
-use Rattle.std.specs.Prelude.{◌≡◌, ℕ, ℤ, pos, cond, List, [], ◌∷◌, Option, Some, IfSome, slice_get}
+use Rattle.std.specs.Prelude.{ℕ, ℤ, pos, cond, List, [], ◌∷◌, Option, Some, IfSome}
 use Rattle.std.specs.Global.{Vec}
+use Rattle.std.specs.List.{All}
 use Rattle.fz_bounds.specs.of_model.of_base.declared.value.Value.{Value}
 use Rattle.fz_bounds.specs.of_model.of_base.declared.value.Value.TheVariants.{Int, Bool as Truth}
 use Rattle.fz_bounds.specs.of_model.Meaning.{Assignment, Model, value_at, whole}
@@ -40,12 +41,12 @@ abbrev pub Misses : Assignment → Option (Vec Literal) → Type 0
 Misses A o = IfSome o (λ v. LiesIn (numbers A) v.items → ⊥)
 
 -- what is known of an assignment that is sought
-pub record IsApart (A : Assignment) (root : Ranges) (side lemma : Option (Vec Literal))
-    (kept : List (Option (Vec Literal))) : Type 0 where
-  pub inside : IsInside root A
-  pub side : Misses A side
-  pub lemma : Misses A lemma
-  pub kept : (i : ℕ) (o : Option (Vec Literal)) → slice_get kept i ≡ Some o → Misses A o
+pub record IsApart (A : Assignment) (B : Ranges) (s l : Option (Vec Literal))
+    (k : List (Option (Vec Literal))) : Type 0 where
+  pub inside : IsInside B A
+  pub side : Misses A s
+  pub lemma : Misses A l
+  pub kept : All (Misses A) k
 
 -- the bounds with those that some variables had, the first of them at last
 abbrev pub put_back : Ranges → List Taken → Ranges

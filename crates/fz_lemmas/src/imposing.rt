@@ -131,7 +131,7 @@ pub(crate) fn misses(
 }
 
 /// Bounds in which all is that is inside some others: those of their numbers and Booleans.
-pub(crate) fn copied(
+pub fn copied(
     alloc: Global,
     model: &Model<'_>,
     bounds: &Bounds,

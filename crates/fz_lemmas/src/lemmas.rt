@@ -104,7 +104,10 @@ impl<'m, 'a> Lemmas<'m, 'a> {
         ensures same { self.new ≡ self.old }
     {
         self.side = None;
-        let Some(Some(literals)) = self.kept.get(number) else {
+        if number >= self.kept.len() {
+            return Ok(false);
+        }
+        let Some(literals) = &self.kept[number] else {
             return Ok(false);
         };
         self.side = Some(left_of(self.alloc, &self.root, literals)?);
@@ -152,8 +155,8 @@ impl<'m, 'a> Lemmas<'m, 'a> {
     pub fn forget(&mut self, number: usize)
         ensures same { self.new ≡ self.old }
     {
-        if let Some(place) = self.kept.get_mut(number) {
-            *place = None;
+        if number < self.kept.len() {
+            self.kept[number] = None;
         }
     }
 

@@ -12,6 +12,7 @@ mod lemmas;
 mod literal;
 mod log;
 
+pub use imposing::copied;
 pub use lemmas::Lemmas;
 pub use literal::Literal;
 pub use log::{Followed, follow};
