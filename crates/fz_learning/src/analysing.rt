@@ -1,9 +1,12 @@
 //! The analysis of a conflict, by which a lemma is learned: reasons take the place of limits, one
 //! after another, until one limit alone is of the highest level. The lemmas resolve as it goes.
 
+ghost use Rattle.std.specs.Prelude.{◌≡◌};
+
 use crate::finder::Finder;
 use crate::limit::Limit;
 use crate::trail::{Change, Why};
+use fz_lemmas::Lemmas;
 use std::alloc::AllocError;
 
 /// What was learned: limits that aren't all kept.
@@ -21,14 +24,17 @@ impl<'m, 'a> Finder<'m, 'a> {
     /// Has the lemmas show that limits contradict something, where the negation of a limit is one
     /// of them if it is given. It tells whether they do.
     pub(crate) fn show(
-        &mut self,
+        &self,
+        lemmas: &mut Lemmas<'_, '_>,
         why: Why,
         reason: &[Limit],
         limit: Option<Limit>,
-    ) -> Result<bool, AllocError> {
+    ) -> Result<bool, AllocError>
+        ensures same { lemmas.new ≡ lemmas.old }
+    {
         match why {
             Why::Chosen => Ok(false),
-            Why::Kept(number) => self.lemmas.take(number),
+            Why::Kept(number) => lemmas.take(number),
             Why::Point(point) => {
                 let mut literals = Vec::new(self.alloc);
                 for needed in reason {
@@ -37,7 +43,7 @@ impl<'m, 'a> Finder<'m, 'a> {
                 if let Some(limit) = limit {
                     literals.push(limit.negated().literal())?;
                 }
-                self.lemmas.show(point, literals)
+                lemmas.show(point, literals)
             }
         }
     }
@@ -112,13 +118,19 @@ impl<'m, 'a> Finder<'m, 'a> {
     }
 
     /// Learns from a conflict. It gives nothing where that is of no level, or isn't shown.
-    pub(crate) fn analyse(&mut self, conflict: Why) -> Result<Option<Learned>, AllocError> {
+    pub(crate) fn analyse(
+        &mut self,
+        lemmas: &mut Lemmas<'_, '_>,
+        conflict: Why,
+    ) -> Result<Option<Learned>, AllocError>
+        ensures same { lemmas.new ≡ lemmas.old }
+    {
         let mut place = self.trail.len();
         let reason = self.explain(conflict, None, place)?;
-        if !self.show(conflict, &reason, None)? {
+        if !self.show(lemmas, conflict, &reason, None)? {
             return Ok(None);
         }
-        self.lemmas.start();
+        lemmas.start();
         self.need_all(&reason)?;
         let level = self.highest();
         if level == 0 {
@@ -131,7 +143,7 @@ impl<'m, 'a> Finder<'m, 'a> {
             if matches!(change.why, Why::Chosen) || self.is_alone(limit.key, level) {
                 return Ok(Some(self.learned(limit.key)?));
             }
-            if !self.replace(change.why, limit, at)? {
+            if !self.replace(lemmas, change.why, limit, at)? {
                 break;
             }
             place = at;
@@ -148,10 +160,19 @@ impl<'m, 'a> Finder<'m, 'a> {
     }
 
     /// Needs the reason of a limit in its place, and tells whether that is shown.
-    fn replace(&mut self, why: Why, limit: Limit, at: usize) -> Result<bool, AllocError> {
+    fn replace(
+        &mut self,
+        lemmas: &mut Lemmas<'_, '_>,
+        why: Why,
+        limit: Limit,
+        at: usize,
+    ) -> Result<bool, AllocError>
+        ensures same { lemmas.new ≡ lemmas.old }
+    {
         let reason = self.explain(why, Some(limit), at)?;
         self.spend(reason.len());
-        if !self.show(why, &reason, Some(limit))? || !self.lemmas.resolve(limit.literal())? {
+        let shown = self.show(lemmas, why, &reason, Some(limit))?;
+        if !shown || !lemmas.resolve(limit.literal())? {
             return Ok(false);
         }
         self.drop_need(limit.key);

@@ -3,6 +3,7 @@
 ghost use Rattle.std.specs.Prelude.{◌≡◌, IfOk, IsTrue};
 ghost use Rattle.fz_lemmas.specs.Known.{HasNone};
 
+use crate::analysing::Learned;
 use crate::kept::{Kept, Watch};
 use crate::limit::Limit;
 use crate::trail::{Change, Now, Trail, Why};
@@ -32,7 +33,6 @@ pub(crate) struct Finder<'m, 'a> {
     pub(crate) alloc: Global,
     pub(crate) model: &'m Model<'a>,
     pub(crate) known: &'m Search,
-    pub(crate) lemmas: Lemmas<'m, 'a>,
     pub(crate) trail: Trail,
     /// the ends at the root, where no others are tried
     pub(crate) root: Now,
@@ -103,17 +103,15 @@ impl<'m, 'a> Finder<'m, 'a> {
         alloc: Global,
         model: &'m Model<'a>,
         known: &'m Search,
-        first: &'m Bounds,
+        first: &Bounds,
         steps: usize,
     ) -> Result<Finder<'m, 'a>, AllocError> {
-        let lemmas = Lemmas::new(alloc, model, first)?;
         let root = Now::new(alloc, model, first)?;
         let trail = Trail::new(alloc, Now::new(alloc, model, first)?)?;
         let mut finder = Finder {
             alloc,
             model,
             known,
-            lemmas,
             trail,
             root,
             floor: Vec::new(alloc),
@@ -277,21 +275,29 @@ impl<'m, 'a> Finder<'m, 'a> {
     }
 
     /// Tells the lemmas what the root got.
-    fn tell_root(&mut self) -> Result<(), AllocError> {
+    fn tell_root(&mut self, lemmas: &mut Lemmas<'_, '_>) -> Result<(), AllocError>
+        ensures same { lemmas.new ≡ lemmas.old }
+    {
         for place in self.told..self.trail.len() {
             let Some(change) = self.trail.change(place) else {
                 break;
             };
-            self.tell_change(change)?;
+            self.tell_change(lemmas, change)?;
         }
         self.told = self.trail.len();
         Ok(())
     }
 
-    fn tell_change(&mut self, change: Change) -> Result<(), AllocError> {
+    fn tell_change(
+        &mut self,
+        lemmas: &mut Lemmas<'_, '_>,
+        change: Change,
+    ) -> Result<(), AllocError>
+        ensures same { lemmas.new ≡ lemmas.old }
+    {
         let limit = change.limit();
-        if self.show(change.why, &[], Some(limit))? {
-            self.lemmas.give();
+        if self.show(lemmas, change.why, &[], Some(limit))? {
+            lemmas.give();
         }
         if let Some(end) = self.floor.get_mut(limit.key) {
             *end = limit.number;
@@ -302,8 +308,12 @@ impl<'m, 'a> Finder<'m, 'a> {
 
     /// Keeps a lemma that was learned. Its first literal is the one that is forced, and the second is
     /// of the highest level else, to which it goes back.
-    fn keep(&mut self, limits: Vec<Limit>, levels: usize, back: usize) -> Result<(), AllocError> {
-        self.lemmas.keep()?;
+    fn keep(&mut self, learned: Learned) -> Result<(), AllocError> {
+        let Learned {
+            limits,
+            levels,
+            back,
+        } = learned;
         let number = self.kept.len();
         let first = limits.first().copied();
         let is_long = limits.len() > 1;
@@ -325,23 +335,30 @@ impl<'m, 'a> Finder<'m, 'a> {
     }
 
     /// Learns from a conflict, and tells whether there was something to learn.
-    fn learn_from(&mut self, conflict: Why) -> Result<bool, AllocError> {
+    fn learn_from(
+        &mut self,
+        lemmas: &mut Lemmas<'_, '_>,
+        conflict: Why,
+    ) -> Result<bool, AllocError>
+        ensures same { lemmas.new ≡ lemmas.old }
+    {
         self.conflicts = self.conflicts.saturating_add(1);
         if self.trail.level() == 0 {
-            self.tell_root()?;
+            self.tell_root(lemmas)?;
         }
         self.decay();
-        match self.analyse(conflict)? {
-            Some(learned) => {
-                self.keep(learned.limits, learned.levels, learned.back)?;
-                Ok(true)
-            }
-            None => Ok(false),
-        }
+        let Some(learned) = self.analyse(lemmas, conflict)? else {
+            return Ok(false);
+        };
+        lemmas.keep()?;
+        self.keep(learned)?;
+        Ok(true)
     }
 
     /// Forgets half of the kept boxes, those of the most levels first.
-    fn forget(&mut self) -> Result<(), AllocError> {
+    fn forget(&mut self, lemmas: &mut Lemmas<'_, '_>) -> Result<(), AllocError>
+        ensures same { lemmas.new ≡ lemmas.old }
+    {
         let mut places = Vec::new(self.alloc);
         for (number, kept) in self.kept.iter().enumerate() {
             if kept.limits.len() > 2 && kept.levels > 2 {
@@ -353,7 +370,7 @@ impl<'m, 'a> Finder<'m, 'a> {
             if let Some(kept) = self.kept.get_mut(*number) {
                 kept.limits = Vec::new(self.alloc);
             }
-            self.lemmas.forget(*number);
+            lemmas.forget(*number);
             self.live = self.live.saturating_sub(1);
         }
         self.most_live = self.most_live.saturating_add(KEPT_MORE);
@@ -361,12 +378,14 @@ impl<'m, 'a> Finder<'m, 'a> {
     }
 
     /// Goes on until the lemmas refute, or it comes to an end.
-    fn run(&mut self) -> Result<(), AllocError> {
+    fn run(&mut self, lemmas: &mut Lemmas<'_, '_>) -> Result<(), AllocError>
+        ensures same { lemmas.new ≡ lemmas.old }
+    {
         let mut restarts = 0usize;
         let mut next = RESTART;
         for _ in 0..self.steps {
             if let Some(conflict) = self.propagate()? {
-                if !self.learn_from(conflict)? {
+                if !self.learn_from(lemmas, conflict)? {
                     return Ok(());
                 }
                 continue;
@@ -375,13 +394,13 @@ impl<'m, 'a> Finder<'m, 'a> {
                 return Ok(());
             }
             if self.trail.level() == 0 {
-                self.tell_root()?;
+                self.tell_root(lemmas)?;
             } else if self.conflicts >= next {
                 restarts = restarts.saturating_add(1);
                 next = self.conflicts.saturating_add(luby(restarts).saturating_mul(RESTART));
                 self.back_to(0);
                 if self.live > self.most_live {
-                    self.forget()?;
+                    self.forget(lemmas)?;
                 }
                 continue;
             }
@@ -410,7 +429,8 @@ pub fn learn(
     ensures none { IfOk result (λ b. IsTrue b
         → HasNone (record { model = model.now; bounds = first.now })) }
 {
+    let mut lemmas = Lemmas::new(alloc, model, first)?;
     let mut finder = Finder::new(alloc, model, known, first, steps)?;
-    finder.run()?;
-    Ok(finder.lemmas.refutes())
+    finder.run(&mut lemmas)?;
+    Ok(lemmas.refutes())
 }

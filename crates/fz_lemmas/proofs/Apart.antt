@@ -8,6 +8,7 @@ use Rattle.fz_bounds.specs.of_model.States.{IsKnownSolution}
 use Rattle.fz_lemmas.specs.Boxes.{Keeps, LiesIn}
 use Rattle.fz_lemmas.specs.Known.{Asked, HasNone, IsApart, IsSought, Misses, numbers}
 use Rattle.fz_lemmas.specs.declared.literal.Literal.{Literal}
+use Rattle.fz_lemmas.proofs.Lies.{lies_in_none, lies_in_one}
 
 -- of each that is sought this is known
 abbrev pub AreApart : Asked → Ranges → (side lemma : Option (Vec Literal))
@@ -76,21 +77,21 @@ module _ (q : Asked) (B : Ranges) (s l : Option (Vec Literal)) (k : List (Option
       record { inside = h.inside; side = h.side; lemma = h.lemma; kept = All-set (Misses A) k i None tt h.kept }
 
   -- the side's only literal is kept by none, so that another is
-  pub given_so : (C : Ranges) (v : Vec Literal) (x y : Literal) → s ≡ Some v → v.items ≡ x ∷ []
-      → ((N : ℕ → ℤ) → Keeps N x ⊎ Keeps N y)
+  pub given_so : (C : Ranges) (v : Vec Literal) (x y : Literal) → s ≡ Some v → length v.items ≡ 1
+      → x ≡ get_or v.items 0 x → ((N : ℕ → ℤ) → Keeps N x ⊎ Keeps N y)
       → ((A : Assignment) → IsInside B A → Keeps (numbers A) y → IsInside C A)
       → AreApart q C s l k
-  given_so C v x y of_side only either narrower A sought =
+  given_so C v x y of_side one first either narrower A sought =
       let h = before A sought in
       record { inside = narrower A h.inside (other h.side); side = h.side; lemma = h.lemma; kept = h.kept }
     where
       other : Misses A s → Keeps (numbers A) y
       other missed = elim (either (numbers A)) [
-        | inl kept ↦ absurd (subst (Misses A) of_side missed (subst (LiesIn (numbers A)) (sym only) (kept, tt)))
+        | inl kept ↦ absurd (subst (Misses A) of_side missed (lies_in_one (numbers A) v.items x one first kept))
         | inr kept ↦ kept
       ]
 
-  -- an empty box is missed by none
-  pub none_so : (v : Vec Literal) → l ≡ Some v → v.items ≡ [] → HasNone q
+  -- a box of no literals is missed by none
+  pub none_so : (v : Vec Literal) → l ≡ Some v → length v.items ≡ 0 → HasNone q
   none_so v of_lemma empty A sought =
-      subst (Misses A) of_lemma (before A sought).lemma (subst (LiesIn (numbers A)) (sym empty) tt)
+      subst (Misses A) of_lemma (before A sought).lemma (lies_in_none (numbers A) v.items empty)

@@ -1,3 +1,4 @@
 pub mod Lies
 pub mod Roots
 pub mod Apart
+pub mod Points

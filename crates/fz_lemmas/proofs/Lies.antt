@@ -37,3 +37,14 @@ module _ (N : ℕ → ℤ) where
 
   pub lies_at_end : (xs : List Literal) (i : ℕ) → length xs ≤ i → LiesIn N (drop i xs)
   lies_at_end xs i all = subst (LiesIn N) (sym (drop_of_length-le xs all)) tt
+
+  -- a box of one literal, and of none
+  pub lies_in_one : (xs : List Literal) (x : Literal) → length xs ≡ 1 → x ≡ get_or xs 0 x → Keeps N x
+      → LiesIn N xs
+  lies_in_one [] x one first kept = absurd (omega arith)
+  lies_in_one (y ∷ []) x one first kept = (subst (Keeps N) first kept, tt)
+  lies_in_one (y ∷ z ∷ xs) x one first kept = absurd (omega arith)
+
+  pub lies_in_none : (xs : List Literal) → length xs ≡ 0 → LiesIn N xs
+  lies_in_none [] none = tt
+  lies_in_none (x ∷ xs) none = absurd (omega arith)

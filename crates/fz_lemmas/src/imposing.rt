@@ -86,8 +86,9 @@ fn impose_all(
 fn restore(bounds: &mut Bounds, taken: &mut Vec<Taken>)
     ensures { bounds.new ≡ put_back bounds.old taken.old.items }
 {
-    while let Some(Taken { variable, was }) = taken.pop() {
-        bounds.narrow(variable, was.kind, was.low, was.high);
+    while let Some(last) = taken.pop() {
+        let was = last.was;
+        bounds.narrow(last.variable, was.kind, was.low, was.high);
     }
 }
 

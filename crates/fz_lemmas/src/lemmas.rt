@@ -130,7 +130,10 @@ impl<'m, 'a> Lemmas<'m, 'a> {
     pub fn resolve(&mut self, literal: Literal) -> Result<bool, AllocError>
         ensures same { self.new ≡ self.old }
     {
-        let (Some(lemma), Some(side)) = (&self.lemma, &self.side) else {
+        let Some(lemma) = &self.lemma else {
+            return Ok(false);
+        };
+        let Some(side) = &self.side else {
             return Ok(false);
         };
         self.lemma = Some(resolvent(self.alloc, lemma, side, literal)?);
@@ -167,9 +170,10 @@ impl<'m, 'a> Lemmas<'m, 'a> {
         let Some(side) = &self.side else {
             return false;
         };
-        let [literal] = side.as_slice() else {
+        if side.len() != 1 {
             return false;
-        };
+        }
+        let literal = side[0];
         impose(&mut self.root, literal.negated());
         true
     }

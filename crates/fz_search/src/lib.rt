@@ -13,6 +13,7 @@ mod enclosing;
 mod found;
 mod guide;
 mod leaf;
+mod learned;
 mod linear;
 mod order;
 mod proposal;

@@ -107,7 +107,7 @@ fn halves(ends: KindEnds, at: i64, upper_first: bool) -> (KindEnds, KindEnds)
 
 /// Of the numbers from one to another those that are better than this one, where less is better or
 /// more is.
-fn better_than(last: i64, is_cost: bool, low: i64, high: i64) -> (i64, i64)
+pub(crate) fn better_than(last: i64, is_cost: bool, low: i64, high: i64) -> (i64, i64)
     ensures better { (x : ℤ) → low ≤ℤ x → x ≤ℤ high → (is_cost ≡ true → x <ℤ last)
         → (is_cost ≡ false → last <ℤ x) → (result.0 ≤ℤ x) × (x ≤ℤ result.1) }
     ensures within { (low ≤ℤ result.0) × (result.1 ≤ℤ high) }
