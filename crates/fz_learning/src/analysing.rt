@@ -79,9 +79,7 @@ impl<'m, 'a> Finder<'m, 'a> {
         if let Some(needed) = self.needs.get_mut(key) {
             *needed = None;
         }
-        if let Some(place) = self.needed.iter().position(|other| *other == key) {
-            self.needed.swap_remove(place);
-        }
+        self.needed.retain(|other| *other != key);
     }
 
     /// The highest level of what is needed.

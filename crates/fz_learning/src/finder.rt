@@ -258,7 +258,7 @@ impl<'m, 'a> Finder<'m, 'a> {
         let mut best = None;
         let mut greatest = 0;
         for (variable, activity) in self.activity.iter().enumerate() {
-            if (best.is_none() || *activity > greatest) && !self.trail.now.is_fixed(variable) {
+            if (best.is_none() || *activity > greatest) && self.trail.now.is_open(variable) {
                 best = Some(variable);
                 greatest = *activity;
             }

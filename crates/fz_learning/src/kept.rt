@@ -66,18 +66,34 @@ impl<'m, 'a> Finder<'m, 'a> {
     /// Whether another literal of the box is watched in the place of this one, or nothing of it
     /// any more.
     fn moves(&mut self, watch: Watch) -> Result<bool, AllocError> {
-        let Some(kept) = self.kept.get_mut(watch.number) else {
-            return Ok(true);
+        let first = self.limit_at(watch.number, 0);
+        let here = match first {
+            Some(limit) if limit.key == watch.limit.key => 0,
+            Some(_) => 1,
+            None => return Ok(true),
         };
-        let here = usize::from(kept.limits.first().is_none_or(|limit| limit.key != watch.limit.key));
-        for place in 2..kept.limits.len() {
-            if kept.limits.get(place).is_some_and(|limit| !self.trail.now.holds(*limit)) {
-                kept.limits.swap(here, place);
-                self.watch(watch.number, here)?;
-                return Ok(true);
+        let Some(place) = self.open_place(watch.number) else {
+            return Ok(false);
+        };
+        if let Some(kept) = self.kept.get_mut(watch.number)
+            && place < kept.limits.len()
+            && here < place
+        {
+            kept.limits.swap(here, place);
+        }
+        self.watch(watch.number, here)?;
+        Ok(true)
+    }
+
+    /// The place of a literal of a kept box that isn't watched and isn't kept.
+    fn open_place(&self, number: usize) -> Option<usize> {
+        let kept = self.kept.get(number)?;
+        for (place, limit) in kept.limits.iter().enumerate() {
+            if place > 1 && !self.trail.now.holds(*limit) {
+                return Some(place);
             }
         }
-        Ok(kept.limits.is_empty())
+        None
     }
 
     /// Of a box with no other literal open but perhaps the other watched one: that isn't kept.

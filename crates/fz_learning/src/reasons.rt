@@ -176,7 +176,7 @@ impl<'m, 'a> Finder<'m, 'a> {
             if size == 0 || number == floor || is_limited {
                 continue;
             }
-            let gap = i128::from(number).saturating_sub(i128::from(floor)).saturating_abs();
+            let gap = i128::from(number.max(floor)).saturating_sub(i128::from(number.min(floor)));
             let spared = slack.checked_div(size).unwrap_or(0).min(gap);
             slack = slack.saturating_sub(spared.saturating_mul(size));
             if spared < gap {
@@ -241,7 +241,7 @@ impl<'m, 'a> Finder<'m, 'a> {
         let is_truth = self.root.is_truth(needed.variable());
         for _ in 0..i64::BITS {
             let gap = bad.saturating_sub(good);
-            if is_truth || gap.saturating_abs() <= 1 {
+            if is_truth || (gap >= -1 && gap <= 1) {
                 break;
             }
             let number = good.saturating_add(gap / 2);

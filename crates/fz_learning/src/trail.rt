@@ -94,6 +94,10 @@ impl Now {
         ends.low >= ends.high
     }
 
+    pub(crate) fn is_open(&self, variable: usize) -> bool {
+        self.has_bounds(variable) && !self.is_fixed(variable)
+    }
+
     pub(crate) fn has_bounds(&self, variable: usize) -> bool {
         matches!(self.kinds.get(variable), Some(Some(_)))
     }
