@@ -5,14 +5,16 @@ use Rattle.std.proofs.lemmas.List.{reverse-append}
 use Rattle.fz_bounds.specs.Bounds.{IsInside, NumberNeverHolds, Ranges, narrowed, number_as}
 use Rattle.fz_bounds.specs.Ends.{AreEndsAt, put_in}
 use Rattle.fz_bounds.specs.declared.ends.KindEnds.{KindEnds}
-use Rattle.fz_bounds.specs.of_model.Meaning.{Aim, Assignment, Partial, Point, as_int, objective_of, points, value_at, whole}
-use Rattle.fz_bounds.specs.of_model.Partial.{without}
+use Rattle.fz_bounds.specs.of_model.Meaning.{Aim, Assignment, Model, Partial, Point, as_int, objective_of, points, value_at, variables_of, whole}
+use Rattle.fz_bounds.specs.of_model.Openings.{HasEach}
+use Rattle.fz_bounds.specs.of_model.Partial.{nothing_for, without}
 use Rattle.fz_bounds.specs.of_model.of_base.declared.value.Value.{Value}
 use Rattle.fz_bounds.specs.of_model.Meaning.Aim.{Minimize, Maximize}
 use Rattle.fz_bounds.specs.of_model.of_base.declared.value.Value.TheVariants.{Int}
 use Rattle.fz_bounds.specs.of_model.of_builtins.of_meaning.declared.term.Term.TheVariants.{Var}
 use Rattle.fz_bounds.specs.of_model.declared.Kind.TheVariants.{Int as IntKind}
 use Rattle.fz_bounds.specs.of_model.States.{HoldsIfKnown}
+use Rattle.fz_bounds.proofs.Beginnings.{none_there}
 use Rattle.fz_bounds.proofs.of_model.Lists.{at_place, there_is}
 use Rattle.fz_bounds.proofs.of_model.of_base.Covers.{apart}
 use Rattle.fz_bounds.proofs.Enclosed.{given_away}
@@ -253,3 +255,9 @@ module _ (q : Asked) (all : Bool) where
   none_so B [] o k is_all empty is_closed covers A sought =
       subst (λ p. IsOpen A B [] p) is_closed (covers is_all A sought)
   none_so B (s ∷ xs) o k is_all empty is_closed covers A sought = cc
+
+-- values of which there are none
+pub nothing_asked : (m : Model) (K L : Partial) → K ≡ nothing_for m → HasEach K L
+nothing_asked m K L is n v here =
+    let none = ap (λ J. value_at J n) is ∙ none_there (variables_of m) n in
+    absurd cc

@@ -13,8 +13,8 @@ mod enclosing;
 mod found;
 mod guide;
 mod leaf;
-mod learned;
 mod linear;
+mod logged;
 mod order;
 mod proposal;
 mod searching;
@@ -26,4 +26,5 @@ mod work;
 
 pub use found::Found;
 pub use guide::Branch;
+pub use logged::{Logged, follow_log};
 pub use searching::{bound, prove, search};

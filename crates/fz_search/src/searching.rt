@@ -6,7 +6,6 @@ ghost use Rattle.fz_search.specs.Found.{HasNone, IsFoundFor, asked_of};
 
 use crate::found::{Found, Task};
 use crate::guide::{Branch, edges_of};
-use crate::learned::learns;
 use crate::order::{Way, objective_of};
 use crate::proposal::copied;
 use crate::subsets::{OpenSet, open_set};
@@ -211,8 +210,7 @@ fn refuting(task: &Task<'_, '_>, steps: usize) -> Result<Option<usize>, AllocErr
             let nodes = refutation.tried.saturating_mul(2).saturating_sub(1);
             Ok(Some(nodes))
         }
-        Found::Values(_) => Ok(None),
-        Found::Nothing => Ok(learns(task, steps)?.then_some(0)),
+        Found::Values(_) | Found::Nothing => Ok(None),
     }
 }
 

@@ -1,17 +1,8 @@
-use Rattle.std.proofs.Common.{◌≡◌, ap, ◌∙◌}
 use Rattle.std.proofs.lemmas.Option.{IfSome_then}
 use Rattle.std.proofs.lemmas.Result.{IfOk-weaker}
-use Rattle.fz_bounds.specs.of_model.Meaning.{Model, Partial, value_at, variables_of, whole}
-use Rattle.fz_bounds.specs.of_model.Openings.{HasEach}
-use Rattle.fz_bounds.specs.of_model.Partial.{nothing_for}
-use Rattle.fz_bounds.proofs.Beginnings.{none_there}
+use Rattle.fz_bounds.specs.of_model.Meaning.{whole}
+use Rattle.fz_search.proofs.Nodes.{nothing_asked}
 use Rattle.fz_search.proofs.searching.prove.Goals as goal
-
--- values of which there are none
-nothing_asked : (m : Model) (K L : Partial) → K ≡ nothing_for m → HasEach K L
-nothing_asked m K L is n v here =
-    let none = ap (λ J. value_at J n) is ∙ none_there (variables_of m) n in
-    absurd cc
 
 pub returns : goal.returns
 returns c = record {
