@@ -132,11 +132,7 @@ pub(crate) fn misses(
 }
 
 /// Bounds in which all is that is inside some others: those of their numbers and Booleans.
-pub fn copied(
-    alloc: Global,
-    model: &Model<'_>,
-    bounds: &Bounds,
-) -> Result<Bounds, AllocError>
+pub fn copied(alloc: Global, model: &Model<'_>, bounds: &Bounds) -> Result<Bounds, AllocError>
     ensures { IfOk result (λ b. (A : Assignment) → IsInside bounds.now A → IsInside b A) }
 {
     let mut copy = Bounds::unknown(alloc, model)?;
