@@ -116,12 +116,7 @@ fn check_stream<S: Read + Drop>(
     };
     let explainer = Explainer::new(text, names, completion_of(asked.completes));
     let teller = Teller::new(rt, &*asked, explainer, &recent, &screen);
-    let reader = stream;
-    let counted = Counted {
-        reader,
-        screen: &screen,
-    };
-    let mut stream = Recorder::new(counted, stored);
+    let mut stream = Recorder::new(Counted::new(stream, &screen), stored);
     match check_and_tell(rt, asked, model, claims, &mut stream, &screen, teller) {
         Ok(answer) => status(&Ok(answer)),
         Err(CheckError::Read) => {

@@ -94,8 +94,15 @@ impl Write for Report<'_, '_> {
 /// A reader that gives what another one gives, and counts it on the line of progress.
 #[derive(Drop)]
 pub struct Counted<'s, 'r, R> {
-    pub reader: R,
-    pub screen: &'s RefCell<Screen<'r>>,
+    reader: R,
+    screen: &'s RefCell<Screen<'r>>,
+}
+
+impl<'s, 'r, R: Read> Counted<'s, 'r, R> {
+    /// Before the first read.
+    pub fn new(reader: R, screen: &'s RefCell<Screen<'r>>) -> Counted<'s, 'r, R> {
+        Counted { reader, screen }
+    }
 }
 
 impl<R: Read> Read for Counted<'_, '_, R> {
