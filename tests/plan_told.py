@@ -203,7 +203,7 @@ def lines(folder):
          f"claim after block 1: {claim} refuted by block 2"),
         ({"claim": claim, "after": 1, "refuted_by": {"file": "other", "block": 2}},
          f"claim: {claim} refuted by known block 2 of other"),
-        ({"cut": [3, 9]}, "cut: 3..9"),
+        ({"cut": [3, 9], "from": "x = 1"}, 'cut: 3..9, from "x = 1"'),
         ({"answer": "accepted", "blocks": 2}, "accepted: blocks 2"),
         ({"answer": "rejected", "block": 2, "blocks": 2}, "rejected: block 2"),
         ({"answer": "rejected", "claim_after": 1, "blocks": 2}, "rejected: claim after block 1"),
