@@ -1,7 +1,7 @@
 """Which texts are the front of a block's items, by expressions that match a front too. The program
 asks its parser instead, with endings put behind the text."""
 import re
-from typing import Iterable, NamedTuple
+from typing import Collection, NamedTuple, Optional
 
 SIGNS = ("----------", "==========", *(f"====={it}=====" for it in (
     "UNSATISFIABLE", "UNKNOWN", "UNBOUNDED", "UNSATorUNBOUNDED", "ERROR")))
@@ -54,9 +54,32 @@ ARRAYS = [row(word(f"array{count}d"), word("("), *[BOUNDS, word(",")] * count, w
               listed(LITERAL), word("]"), word(")")) for count in range(1, 7)]
 
 
-def items(names: Iterable[str]) -> Part:
-    item = row(one(*map(word, sorted(names))), word("="), one(*ARRAYS, LITERAL), word(";"))
-    return row(Part("", ""), many(item))
+NAME = Part("[A-Za-z_][A-Za-z0-9_]*", "(?:[A-Za-z_][A-Za-z0-9_]*)?")
+ITEM = row(Part("", ""), NAME, word("="), one(*ARRAYS, LITERAL), word(";"))
+WHOLE, FRONT, BLANKS = map(re.compile, (*ITEM, BLANK.whole))
+NAMED = re.compile(f"{BLANK.whole}({NAME.whole})?")
+
+
+def behind_items(names: Collection[str], text: str) -> Optional[str]:
+    """What comes behind the items that a text begins with; none if a name isn't declared."""
+    at = 0
+    while True:
+        item, named = WHOLE.match(text, at), NAMED.match(text, at)
+        if not item or not named:
+            return text[at:]
+        if named[1] not in names:
+            return None
+        at = item.end()
+
+
+def is_front(names: Collection[str], text: str) -> bool:
+    """Whether a text is the front of an item, or of a blank before one."""
+    named = NAMED.match(text)
+    if not named or not FRONT.fullmatch(text):
+        return False
+    if named[1] and named.end() == len(text):
+        return any(name.startswith(named[1]) for name in names)
+    return not named[1] or named[1] in names
 
 
 def are_numbers(text: str) -> bool:
@@ -66,13 +89,14 @@ def are_numbers(text: str) -> bool:
     return all(LEAST <= int(it, bases.get(it.lstrip("-")[:2], 10)) <= MOST for it in found)
 
 
-def is_short(names: Iterable[str], text: str) -> bool:
+def is_short(names: Collection[str], text: str) -> bool:
     """Whether only the end of the text of an open block is missing."""
-    names = list(names)
     if not names or not are_numbers(text):
         return False
-    whole, front = items(names)
-    if re.fullmatch(front, text):
+    rest = behind_items(names, text)
+    if rest is not None and is_front(names, rest):
         return True
     lines, feed, last = text.rpartition("\n")
-    return bool(re.fullmatch(whole, lines + feed)) and any(it.startswith(last) for it in SIGNS)
+    rest = behind_items(names, lines + feed)
+    ends = rest is not None and bool(BLANKS.fullmatch(rest))
+    return ends and any(it.startswith(last) for it in SIGNS)
