@@ -168,41 +168,29 @@ def all_shown(terminal: int) -> bytes:
     return shown
 
 
-def told_while_waiting(program: str, front: bytes) -> Tuple[bytes, bytes]:
-    """The report on a front of a stream and on a block that comes two seconds later, and what a
-    terminal on standard error shows."""
+def waiting(program: str) -> Tally:
+    """Where standard error is a terminal and standard output isn't, a line tells after two seconds
+    how far the check is, and is gone at the end."""
+    tally = Tally()
     terminal, err = os.openpty()
     block = content(FIRST_STREAM)
     with subprocess.Popen(
         [program, "check", FIRST_MODEL], stdin=subprocess.PIPE, stdout=subprocess.PIPE, stderr=err
     ) as process:
         to, out = opened(process.stdin), opened(process.stdout)
-        to.write(front)
+        to.write(block)
         to.flush()
+        first = out.readline()
         time.sleep(2.2)
         to.write(block)
         to.close()
-        report = out.read()
+        rest = out.read()
     os.close(err)
-    return report, all_shown(terminal)
-
-
-def waiting(program: str) -> Tally:
-    """Where standard error is a terminal and standard output isn't, a line tells after two seconds
-    how far the check is, and is gone at the end."""
-    tally = Tally()
-    one = b"block 1: satisfied\naccepted: blocks 1\n"
-    two = b"block 1: satisfied\nblock 2: satisfied\naccepted: blocks 2\n"
-    three = two.replace(b"accepted: blocks 2", b"block 3: satisfied\naccepted: blocks 3")
-    for what, front, report, line in [
-        ("a second block", content(FIRST_STREAM), two, b"1 block, satisfied"),
-        ("a third block", 2 * content(FIRST_STREAM), three, b"2 blocks, all satisfied so far"),
-        ("a long block", b"% no value\n" * 300_000, one, b"no block so far, 3 MB read"),
-    ]:
-        told, shown = told_while_waiting(program, front)
-        tally.expect(f"a terminal, {what}: the report", told, report)
-        tally.expect(f"a terminal, {what}: the line", shown,
-                     line + b"\r" + b" " * len(line) + b"\r")
+    shown = all_shown(terminal)
+    line = b"2 blocks, all satisfied so far"
+    report = b"block 1: satisfied\nblock 2: satisfied\naccepted: blocks 2\n"
+    tally.expect("a terminal: the report", first + rest, report)
+    tally.expect("a terminal: the line", shown, line + b"\r" + b" " * len(line) + b"\r")
     return tally
 
 

@@ -9,7 +9,7 @@ use crate::names::{read_table, table_of};
 use crate::options::{completion_of, limits_of, options_of};
 use crate::reading::{Unread, most_bytes, open_file, read_whole};
 use crate::refusing::{refuse, refuse_file};
-use crate::screen::{Counted, Report, Screen};
+use crate::screen::{Report, Screen};
 use crate::teller::{JsonTeller, Teller};
 use crate::tree::{branches_of, read_tree};
 use fz_check::{
@@ -116,7 +116,7 @@ fn check_stream<S: Read + Drop>(
     };
     let explainer = Explainer::new(text, names, completion_of(asked.completes));
     let teller = Teller::new(rt, &*asked, explainer, &recent, &screen);
-    let mut stream = Recorder::new(Counted::new(stream, &screen), stored);
+    let mut stream = Recorder::new(stream, stored);
     match check_and_tell(rt, asked, model, claims, &mut stream, &screen, teller) {
         Ok(answer) => status(&Ok(answer)),
         Err(CheckError::Read) => {

@@ -1,13 +1,10 @@
 //! What a person sees beside the report, on standard error: messages, and how far the check is. The
 //! report is on standard output.
 
-ghost use Rattle.std.specs.Io.{ReadsAtMost};
-ghost use Rattle.std.specs.Io.KnownBytes.{ReadConsumes};
-
 use fz_files::{Progress, coloured, has_colours};
 use std::cell::RefCell;
 use std::io;
-use std::io::{Read, Stdout, Write};
+use std::io::{Stdout, Write};
 
 /// Shows a message, in colours where standard error is a terminal that has them.
 pub fn show_message(rt: &HostRuntime, text: &str) {
@@ -41,11 +38,6 @@ impl<'r> Screen<'r> {
     /// Counts a block.
     pub fn count(&mut self, is_satisfied: bool) {
         self.progress.note(is_satisfied);
-    }
-
-    /// Counts bytes that were read of the stream.
-    pub fn count_read(&mut self, count: usize) {
-        self.progress.note_read(count);
     }
 
     /// Adds an explanation. Without memory for it there is none.
@@ -88,35 +80,5 @@ impl Write for Report<'_, '_> {
 
     fn flush(&mut self) -> io::Result<()> {
         self.out.flush()
-    }
-}
-
-/// A reader that gives what another one gives, and counts it on the line of progress.
-#[derive(Drop)]
-pub struct Counted<'s, 'r, R> {
-    reader: R,
-    screen: &'s RefCell<Screen<'r>>,
-}
-
-impl<'s, 'r, R: Read> Counted<'s, 'r, R> {
-    /// Before the first read.
-    pub fn new(reader: R, screen: &'s RefCell<Screen<'r>>) -> Counted<'s, 'r, R> {
-        Counted { reader, screen }
-    }
-}
-
-impl<R: Read> Read for Counted<'_, '_, R> {
-    ghost remaining = { λ r. R.remaining r.reader };
-
-    fn read(&mut self, buf: &mut [u8]) -> io::Result<usize>
-        ensures bound { ReadsAtMost result buf.new }
-        ensures bytes { ReadConsumes (R.remaining self.old.reader)
-            (R.remaining self.new.reader) result buf.new }
-    {
-        let count = self.reader.read(buf)?;
-        if let Ok(mut screen) = self.screen.try_borrow_mut() {
-            screen.count_read(count);
-        }
-        Ok(count)
     }
 }
