@@ -56,7 +56,8 @@ ARRAYS = [row(word(f"array{count}d"), word("("), *[BOUNDS, word(",")] * count, w
 
 NAME = Part("[A-Za-z_][A-Za-z0-9_]*", "(?:[A-Za-z_][A-Za-z0-9_]*)?")
 ITEM = row(Part("", ""), NAME, word("="), one(*ARRAYS, LITERAL), word(";"))
-WHOLE, FRONT, BLANKS = map(re.compile, (*ITEM, BLANK.whole))
+WHOLE, FRONT = re.compile(ITEM.whole), re.compile(ITEM.front)
+BLANKS = re.compile(BLANK.whole)
 NAMED = re.compile(f"{BLANK.whole}({NAME.whole})?")
 
 
