@@ -7,9 +7,6 @@ use std::time::Instant;
 /// After how many seconds the line is shown first. From then on it is shown again each second.
 const PATIENCE: u64 = 2;
 
-/// A megabyte of a stream, in bytes.
-const MEGABYTE: u64 = 1_000_000;
-
 /// How far a check is.
 #[derive(Drop)]
 pub struct Progress<'r> {
@@ -21,8 +18,6 @@ pub struct Progress<'r> {
     blocks: usize,
     /// The first block that isn't satisfied.
     other: Option<usize>,
-    /// How many bytes of the stream were read.
-    bytes: u64,
     /// The length of the line that is shown.
     columns: usize,
 }
@@ -37,35 +32,23 @@ impl<'r> Progress<'r> {
             due: PATIENCE,
             blocks: 0,
             other: None,
-            bytes: 0,
             columns: 0,
         }
     }
 
-    /// Counts a block.
+    /// Counts a block. Where memory runs out, no more is shown.
     pub fn note(&mut self, is_satisfied: bool) {
         self.blocks = self.blocks.saturating_add(1);
         if !is_satisfied && self.other.is_none() {
             self.other = Some(self.blocks);
         }
-        self.show();
-    }
-
-    /// Counts bytes of the stream, since a block can be long.
-    pub fn note_read(&mut self, count: usize) {
-        self.bytes = self.bytes.saturating_add(count as u64);
-        self.show();
-    }
-
-    /// Shows the line where it is due. Where memory runs out, no more is shown.
-    fn show(&mut self) {
-        if self.show_due().is_err() {
+        if self.show().is_err() {
             self.start = None;
         }
     }
 
     /// Shows the line where it is due.
-    fn show_due(&mut self) -> Result<(), AllocError> {
+    fn show(&mut self) -> Result<(), AllocError> {
         let seconds = self.seconds();
         if seconds >= self.due {
             self.due = seconds.saturating_add(1);
@@ -89,20 +72,13 @@ impl<'r> Progress<'r> {
     }
 
     fn text(&self) -> Result<String, AllocError> {
-        let (alloc, blocks, megabytes) = (self.rt.alloc(), self.blocks, self.bytes / MEGABYTE);
-        let mut text = match (blocks, self.other) {
-            (0, _) => format!(in alloc; "no block so far"),
-            (1, None) => format!(in alloc; "1 block, satisfied"),
-            (1, Some(_)) => format!(in alloc; "1 block, and it isn't satisfied"),
-            (_, None) => format!(in alloc; "{blocks} blocks, all satisfied so far"),
-            (_, Some(other)) => {
-                format!(in alloc; "{blocks} blocks, and block {other} isn't satisfied")
+        let blocks = self.blocks;
+        match self.other {
+            Some(other) => {
+                format!(in self.rt.alloc(); "{blocks} blocks, and block {other} isn't satisfied")
             }
-        }?;
-        if megabytes > 0 {
-            text.push_str(&format!(in alloc; ", {megabytes} MB read")?)?;
+            None => format!(in self.rt.alloc(); "{blocks} blocks, all satisfied so far"),
         }
-        Ok(text)
     }
 
     /// Removes the line from the terminal.
